@@ -3,23 +3,27 @@
  *
  *   asks call COUNT       so many ioctls on a demux node that do nothing: seconds
  *   asks pipe COUNT       so many requests to a process behind two pipes, and their replies, as long as the server's: seconds
- *   asks read SECONDS     reads sections of PID 0, one at a time: how many
+ *   asks read SECONDS     reads sections of PID 0, one at a time: how many, and its own seconds of processors
  *   asks record SECONDS   reads the dvr node, to which all packets go: bytes, and how often some were lost
+ *   asks take BYTES       the same, until it has so many
  *   asks wait SECONDS     waits for a section that never comes
  */
 #include <errno.h>
 #include <fcntl.h>
+#include <limits.h>
 #include <linux/dvb/dmx.h>
 #include <poll.h>
 #include <stdio.h>
 #include <stdlib.h>
 #include <string.h>
 #include <sys/ioctl.h>
+#include <sys/resource.h>
 #include <time.h>
 #include <unistd.h>
 
-/* the bytes of a request and of a reply, two PIDs, the buffers of the dvr node and of a section filter, and the bytes of a read */
-enum { ASKED = 76, TOLD = 24, ALL = 0x2000, NULLS = 0x1fff, BUFFER = 16 << 20, SECTIONS = 256 << 10, PIECE = 65536 };
+/* the bytes of a request and of a reply, two PIDs, the buffers of the dvr node and of a section filter, the bytes of a read, and
+   seconds */
+enum { ASKED = 76, TOLD = 24, ALL = 0x2000, NULLS = 0x1fff, BUFFER = 16 << 20, SECTIONS = 256 << 10, PIECE = 65536, HOUR = 3600 };
 
 static const char demux[] = "/dev/dvb/adapter0/demux0", dvr[] = "/dev/dvb/adapter0/dvr0";
 static char bytes[PIECE];
@@ -81,6 +85,13 @@ static void ask_child(int count)
 	printf("%.6f\n", now() - begun);
 }
 
+static double used(void)
+{
+	struct rusage used;
+	getrusage(RUSAGE_SELF, &used);
+	return (double)(used.ru_utime.tv_sec + used.ru_stime.tv_sec) + (double)(used.ru_utime.tv_usec + used.ru_stime.tv_usec) / 1e6;
+}
+
 static void read_sections(double seconds)
 {
 	int fd = open_filter(0, 0), count = 0;
@@ -88,10 +99,10 @@ static void read_sections(double seconds)
 	for (; now() < end; count++)
 		if (read(fd, bytes, sizeof bytes) <= 0)
 			fail("a section");
-	printf("%d\n", count);
+	printf("%d %.6f\n", count, used());
 }
 
-static void record(double seconds)
+static void record(double seconds, long most)
 {
 	struct dmx_pes_filter_params params = { .pid = ALL,
 						.input = DMX_IN_FRONTEND,
@@ -102,7 +113,7 @@ static void record(double seconds)
 	long got = 0;
 	if (all < 0 || fd < 0 || ioctl(all, DMX_SET_BUFFER_SIZE, BUFFER) || ioctl(fd, DMX_SET_PES_FILTER, &params))
 		fail("a recording");
-	for (double end = now() + seconds; now() < end;) {
+	for (double end = now() + seconds; now() < end && got < most;) {
 		ssize_t n = read(all, bytes, sizeof bytes);
 		if (n < 0 && errno != EOVERFLOW)
 			fail("the dvr node");
@@ -130,7 +141,9 @@ int main(int count, char **words)
 	else if (!strcmp(words[1], "read"))
 		read_sections(number);
 	else if (!strcmp(words[1], "record"))
-		record(number);
+		record(number, LONG_MAX);
+	else if (!strcmp(words[1], "take"))
+		record(HOUR, (long)number);
 	else
 		wait_for_nothing(number);
 	return 0;

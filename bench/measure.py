@@ -5,6 +5,7 @@ import resource
 import subprocess
 import sys
 import time
+from statistics import median
 from typing import NamedTuple
 
 # Of 16 packets ten are of PID 256, three of PID 257, and one each of the others, on average.
@@ -64,9 +65,9 @@ class Held(NamedTuple):
 
 
 def environment(words):
-    """The environment of a program. To one of this repository, which is named by its path, the wrapper `dvbemu` gives large pages of the
-    C library's memory, but for `run`."""
-    has_setting = "/" in words[0] and words[1:2] != ["run"]
+    """The environment of a program. To that of this repository the wrapper `dvbemu` gives large pages of the C library's memory, but for
+    `run`."""
+    has_setting = os.path.basename(words[0]) == "dvbemu" and words[1:2] != ["run"]
     return {"GLIBC_TUNABLES": "glibc.malloc.hugetlb=1", **os.environ} if has_setting else dict(os.environ)
 
 
@@ -76,15 +77,18 @@ def output_of(words, path):
         return subprocess.run(words, stdin=source, stdout=subprocess.PIPE, env=environment(words), check=True).stdout
 
 
-def taken(words, path):
-    """What a run takes with the file as its standard input. What it writes is read from a pipe, into the same memory again and again."""
+def taken(words, path, is_read=True):
+    """What a run takes with the file as its standard input. What it writes is read from a pipe, into the same memory again and again; or
+    it goes to /dev/null."""
     piece, written, before = bytearray(PIECE), 0, processor_time()
     with open(path, "rb") as source:
         begun = time.perf_counter()
-        child = subprocess.Popen(words, stdin=source, stdout=subprocess.PIPE, env=environment(words), bufsize=0)
-        with child.stdout as pipe:
-            while count := pipe.readinto(piece):
-                written += count
+        out = subprocess.PIPE if is_read else subprocess.DEVNULL
+        child = subprocess.Popen(words, stdin=source, stdout=out, env=environment(words), bufsize=0)
+        if is_read:
+            with child.stdout as pipe:
+                while count := pipe.readinto(piece):
+                    written += count
         status = child.wait()
         wall = time.perf_counter() - begun
     if status:
@@ -93,7 +97,7 @@ def taken(words, path):
 
 
 def all_taken(ways, repeats):
-    """What the runs of each of these ways took, run in turn. A way is its words and the file that it reads."""
+    """What the runs of each of these ways took, run in turn. A way is its words, the file that it reads, and, where it isn't read, False."""
     runs = {name: [] for name in ways}
     for _ in range(repeats):
         for name, way in ways.items():
@@ -101,10 +105,38 @@ def all_taken(ways, repeats):
     return runs
 
 
-def least_times(ways, path, repeats):
-    """The least time by the wall of each of these ways over one file, run in turn."""
-    runs = all_taken({name: (words, path) for name, words in ways.items()}, repeats)
-    return {name: min(one.wall for one in of) for name, of in runs.items()}
+class Figure(NamedTuple):
+    """What was measured: the median of the runs, and the least."""
+
+    median: float
+    least: float
+
+    def by(self, other):
+        """As a multiple of another figure."""
+        return Figure(self.median / other.median, self.least / other.least)
+
+    def less(self, other):
+        """What is left behind another figure."""
+        return Figure(self.median - other.median, self.least - other.least)
+
+    def times(self, factor):
+        """In another unit."""
+        return Figure(self.median * factor, self.least * factor)
+
+    def text(self, form=".2f"):
+        """The median, and the least in brackets."""
+        return f"{self.median:{form}} ({self.least:{form}})"
+
+
+def figure(values):
+    """The figure of some values."""
+    values = list(values)
+    return Figure(median(values), min(values))
+
+
+def figures(runs):
+    """The figures of the runs of each way: of seconds by the wall, and of those of processors."""
+    return ({name: figure(getattr(run, kind) for run in of) for name, of in runs.items()} for kind in ("wall", "work"))
 
 
 def machine():
@@ -115,8 +147,9 @@ def machine():
 
 
 def tell_goal(what, value, most, unit=""):
-    """Prints what was measured beside what is aimed at."""
-    print(f"goal: {what}: {value:.3g}{unit}, at most {most}: {'met' if value <= most else 'MISSED'}")
+    """Prints what was measured beside what is aimed at. Of a figure the median counts."""
+    value, told = (value.median, value.text(".3g")) if isinstance(value, Figure) else (value, f"{value:.3g}")
+    print(f"goal: {what}: {told}{unit}, at most {most}: {'met' if value <= most else 'MISSED'}", flush=True)
 
 
 def split(session):

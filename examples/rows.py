@@ -33,7 +33,7 @@ BATCHES = "steps --batch 1", "steps --batch 3", "steps --batch 64"
 # The lines that expect something.
 WANTED = "wants", "hint", "has", ">", ">-", "answer"
 # The exit status of each line on standard error, by its first word.
-STATUSES = {"ok": 0, "report": 0, "report:": 0, "usage": 2, "script": 3, "too": 4, "read": 5, "write": 6, "out": 7}
+STATUSES = {"ok": 0, "report": 0, "usage": 2, "script": 3, "too": 4, "read": 5, "write": 6, "out": 7}
 
 
 class Session(NamedTuple):

@@ -31,9 +31,12 @@ NO_REPORT = [
 ]
 # Sessions with a fault, and its line and kind.
 FAULTY = [(b"", "1: nostream"), (b"#\n", "2: nostream"), (b"stream", "1: nostream"), (b"#\nc0 strat n0\nstream\n", "2: command")]
-# Texts that are no report: no line, odd bytes, lines of a megabyte.
+# Texts that are no report, each with the line that shows it: no line, odd bytes, lines of a megabyte.
 LONG = 1 << 20
-NO_TEXT = [b"", b"\n", bytes(1000), 1000 * b"\xff", LONG * b"1", LONG * b"1" + b"\n", b"dvbemu 1\n" + LONG * b"p" + b"\nend\n"]
+NO_TEXT = [
+    (b"", 1), (b"\n", 1), (bytes(1000), 1), (1000 * b"\xff", 1), (LONG * b"1", 1), (LONG * b"1" + b"\n", 1),
+    (b"dvbemu 1\n" + LONG * b"p" + b"\nend\n", 2),
+]  # fmt: skip
 # Words that aren't accepted.
 WORDS = ["check", "7"], ["check", "--"], ["check", "--batch", "64"], ["check", "check"], ["check", "-h"], ["steps", "check"]
 RIGHT, WRONG = "rules/one-tap", "reports/polled-data"
@@ -67,9 +70,9 @@ def asks_nothing():
 def no_text_of_a_report():
     """Texts that are no report of any session."""
     session = example(RIGHT).session
-    for text in NO_TEXT:
+    for text, line in NO_TEXT:
         told = ran(["check"], input=asked_of(text, session))
-        expect(f"check of {len(text)} bytes, {text[:12]}", told, 0, "dvbemu: report: text", b"no\n")
+        expect(f"check of {len(text)} bytes, {text[:12]}", told, 0, f"dvbemu: report line {line}: text", b"no\n")
 
 
 def reader_is_gone(given):

@@ -2,6 +2,7 @@
 memory is refused, and the cases that are counted."""
 import os
 import resource
+import socket
 import subprocess
 import threading
 import tty
@@ -10,6 +11,9 @@ from checks import PROGRAM, ROOT, Tally
 
 HERE = os.path.dirname(os.path.realpath(__file__))
 BUILT = os.path.join(ROOT, "crates", "dvbemu", "out", "dvbemu")
+# The most bytes of a read and of a write, and what stands behind as many in a message that is read.
+PIECE = 65536
+BEHIND = b"#" * 100
 # The seconds in which each run must end where an allocation is refused or a call fails: it takes some milliseconds.
 ENDS = 60
 tally = Tally()
@@ -70,6 +74,34 @@ def little_at_a_time(words, session, report):
         feeding.join()
         line, status = child.stderr.read(), child.wait()
     expect(f"{words}: little at a time", subprocess.CompletedProcess(words, status, bytes(taken), line), 0, "", report)
+
+
+def piece_by_piece(words, session):
+    """Reads and writes of at most 65,536 bytes, between sockets that keep messages apart: what a read doesn't ask for of a message is
+    lost, so it asks for no less and no more, and each write is a message."""
+    report = ran(words, input=session).stdout
+    (given, read), (written, taken) = (socket.socketpair(socket.AF_UNIX, socket.SOCK_SEQPACKET) for _ in range(2))
+    with subprocess.Popen([PROGRAM, *words], stdin=read, stdout=written, stderr=subprocess.PIPE) as child:
+        read.close()
+        written.close()
+
+        def feed():
+            with given:
+                for place in range(0, len(session), PIECE):
+                    piece = session[place : place + PIECE]
+                    given.send(piece + BEHIND * (len(piece) == PIECE))
+
+        feeding = threading.Thread(target=feed)
+        feeding.start()
+        pieces = []
+        with taken:
+            while piece := taken.recv(2 * PIECE):
+                pieces.append(piece)
+        feeding.join()
+        line, status = child.stderr.read(), child.wait()
+    expect(f"{words}: piece by piece", subprocess.CompletedProcess(words, status, b"".join(pieces), line), 0, "", report)
+    most = max(map(len, pieces), default=0)
+    tally.count(most == PIECE, f"{words}: a piece of {most} bytes")
 
 
 def small_memory(words, session):

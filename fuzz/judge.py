@@ -20,6 +20,8 @@ MOST_PACKETS, MOST_BYTES = 64, 4294967295
 # What can be wrong with a report. Of what is wrong in one line the first of these is told.
 KINDS = "text", "head", "place", "feeder", "call", "left", "reply", "outcome"
 NOTHING_MORE = "nothing more of the feeder"
+# What a demux node and the dvr node are played again by; tools/lib/quick.py has others that answer alike.
+NODES = second.Demux, second.Dvr
 # A reply of more letters than this is told by its first byte that is wrong, and so many bytes from it on.
 LONG, SHOWN = 100, 8
 
@@ -58,10 +60,11 @@ def outcome_text(outcome):
 
 
 class Where:
-    """The lines of a report, and at which of them its clients and nodes stand."""
+    """The lines of a report, and at which of them its clients and nodes stand. `look` is told each line of a node that is looked at, and the
+    last one."""
 
-    def __init__(self, text, report):
-        self.lines, self.clients, self.nodes = text.split("\n"), [], {}
+    def __init__(self, lines, report, look=lambda line, last: None):
+        self.lines, self.clients, self.nodes, self.look = lines, [], {}, look
         line = 3 + len(report.pids)
         for outcomes in report.clients:
             self.clients.append(line)
@@ -84,12 +87,12 @@ class Where:
 # ------ the text and the head
 
 
-def read(text):
-    """The parts of a report."""
+def read(written):
+    """The parts of a report, which is given as bytes."""
     try:
-        return reports.read(io.StringIO(text))
+        return reports.read(reports.text_of(io.BytesIO(written)))
     except reports.NotAReport as wrong:
-        raise Bad("place" if wrong.misplaced else "text", wrong.line, "", wrong.found or "none", wrong.expected) from None
+        raise Bad("text", wrong.line, "", wrong.found or "none", wrong.expected) from None
 
 
 def head(packets, skipped, rest):
@@ -259,14 +262,12 @@ def wrong_outcomes(report, wanted, where):
 
 
 def wrong_clients(report, clients, where):
-    """What is wrong with the number of clients, and the entries of callers and the nodes that can't be there."""
+    """What is wrong with the number of clients, and the entries of callers that can't be there."""
     if len(report.clients) < clients:
         yield where.whole("outcome", where.behind_clients, f"client {len(report.clients)}", 2)
     elif len(report.clients) > clients:
         yield where.whole("outcome", where.clients[clients], "no further client", 2)
     for node, entries in report.nodes.items():
-        if len(of_feeder(entries)) == len(entries):
-            yield where.whole("place", where.nodes[node], "a node that a client called")
         for entry in entries:
             if entry.who != "feed" and int(entry.who[1:]) >= clients:
                 gives = "no client" + (f" above c{clients - 1}" if clients else "")
@@ -306,10 +307,11 @@ def answered(node, entry, packets, played):
     return "passed"
 
 
-def wrong_reply(number, entries, packets, played, where):
+def wrong_reply(number, entries, packets, played, where, nodes=NODES):
     """The first reply of a node that isn't the one that the entries before it give, as what is wrong and as the entry."""
-    node = second.Dvr() if number == second.DVR else second.Demux()
+    node = nodes[number == second.DVR]()
     for entry in entries:
+        where.look(where.nodes[number] + 1 + entry.place, where.last)
         own = answered(node, entry, packets, played)
         if own != entry.reply:
             return where.entry("reply", number, entry.place, short(entry.reply, own), short(own, entry.reply)), entry
@@ -319,11 +321,11 @@ def wrong_reply(number, entries, packets, played, where):
 # ------ the whole
 
 
-def wrong_parts(lines, packets, report, batch, where):
+def wrong_parts(lines, packets, report, batch, where, nodes):
     """What is wrong with what a report tells behind its head."""
     clients = len(second.Run(lines, [], 1).outcomes)
     played = second.played_by(lines)
-    replies = [wrong_reply(node, entries, packets, played, where) for node, entries in report.nodes.items()]
+    replies = [wrong_reply(node, entries, packets, played, where, nodes) for node, entries in report.nodes.items()]
     misled = [entry for _, entry in replies if entry]
     walks = [Walk(lines, client, report, where) for client in range(clients)]
     found = [bad for bad, _ in replies] + list(wrong_calls(walks, misled, where))
@@ -333,20 +335,19 @@ def wrong_parts(lines, packets, report, batch, where):
     return first_of([*found, *wrong_outcomes(report, outcomes, where)])
 
 
-# RULES: 4761c3de A report that is checked
-def first_wrong(session, written, batch=None, packet=188):
+# RULES: 0ee0654e A report that is checked
+def first_wrong(session, written, batch=None, packet=188, nodes=NODES, look=lambda line, last: None):
     """What is wrong first with a report of a run of a session; None where it is right. Its batches have 1 to 64 packets each, or,
     where a batch is given, all but the last have as many as that. Each packet takes up so many bytes of the stream. Raises
-    second.Fault where the session's script has one."""
+    second.Fault where the session's script has one. `look` is told how far it is, by the line and the last one."""
     lines, stream = second.read_script(session)
     packets, skipped, rest = second.cut(stream, packet)
-    text = written.decode("latin-1")
     try:
-        report = read(text)
+        report = read(written)
     except Bad as bad:
         return bad
-    where = Where(text, report)
-    return wrong_head(report, head(packets, skipped, rest), where) or wrong_parts(lines, packets, report, batch, where)
+    where = Where(written.decode("latin-1").split("\n"), report, look)
+    return wrong_head(report, head(packets, skipped, rest), where) or wrong_parts(lines, packets, report, batch, where, nodes)
 
 
 def judge(session, batch, written, packet=188):
@@ -358,7 +359,7 @@ def judge(session, batch, written, packet=188):
 # ------ the command
 
 
-# RULES: 4761c3de A report that is checked
+# RULES: 0ee0654e A report that is checked
 def answer(given, packet=188):
     """What `check` gives over this input: its status, its output, and its line on standard error."""
     first = re.match(rb"report (0|[1-9][0-9]*)\n", given[:40])
@@ -373,5 +374,4 @@ def answer(given, packet=188):
         return 3, b"", f"dvbemu: script line {fault.line}: {fault.kind}\n".encode()
     if bad is None:
         return 0, b"yes\n", b""
-    at = "" if bad.kind == "text" else f" line {bad.line}"
-    return 0, b"no\n", f"dvbemu: report{at}: {bad.kind}\n".encode()
+    return 0, b"no\n", f"dvbemu: report line {bad.line}: {bad.kind}\n".encode()

@@ -232,7 +232,10 @@ class Node:
         if self.by_sections():
             most = min(most, self.rest_of_section())
         capture.answered += most
-        return "data " + b"".join(capture.items)[answered : answered + most].hex()
+        return "data " + self.bytes_between(answered, answered + most).hex()
+
+    def bytes_between(self, first, after):
+        return b"".join(self.capture.items)[first:after]
 
     # RULES: f3389275 Poll
     def poll(self):
@@ -293,13 +296,12 @@ class Demux(Node):
             if moment >= self.capture.started + self.timeout():
                 self.capture.expired = moment
 
+    def lets_through(self, section):
+        _, _, places, _, flags = self.filter
+        return matches(places, section) and (not flags & 1 or section[1] >> 7 == 0 or crc(section) == 0)
+
     def selected(self):
-        _, pid, places, _, flags = self.filter
-        found = [
-            s
-            for s in sections(self.capture.offered, pid)
-            if matches(places, s) and (not flags & 1 or s[1] >> 7 == 0 or crc(s) == 0)
-        ]
+        found = [s for s in sections(self.capture.offered, self.filter[1]) if self.lets_through(s)]
         return found[:1] if self.is_one_shot() else found
 
     def source(self):
@@ -708,21 +710,21 @@ class Run:
     # RULES: f7391141 System time counters
     def follow(self, client, node, act, reply):
         """What the client has read on the node, and the type of its filter there, once it has this reply."""
-        read, kind = self.clocks.get((client, node), (b"", None))
+        read, kind = self.clocks.get((client, node), (bytearray(), None))
         if reply.startswith("data ") and reply != "data -":
             read += bytes.fromhex(reply[5:])
         elif reply.startswith("overflow "):
-            read = b""
+            read = bytearray()
         elif reply.startswith("done "):
             if act[0] in ("open", "close", "section", "pes", "start", "size"):
-                read = b""
+                read = bytearray()
             if act[0] in ("section", "pes"):
                 kind = act[4] if act[0] == "pes" and act[3] == "tsdemux_tap" else None
         self.clocks[client, node] = read, kind
 
     def counter(self, client, node, of):
-        read, kind = self.clocks.get((client, node), (b"", None))
-        clocks = [clock_reference(packet) for packet in cut(read)[0]] if of <= 3 and kind == 4 + 5 * of else []
+        read, kind = self.clocks.get((client, node), (bytearray(), None))
+        clocks = [clock_reference(packet) for packet in cut(bytes(read))[0]] if of <= 3 and kind == 4 + 5 * of else []
         clocks = [clock for clock in clocks if clock is not None]
         return f"stc base=300 value={clocks[-1]}" if clocks else "nostc"
 
@@ -804,9 +806,10 @@ class Run:
 
 # RULES: a9047f51 The report
 def pid_rows(packets):
-    rows = []
-    for pid in sorted(set(map(pid_of, packets))):
-        mine = [p for p in packets if pid_of(p) == pid]
+    rows, by_pid = [], {}
+    for packet in packets:
+        by_pid.setdefault(pid_of(packet), []).append(packet)
+    for pid, mine in sorted(by_pid.items()):
         kept, duplicates = clean(mine, pid)
         breaks = sum(not joins(before, packet) for before, packet in zip(kept, kept[1:]))
         if pid == 8191:

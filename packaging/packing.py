@@ -1,12 +1,14 @@
 """What tools/package and tools/install pack: which programs, what proved them, and where each file stands.
 
-The tree is that below /usr, or below any folder: bin, lib/dvbemu, which has this repository's folders so that wrappers and tools find one
-another, and share. `lay_out` is told where the programs are and what proved them; `proved` finds both here, or refuses.
+The tree is that below /usr, or below any folder: bin, lib/dvbemu, which has this repository's folders so that wrappers and tools
+find one another, and share. `lay_out` is told where the programs are and what proved them; `proved` finds both here, or refuses.
 """
 import gzip
 import hashlib
+import importlib.util
 import os
 import re
+import shlex
 import shutil
 import subprocess
 import sys
@@ -19,12 +21,16 @@ LIBRARY, DOC, MAN = os.path.join("lib", "dvbemu"), os.path.join("share", "doc", 
 # What isn't packed: what builds, proves and checks, and what is made.
 LEFT_OUT = {
     "tools": ("build", "checks", "install", "package", "lib/haste.py", "lib/checks.py", "lib/crates.py"),
-    "serve": ("check", "cases", "calls.c", "out", "airs.py", "bad.py", "programs.py", "room.py", "stations.py"),
+    "serve": ("check", "cases", "calls.c", "out", "airs.py", "bad.py", "beginnings.py", "devices.py", "guarded.py", "hostile.py",
+              "lasting.py", "loops.py", "programs.py", "receivers.py", "room.py", "stations.py", "tuner.py"),  # fmt: skip
 }
 MADE = "__pycache__", "out"
-# How many of the gate's checks end with `N passed, M failed`: `rt ci` and those that .ci/run names.
-CHECKS = 8
-MAINTAINER = "Jelkawu maintainers <maintainers@users.noreply.jelkawu.example>"
+# The documents beside docs/.
+DOCUMENTS = "README.md", "CONTRIBUTING.md", "LICENSE", "bench/README.md", "examples/README.md"
+GATE = os.path.join(ROOT, ".ci", "run")
+# Who a package is from, where whoever packs doesn't say: the project has no address, and none can be below `.invalid` (RFC 2606).
+AUTHORS = "dvbemu authors", "nobody@dvbemu.invalid"
+# The last line of each of the gate's parts.
 SUM = re.compile(r"(\d+) passed, (\d+) failed\b.*")
 
 
@@ -40,6 +46,10 @@ class Proof(NamedTuple):
     time: int
     toolchain: str
     gate: list
+
+    def short(self):
+        """The commit, as it is told where a line is short."""
+        return self.commit[:8]
 
 
 class Programs(NamedTuple):
@@ -63,34 +73,44 @@ def told(*words):
     return ran.stdout.rstrip("\n")
 
 
-def gate_lines(text):
-    """The lines of a run of the gate that tell its sums. Refused where one tells a failure, or one is missing."""
-    found = [line for line in text.split("\n") if SUM.fullmatch(line)]
-    failed = [line for line in found if SUM.fullmatch(line)[2] != "0"]
+def checks_of_gate():
+    """What .ci/run runs behind `rt ci`."""
+    with open(GATE, encoding="utf-8") as file:
+        return shlex.split(re.search(r"^checks=\((.*)\)$", file.read(), re.M)[1])
+
+
+def gate_lines(text, commit):
+    """The sum of each part of a run of the gate over a commit, a line each. Refused where one tells a failure, or one
+    is missing."""
+    head, *others = re.split("^== ", text, flags=re.M)
+    parts = {"rt ci": head, **dict(part.split("\n", 1) for part in others if "\n" in part)}
+    sums = {name: [line for line in part.split("\n") if SUM.fullmatch(line)] for name, part in parts.items()}
+    failed = [f"{name}: {line}" for name, lines in sums.items() for line in lines if SUM.fullmatch(line)[2] != "0"]
     if failed:
         raise Refused(f"the gate has failed: {failed[0]}")
-    if len(found) < CHECKS:
-        raise Refused(f"the gate hasn't come to its end: {len(found)} of its {CHECKS} sums are told")
-    return found
+    missing = [name for name in ["rt ci", *checks_of_gate()] if not sums.get(name) or sums[name][-1].startswith("0 passed")]
+    if missing:
+        raise Refused(f"the gate hasn't come to its end: it has no sum of {', '.join(missing)}")
+    if f"commit {commit}\n" not in head:
+        raise Refused(f"the gate isn't one over the commit {commit}")
+    return [f"{name}: {lines[-1]}" for name, lines in sums.items()]
 
 
-def gate_of(path, time):
-    """The gate's lines: those of a file that is newer than the commit, or of a run that is made now."""
+def gate_of(path, commit):
+    """The gate's lines: those of a file, or of a run that is made now."""
     if path is None:
         print("the gate runs first: .ci/run", file=sys.stderr)
-        return gate_lines(subprocess.run([os.path.join(ROOT, ".ci", "run")], stdout=subprocess.PIPE, text=True, check=False).stdout)
+        return gate_lines(subprocess.run([GATE], stdout=subprocess.PIPE, text=True, check=False).stdout, commit)
     try:
         with open(path, encoding="utf-8", errors="replace") as file:
-            text = file.read()
+            return gate_lines(file.read(), commit)
     except OSError as fault:
         raise Refused(f"{path}: {fault.strerror}") from None
-    if os.stat(path).st_mtime < time:
-        raise Refused(f"{path}: it is older than the commit, so it is the gate of another one")
-    return gate_lines(text)
 
 
 def built(name):
-    """A program that is proved and built now: what lay there before may come from elsewhere. What is proved already is looked at by sums."""
+    """A program that is proved and built now: what lay there before may come from elsewhere. What is proved already is looked at
+    by sums."""
     path = os.path.join(ROOT, "crates", name, "out", name)
     if os.path.exists(path):
         os.remove(path)
@@ -105,11 +125,11 @@ def proved(gate):
         version, named = file.read().split("\n")[:2]
     if changed := told("git", "status", "--porcelain"):
         raise Refused(f"not all is committed: {changed.split(chr(10), maxsplit=1)[0].strip()}")
-    commit, time = told("git", "log", "-1", "--format=%h %ct").split(" ")
+    commit, time = told("git", "log", "-1", "--format=%H %ct").split(" ")
     toolchain = told("rt", "version")
     if f"proved with {toolchain}" != named:
         raise Refused(f"the toolchain is {toolchain}, and VERSION says: {named}")
-    proof = Proof(version, commit, int(time), toolchain, gate_of(gate, int(time)))
+    proof = Proof(version, commit, int(time), toolchain, gate_of(gate, commit))
     return Programs(built("dvbemu"), built("dvb_serve")), proof
 
 
@@ -124,7 +144,8 @@ def ignored(folder, names):
 
 
 def copy_tools(library, programs, proof):
-    """The folder lib/dvbemu: the wrappers, the programs where the wrappers look, the tools with their modules, and what `serve` loads."""
+    """The folder lib/dvbemu: the wrappers, the programs where the wrappers look, the tools with their modules, and what `serve`
+    loads."""
     for name in "dvbemu", "dvbemu-serve", "crates.txt":
         shutil.copy(os.path.join(ROOT, name), library)
     for name in "tools", "serve", "python":
@@ -136,11 +157,18 @@ def copy_tools(library, programs, proof):
         out = os.path.join(library, "crates", name, "out")
         os.makedirs(out, exist_ok=True)
         os.chmod(shutil.copy(path, os.path.join(out, name)), 0o755)
-    write(os.path.join(library, "VERSION"), f"{proof.version} (commit {proof.commit})\nproved with {proof.toolchain}\n")
-    # (with Python's own name of a distribution pytest finds the module's plugin)
-    information = os.path.join(library, "python", f"dvbemu-{proof.version}.dist-info")
-    write(os.path.join(information, "METADATA"), f"Metadata-Version: 2.1\nName: dvbemu\nVersion: {proof.version}\n")
-    write(os.path.join(information, "entry_points.txt"), "[pytest11]\ndvbemu = dvbemu.pytest_plugin\n")
+    write(os.path.join(library, "VERSION"), f"{proof.version} (commit {proof.short()})\nproved with {proof.toolchain}\n")
+    # (by these pytest finds the module's plugin)
+    for name, text in wheel_of(library).information().items():
+        write(os.path.join(library, "python", f"dvbemu-{proof.version}.dist-info", name), text)
+
+
+def wheel_of(library):
+    """What builds the module's wheel, of what is packed."""
+    spec = importlib.util.spec_from_file_location("dvbemu_wheel", os.path.join(library, "python", "making", "dvbemu_wheel.py"))
+    found = importlib.util.module_from_spec(spec)
+    spec.loader.exec_module(found)
+    return found
 
 
 def write(path, text):
@@ -150,13 +178,18 @@ def write(path, text):
         file.write(text)
 
 
+def preload_in(library):
+    """Where what `serve` loads into programs is, when it is compiled."""
+    return os.path.join(library, "serve", "out", "preload.so")
+
+
 def build_preload(library):
     """Compiles what `serve` loads into programs: the server's first run does it."""
     stream = os.path.join(ROOT, "examples", "programs", "scan.ts")
     with tempfile.TemporaryDirectory() as folder:
         words = [os.path.join(library, "dvbemu-serve"), "--packets", "3000", "--report", os.path.join(folder, "report"), stream, "--", "true"]
         ran = subprocess.run(words, capture_output=True, text=True, check=False)
-    if ran.returncode or not os.path.exists(os.path.join(library, "serve", "out", "preload.so")):
+    if ran.returncode or not os.path.exists(preload_in(library)):
         raise Refused(f"what `serve` loads can't be built, or the server doesn't run: {ran.stderr.strip()}")
 
 
@@ -169,12 +202,13 @@ def write_proof(doc, proof):
 
 
 def copy_documents(doc):
-    """The documents and the examples."""
-    os.makedirs(doc, exist_ok=True)
-    shutil.copy(os.path.join(ROOT, "README.md"), doc)
+    """The documents, with what they link to, and the examples that they name in commands."""
+    for name in DOCUMENTS:
+        os.makedirs(os.path.dirname(os.path.join(doc, name)), exist_ok=True)
+        shutil.copy(os.path.join(ROOT, name), os.path.join(doc, name))
     shutil.copytree(os.path.join(ROOT, "docs"), os.path.join(doc, "docs"), dirs_exist_ok=True,
-                    ignore=lambda _, names: [name for name in names if not name.endswith(".md")])  # fmt: skip
-    for name in "programs", "rules", "tests":
+                    ignore=lambda _, names: [name for name in names if not name.endswith((".md", ".json"))])  # fmt: skip
+    for name in "programs", "reports", "rules", "tests":
         shutil.copytree(os.path.join(ROOT, "examples", name), os.path.join(doc, "examples", name), ignore=ignored, dirs_exist_ok=True)
 
 
@@ -188,8 +222,8 @@ def section_of(page, first, last):
 
 def help_of(library, *words):
     """A help, as lines that stay as they are."""
-    told_by_it = subprocess.run([os.path.join(library, words[0]), *words[1:], "--help"], capture_output=True, text=True, check=True).stdout
-    return "".join(f"    {line}\n" for line in told_by_it.split("\n"))
+    asked = [os.path.join(library, words[0]), *words[1:], "--help"]
+    return "".join(f"    {line}\n" for line in subprocess.run(asked, stdout=subprocess.PIPE, text=True, check=True).stdout.split("\n"))
 
 
 def pages_of(library):
@@ -202,7 +236,8 @@ def pages_of(library):
     report = section_of("BEHAVIOUR.md", "### The report", "### A report that is checked")
     return [
         ("dvbemu", 1, "/dev/dvb/adapter0 without a card, for tests", f"# DESCRIPTION\n\n{listed}{each}\n# SEE ALSO\n\n{asked}\n"),
-        ("dvbemu-serve", 1, "run DVB programs, as they are, on a recording", f"# DESCRIPTION\n\n{help_of(library, 'dvbemu-serve')}\n# SEE ALSO\n\n{written}\n"),
+        ("dvbemu-serve", 1, "run DVB programs, as they are, on a recording",
+         f"# DESCRIPTION\n\n{help_of(library, 'dvbemu-serve')}\n# SEE ALSO\n\n{written}\n"),
         ("dvbemu-script", 5, "the lines of a script of dvbemu", f"# DESCRIPTION\n\n{script}\n\n# SEE ALSO\n\n{written}\n"),
         ("dvbemu-report", 5, "the lines of a report of dvbemu", f"# DESCRIPTION\n\n{report}\n\n# SEE ALSO\n\n{written}\n"),
     ]  # fmt: skip
@@ -218,6 +253,8 @@ def write_manual(root, proof):
         words = ["pandoc", "-s", "-f", "markdown-smart", "-t", "man", "-M", f"title={name.upper()}", "-M", f"section={section}",
                  "-M", f"footer=dvbemu {proof.version}"]  # fmt: skip
         made = subprocess.run(words, input=page.encode(), stdout=subprocess.PIPE, check=True).stdout
+        # (a table of pandoc's is as wide as a terminal of 80 columns, without the margin)
+        made = re.sub(rb"w\((\d+[.]\d)n\)", lambda found: b"w(%.1fn)" % (0.9 * float(found[1])), made)
         write_compressed(os.path.join(root, MAN, f"man{section}", f"{name}.{section}.gz"), made)
 
 
@@ -236,9 +273,10 @@ def link_commands(root):
         if os.path.lexists(link):
             os.remove(link)
         os.symlink(os.path.join("..", LIBRARY, name), link)
-    for name, folder, to in (("completion.bash", "bash-completion/completions", "dvbemu"), ("completion.zsh", "zsh/vendor-completions", "_dvbemu")):
-        os.makedirs(os.path.join(root, "share", folder), exist_ok=True)
-        shutil.copyfile(os.path.join(HERE, name), os.path.join(root, "share", folder, to))
+    for name, to in (("bash", "bash-completion/completions/dvbemu"), ("zsh", "zsh/vendor-completions/_dvbemu")):
+        path = os.path.join(root, "share", to)
+        os.makedirs(os.path.dirname(path), exist_ok=True)
+        shutil.copyfile(os.path.join(HERE, f"completion.{name}"), path)
 
 
 def files_in(root):
@@ -248,15 +286,15 @@ def files_in(root):
             yield os.path.relpath(os.path.join(folder, name), root)
 
 
-def sum_of(path):
-    """The sum of a file, as sha256sum has it."""
+def sum_of(path, kind=hashlib.sha256):
+    """The sum of a file, as sha256sum has it, or another."""
     with open(path, "rb") as file:
-        return hashlib.sha256(file.read()).hexdigest()
+        return kind(file.read(), usedforsecurity=False).hexdigest()
 
 
 def lay_out(root, programs, proof):
-    """Writes the tree into a new folder: these programs, and what proved them. All files get the commit's time, so that no text is newer than
-    a program."""
+    """Writes the tree into a new folder: these programs, and what proved them. All files get the commit's time, so that no text
+    is newer than a program."""
     library = os.path.join(root, LIBRARY)
     os.makedirs(library)
     copy_tools(library, programs, proof)
@@ -265,7 +303,8 @@ def lay_out(root, programs, proof):
     write_proof(os.path.join(root, DOC), proof)
     write_manual(root, proof)
     link_commands(root)
-    sums = [f"{sum_of(os.path.join(root, name))}  {name}\n" for name in sorted(files_in(root)) if not os.path.islink(os.path.join(root, name))]
+    names = [name for name in sorted(files_in(root)) if not os.path.islink(os.path.join(root, name))]
+    sums = [f"{sum_of(os.path.join(root, name))}  {name}\n" for name in names]
     write(os.path.join(root, DOC, "SHA256SUMS"), "".join(sums))
     for name in files_in(root):
         path = os.path.join(root, name)
@@ -280,8 +319,8 @@ def lay_out(root, programs, proof):
 def tar(root, path, proof):
     """Packs a tree as a tar, whose one folder is dvbemu-VERSION."""
     name = f"dvbemu-{proof.version}"
-    words = ["tar", "--create", "--file", path, "--sort=name", "--owner=0", "--group=0", "--numeric-owner", "--transform", f"s,^[.],{name},S",
-             "--auto-compress", "--directory", root, "."]  # fmt: skip
+    words = ["tar", "--create", "--file", path, "--sort=name", "--owner=0", "--group=0", "--numeric-owner", f"--mtime=@{proof.time}",
+             "--transform", f"s,^[.],{name},S", "--auto-compress", "--directory", root, "."]  # fmt: skip
     subprocess.run(words, check=True)
 
 
@@ -300,7 +339,8 @@ def remove(prefix):
     except OSError as fault:
         raise Refused(f"{prefix}: nothing is installed there: {fault.filename}: {fault.strerror}") from None
     names += [os.path.join(DOC, "SHA256SUMS"), os.path.join("bin", "dvbemu"), os.path.join("bin", "dvbemu-serve")]
-    shutil.rmtree(os.path.join(prefix, LIBRARY, "python", "dvbemu", "__pycache__"), ignore_errors=True)
+    for folder, _, _ in os.walk(os.path.join(prefix, LIBRARY)):
+        shutil.rmtree(os.path.join(folder, "__pycache__"), ignore_errors=True)
     for name in names:
         path = os.path.join(prefix, name)
         if os.path.lexists(path):
@@ -320,6 +360,12 @@ def glibc_of(*paths):
     return ".".join(map(str, max(found, default=(2, 36))))
 
 
+def maintainer():
+    """Who the package is from: whoever packs, as DEBFULLNAME and DEBEMAIL say, which Debian's own commands read."""
+    name, address = (os.environ.get(variable) or default for variable, default in zip(("DEBFULLNAME", "DEBEMAIL"), AUTHORS))
+    return f"{name} <{address}>"
+
+
 def deb(root, path, proof):
     """Packs a tree as a package of Debian."""
     with tempfile.TemporaryDirectory() as folder:
@@ -328,7 +374,7 @@ def deb(root, path, proof):
         doc, library = os.path.join(top, "usr", DOC), os.path.join(top, "usr", LIBRARY)
         shutil.copyfile(os.path.join(HERE, "copyright"), os.path.join(doc, "copyright"))
         date = subprocess.run(["date", "-R", "-u", "-d", f"@{proof.time}"], stdout=subprocess.PIPE, text=True, check=True).stdout
-        change = f"dvbemu ({proof.version}) unstable; urgency=medium\n\n  * Commit {proof.commit}.\n\n -- {MAINTAINER}  {date}"
+        change = f"dvbemu ({proof.version}) unstable; urgency=medium\n\n  * Commit {proof.short()}.\n\n -- {maintainer()}  {date}"
         write_compressed(os.path.join(doc, "changelog.gz"), change.encode())
         packages = os.path.join(top, "usr", "lib", "python3", "dist-packages")
         os.makedirs(packages)
@@ -337,12 +383,12 @@ def deb(root, path, proof):
         overrides = os.path.join(top, "usr", "share", "lintian", "overrides")
         os.makedirs(overrides)
         shutil.copyfile(os.path.join(HERE, "lintian-overrides"), os.path.join(overrides, "dvbemu"))
-        programs = [os.path.join(library, "crates", name, "out", name) for name in ("dvbemu", "dvb_serve")]
+        programs = [*(os.path.join(library, "crates", name, "out", name) for name in ("dvbemu", "dvb_serve")), preload_in(library)]
         with open(os.path.join(HERE, "control"), encoding="utf-8") as file:
-            control = file.read().format(version=proof.version, maintainer=MAINTAINER, size=size_of(top), toolchain=proof.toolchain,
-                                         commit=proof.commit, glibc=glibc_of(*programs))  # fmt: skip
+            control = file.read().format(version=proof.version, maintainer=maintainer(), size=size_of(top), toolchain=proof.toolchain,
+                                         commit=proof.short(), glibc=glibc_of(*programs))  # fmt: skip
         write(os.path.join(top, "DEBIAN", "control"), control)
-        sums = [f"{md5_of(os.path.join(top, name))}  {name}\n" for name in sorted(files_in(top)) if is_packed(top, name)]
+        sums = [f"{sum_of(os.path.join(top, name), hashlib.md5)}  {name}\n" for name in sorted(files_in(top)) if is_packed(top, name)]
         write(os.path.join(top, "DEBIAN", "md5sums"), "".join(sums))
         shutil.copy(os.path.join(HERE, "prerm"), os.path.join(top, "DEBIAN", "prerm"))
         os.chmod(os.path.join(top, "DEBIAN", "prerm"), 0o755)
@@ -354,12 +400,6 @@ def deb(root, path, proof):
 def is_packed(top, name):
     """Whether a name is that of a file whose sum dpkg keeps."""
     return not os.path.islink(os.path.join(top, name)) and not name.startswith("DEBIAN")
-
-
-def md5_of(path):
-    """The sum of a file, as dpkg has it."""
-    with open(path, "rb") as file:
-        return hashlib.md5(file.read(), usedforsecurity=False).hexdigest()
 
 
 def size_of(top):

@@ -11,7 +11,9 @@ import time
 
 from building import SERVER, Stopped
 from channels import Front, systems_of
+from clearing import watch_over
 from feeder import Feeder
+from keeper import Keeper
 
 # Calls of prctl: what is told to a process whose parent ends, and what makes this process the parent of those that a program has left.
 PR_SET_PDEATHSIG, PR_SET_CHILD_SUBREAPER = 1, 36
@@ -54,9 +56,10 @@ class Folder:
         place = place_of_folders()
         sweep(place)
         self.path = os.path.realpath(tempfile.mkdtemp(prefix=PREFIX, dir=place))
+        self.adapters = [os.path.join(self.path, str(number)) for number in range(count)]
+        self.watched = watch_over(self.path, self.value())
         self.held = os.open(os.path.join(self.path, HELD), os.O_RDWR | os.O_CREAT | os.O_CLOEXEC, 0o600)
         fcntl.flock(self.held, fcntl.LOCK_EX)
-        self.adapters = [os.path.join(self.path, str(number)) for number in range(count)]
         for number, adapter in enumerate(self.adapters):
             os.mkdir(adapter, 0o700)
             tree = os.path.join(self.adapters[0], "dev", "dvb", f"adapter{number}")
@@ -64,36 +67,46 @@ class Folder:
             for node in NODES:
                 os.close(os.open(os.path.join(tree, node), os.O_CREAT | os.O_WRONLY, 0o660))
 
+    def value(self):
+        """What programs have in their environment, as DVBEMU_DIR."""
+        return ":".join(self.adapters)
+
     def remove(self):
         shutil.rmtree(self.path, ignore_errors=True)
         os.close(self.held)
+        os.close(self.watched)
 
 
 class Adapter:
-    """An adapter's server, and what feeds it."""
+    """An adapter's server, and what feeds it. `outs` has what is written: `report`, `played`, `tunings` and `keep`."""
 
-    def __init__(self, folder, channels, options, out, keep):
-        self.door = os.path.join(folder, "door")
-        os.mkfifo(self.door, 0o600)
-        self.held = os.open(self.door, os.O_RDWR | os.O_CLOEXEC)
+    def __init__(self, folder, channels, options, outs):
+        self.keeper = Keeper(folder)
         # (a write to a program that has gone fails, and is no signal: Python has SIGPIPE ignored, and the server keeps that; and a
         # terminal's Ctrl-C is the command's alone)
-        words = [*SERVER.split(), folder, str(options.seats), *([] if keep == "all" else [keep])]
-        self.server = subprocess.Popen(words, stdin=subprocess.PIPE, stdout=out, bufsize=0, restore_signals=False,
+        words = [*SERVER.split(), folder, str(options.seats), *([] if outs.keep == "all" else [outs.keep])]
+        self.server = subprocess.Popen(words, stdin=subprocess.PIPE, stdout=outs.report, bufsize=0, restore_signals=False,
                                        start_new_session=True, preexec_fn=self.end_with_parent)  # fmt: skip
         front = Front(os.path.join(folder, "front"), systems_of(channels))
         self.feeder = Feeder(channels, front, self.server.stdin, options.once, options.live)
+        self.feeder.played, self.feeder.tunings = outs.played, outs.tunings
+        self.seats = options.seats
 
     @staticmethod
     def end_with_parent():
         """The server doesn't outlive this process, and with it all that wait for a node are told."""
         SYSTEM.prctl(PR_SET_PDEATHSIG, signal.SIGKILL, 0, 0, 0)
 
+    def start(self):
+        """Programs may come in from now on, and what is on the air is played."""
+        self.keeper.open_for(self.server, self.seats)
+        self.feeder.start()
+
     def end(self):
         """Ends the stream and waits for the server's end, behind which the report is whole."""
         self.feeder.ended.set()
         self.feeder.join(ENDS)
-        os.close(self.held)
+        self.keeper.end()
         if self.feeder.fault:
             raise Stopped(str(self.feeder.fault))
         try:

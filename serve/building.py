@@ -30,7 +30,7 @@ def build_server():
         return
     if shutil.which("rt") is None:
         raise Stopped("the server isn't built, and the toolchain's command rt isn't in the PATH")
-    print("dvbemu-serve: proving and building the server; this takes half an hour or more", file=sys.stderr)
+    print("dvbemu serve: proving and building the server; this takes a quarter of an hour or more", file=sys.stderr)
     if subprocess.call([os.path.join(TOP, "tools", "build"), "--program", "dvb_serve"], stdin=subprocess.DEVNULL):
         raise Stopped("the server can't be built")
 

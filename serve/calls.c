@@ -5,6 +5,8 @@
  *   calls               all of it, where nobody else has a node
  *   calls beside        what may be asked beside other programs
  *   calls wait SECONDS  waits so long for a section that never comes
+ *   calls last          waits for the section at the end of a stream that is played once
+ *   calls many COUNT    makes so many calls
  */
 #include <errno.h>
 #include <fcntl.h>
@@ -144,19 +146,47 @@ static int wait_for_nothing(int seconds)
 	return failed > 0;
 }
 
-int main(int count, char **words)
+static void try_last(void)
 {
-	if (count == 3 && !strcmp(words[1], "wait"))
-		return wait_for_nothing(atoi(words[2]));
+	int fd = open_pat(0);
+	struct pollfd one = { fd, POLLIN, 0 };
+	want(poll(&one, 1, 20000) == 1, "poll finds the last section");
+	want(read(fd, bytes, sizeof bytes) == PAT_BYTES && bytes[0] == 0, "it is a PAT");
+	want(poll(&one, 1, 300) == 0, "nothing comes behind the end");
+}
+
+static void try_many(int calls)
+{
+	int fd = open_pat(O_NONBLOCK), done = 0;
+	while (done < calls && !ioctl(fd, DMX_STOP))
+		done++;
+	want(done == calls, "as many calls as are wanted");
+	want(!ioctl(fd, DMX_START) && select_one(fd, 3000), "the filter starts once more");
+}
+
+/* beside other programs the free nodes aren't known */
+static void try_all(int is_alone)
+{
 	try_blocking();
 	int fd = open_pat(O_NONBLOCK);
 	try_waits(fd);
 	try_fork(fd);
-	/* beside other programs, which a word says are there, the free nodes aren't known */
-	if (count == 1)
+	if (is_alone)
 		try_all_nodes(NODES - 1);
-	if (count == 1)
+	if (is_alone)
 		try_recording(fd);
+}
+
+int main(int count, char **words)
+{
+	if (count == 3 && !strcmp(words[1], "wait"))
+		return wait_for_nothing(atoi(words[2]));
+	if (count == 3 && !strcmp(words[1], "many"))
+		try_many(atoi(words[2]));
+	else if (count == 2 && !strcmp(words[1], "last"))
+		try_last();
+	else
+		try_all(count == 1);
 	printf("%d passed, %d failed\n", passed, failed);
 	return failed > 0;
 }

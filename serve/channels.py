@@ -1,4 +1,5 @@
-"""What is on the air: which recording plays at which frequency, for whom; and the frontend's page, which serve/frontend.c has too."""
+"""What is on the air: which recording plays at which frequency, for whom; and the frontend's page, which serve/frontend.c has
+too."""
 import mmap
 import os
 import re
@@ -8,7 +9,7 @@ from recording import Recording, Unplayable
 
 # The delivery systems, by the numbers of linux/dvb/frontend.h.
 SYSTEMS = {"DVBC": 1, "DVBCB": 2, "DVBT": 3, "DVBS": 5, "DVBS2": 6, "ISDBT": 8, "ATSC": 11, "DVBT2": 16}
-SATELLITE, TERRESTRIAL = (5, 6), (3,)
+SATELLITE, TERRESTRIAL, WITH_STREAMS, ANY_STREAM, FIRST = (5, 6), (3,), (6, 16), 0xFFFFFFFF, {6: 5, 16: 3}
 LINE = re.compile(r"(\d+)(?::([A-Za-z0-9/-]+?))?(?::([HVLR]))?=(.+)")
 # How far a tuner may be off, in Hz, and for a satellite in kHz; and the converters' oscillators in kHz: for the lower band, the upper
 # band, which a tone chooses, and that of C band, above its signals.
@@ -37,15 +38,16 @@ class Channel:
         return not self.polarisation or asked.voltage == VOLTAGE_OFF or self.polarisation in ("VR", "HL")[asked.voltage & 1]
 
     def status(self, asked):
-        """What the frontend tells of it."""
-        return LOCKED if not self.systems or asked.system in self.systems else SIGNAL
+        """What the frontend tells of it, which is the stream 0 where a system has several at a frequency."""
+        is_stream = asked.system not in WITH_STREAMS or asked.stream in (0, ANY_STREAM)
+        return LOCKED if is_stream and (not self.systems or asked.system in self.systems) else SIGNAL
 
 
 class Asked:
     """A tuning that a program has asked for."""
 
-    def __init__(self, frequency, system, voltage, tone):
-        self.frequency, self.system, self.voltage, self.tone = frequency, system, voltage, tone
+    def __init__(self, frequency, system, voltage, tone, stream):
+        self.frequency, self.system, self.voltage, self.tone, self.stream = frequency, system, voltage, tone, stream
 
     def words(self):
         name = next((name for name, number in SYSTEMS.items() if number == self.system), str(self.system))
@@ -90,21 +92,24 @@ def channels_of(tunings, file, stream, rate):
     """The channels of these words, of the lines of a file, and of a stream that plays everywhere else."""
     lines = [] if file is None else lines_in(file)
     if lines is None:
+        # (one that can't be read is told as such)
+        os.close(os.open(file, os.O_RDONLY))
         raise Unplayable(f"{file}: lines HZ[:SYSTEM][:H|V|L|R]=FILE are wanted")
     found = [channel_of(word, rate) for word in [*tunings, *lines]]
     return found + ([Channel(None, (), None, Recording(stream, rate))] if stream is not None else [])
 
 
 def systems_of(channels):
-    """The delivery systems of a frontend that finds these channels."""
-    return list(dict.fromkeys(system for channel in channels for system in channel.systems or TERRESTRIAL))
+    """The delivery systems of a frontend that finds these channels. One of a second generation has the first one too."""
+    found = [system for channel in channels for system in channel.systems or TERRESTRIAL]
+    return list(dict.fromkeys([*found, *(FIRST[system] for system in found if system in FIRST)]))
 
 
 class Front:
     """The page that a frontend's programs and this one share."""
 
     SIZE, MOST_SYSTEMS = 4096, 7
-    HEAD, SYSTEMS_AT, PACKETS_AT = struct.Struct("=8I"), 40, 32
+    HEAD, PACKETS_AT, SYSTEMS_AT = struct.Struct("=9I"), 40, 48
 
     def __init__(self, path, systems):
         self.file = os.open(path, os.O_RDWR | os.O_CREAT | os.O_CLOEXEC, 0o600)

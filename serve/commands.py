@@ -6,9 +6,7 @@ import sys
 import time
 
 from building import PRELOAD, Stopped
-
-# The seconds in which a program that was told to end must do so.
-LEAVES = 2
+from clearing import LEAVES, VARIABLE, end_programs
 
 
 def children():
@@ -17,8 +15,9 @@ def children():
         return [int(word) for word in file.read().split()]
 
 
-def end_all_but(servers):
-    """Ends what the command has left running: by SIGTERM, and from some seconds on by SIGKILL."""
+def end_all_but(servers, folder):
+    """Ends what the command has left running, and what else has found the adapters: by SIGTERM, and from some seconds on by
+    SIGKILL."""
     begun = time.monotonic()
     try:
         while left := [child for child in children() if child not in servers]:
@@ -30,10 +29,20 @@ def end_all_but(servers):
     except (OSError, AttributeError):
         # (where the system doesn't tell of children, they are left)
         pass
+    end_programs(folder.value())
+
+
+class Interrupted(Stopped):
+    """There is no report, since a signal has come."""
+
+    def __init__(self, number):
+        super().__init__(f"stopped by {signal.Signals(number).name}")
+        self.status = 128 + number
 
 
 class Signals:
-    """What is done where this process is told to end: the command is, while it runs. A terminal tells the command itself of Ctrl-C."""
+    """What is done where this process is told to end: the command is, while it runs. A terminal tells the command itself of
+    Ctrl-C."""
 
     def __init__(self):
         self.command, self.is_starting, self.missed = None, False, []
@@ -54,18 +63,19 @@ class Signals:
         if self.is_starting:
             self.missed.append(number)
         elif self.command is None:
-            raise Stopped(f"stopped by {signal.Signals(number).name}")
+            raise Interrupted(number)
         elif number != signal.SIGINT and self.command.poll() is None:
             self.command.send_signal(number)
 
 
 def environment(folder):
-    """The environment of the command, in which the user's own preloads come first. A sanitizer of gcc is told that this is meant."""
+    """The environment of the command, in which the user's own preloads come first. A sanitizer of gcc is told that this
+    is meant."""
     preload = os.path.join(folder.path, "preload.so")
     os.symlink(PRELOAD, preload)
     ours = {"LD_PRELOAD": preload, "ASAN_OPTIONS": "verify_asan_link_order=0"}
     both = {name: ":".join(filter(None, [os.environ.get(name), word])) for name, word in ours.items()}
-    return dict(os.environ, DVBEMU_DIR=":".join(folder.adapters), **both)
+    return {**os.environ, VARIABLE: folder.value(), **both}
 
 
 def run_command(command, folder, signals):
@@ -73,7 +83,7 @@ def run_command(command, folder, signals):
     try:
         signals.start(command, environment(folder))
     except OSError as fault:
-        print(f"dvbemu-serve: {command[0]}: {fault.strerror}", file=sys.stderr)
+        print(f"dvbemu serve: {command[0]}: {fault.strerror}", file=sys.stderr)
         return 127
     status = signals.command.wait()
     signals.command = None

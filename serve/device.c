@@ -10,6 +10,7 @@
 #include <linux/dvb/dmx.h>
 #include <linux/dvb/frontend.h>
 #include <linux/futex.h>
+#include <stddef.h>
 #include <string.h>
 #include <sys/ioctl.h>
 #include <sys/stat.h>
@@ -314,6 +315,16 @@ static void changed(int fd, struct at at, uint32_t number, const void *argument)
 		watch_changed();
 }
 
+/* what lies between the fields of a structure is no part of a request, and may never have been written */
+static void clean(uint32_t number, char *bytes)
+{
+	const size_t section = offsetof(struct dmx_sct_filter_params, filter) + sizeof(struct dmx_filter), pes = sizeof(__u16);
+	if (number == DMX_SET_FILTER)
+		memset(bytes + section, 0, offsetof(struct dmx_sct_filter_params, timeout) - section);
+	else if (number == DMX_SET_PES_FILTER)
+		memset(bytes + pes, 0, offsetof(struct dmx_pes_filter_params, input) - pes);
+}
+
 static int demux_ioctl(int fd, struct at at, uint32_t number, void *argument)
 {
 	struct pause pause;
@@ -329,6 +340,7 @@ static int demux_ioctl(int fd, struct at at, uint32_t number, void *argument)
 		memcpy(bytes, &size, length = sizeof size);
 	else if (!is_readable(argument, bytes, length))
 		return -EFAULT;
+	clean(number, bytes);
 	take(at.line, &pause);
 	int error = device->kind ? ask(at.line, IOCTL, device->node, number, bytes, length, &reply, NULL) : -EBADF;
 	if (!error)
@@ -337,7 +349,7 @@ static int demux_ioctl(int fd, struct at at, uint32_t number, void *argument)
 	return error;
 }
 
-/* An ioctl of the frontend. That for the next event waits for one, where the descriptor does. */
+/* An ioctl of the frontend. That for the next event waits for one, where the descriptor does, and none has come since it was asked. */
 static int tuner_ioctl(int fd, struct at at, uint32_t number, void *argument)
 {
 	struct device *device = device_at(at);
@@ -345,13 +357,13 @@ static int tuner_ioctl(int fd, struct at at, uint32_t number, void *argument)
 		struct pause pause;
 		take(at.line, &pause);
 		int error = frontend_ioctl(at.line->table->adapter, device->access, number, argument);
-		int waits = error == -EAGAIN && !is_nonblocking(fd);
-		uint32_t turn = device->turn;
 		look(at, fd);
-		if (waits)
-			turn = (__atomic_add_fetch(&device->readers, 1, __ATOMIC_SEQ_CST), device->turn);
+		int waits = error == -EAGAIN && !is_nonblocking(fd), has_come = device->state == READY;
+		uint32_t turn = device->turn;
+		if (waits && !has_come)
+			__atomic_add_fetch(&device->readers, 1, __ATOMIC_SEQ_CST);
 		give(at.line, &pause);
-		if (!waits || (error = doze(device, turn, 0)))
+		if (!waits || (!has_come && (error = doze(device, turn, 0))))
 			return error;
 	}
 }

@@ -59,8 +59,8 @@ static void prepare(void)
 	watch_ends(0);
 }
 
-/* it has failed */
-static int failed(int result)
+/* an exec has failed, or another process has begun: the lines are this one's alone again */
+static int done(int result)
 {
 	int saved = errno;
 	keep_lines(0);
@@ -142,19 +142,19 @@ void inherit(void)
 EXPORT int execve(const char *path, char *const words[], char *const env[])
 {
 	prepare();
-	return failed(NEXT(execve)(path, words, env));
+	return done(NEXT(execve)(path, words, env));
 }
 
 EXPORT int execvpe(const char *file, char *const words[], char *const env[])
 {
 	prepare();
-	return failed(NEXT(execvpe)(file, words, env));
+	return done(NEXT(execvpe)(file, words, env));
 }
 
 EXPORT int fexecve(int fd, char *const words[], char *const env[])
 {
 	prepare();
-	return failed(NEXT(fexecve)(fd, words, env));
+	return done(NEXT(fexecve)(fd, words, env));
 }
 
 EXPORT int execv(const char *path, char *const words[]) { return execve(path, words, environ); }
@@ -202,6 +202,23 @@ EXPORT int execle(const char *path, const char *first, ...)
 	return execve(path, words, env);
 }
 
+/* (the library begins the shell of these by none of the calls above; while it runs the line stays open) */
+EXPORT int system(const char *command)
+{
+	init();
+	keep_lines(1);
+	return done(NEXT(system)(command));
+}
+
+EXPORT FILE *popen(const char *command, const char *mode)
+{
+	init();
+	keep_lines(1);
+	FILE *file = NEXT(popen)(command, mode);
+	done(0);
+	return file;
+}
+
 /* ------ the end: as with a kernel all is closed when the process has gone, and not a moment later */
 
 static void close_all(void)
@@ -232,9 +249,7 @@ EXPORT int posix_spawn(pid_t *child, const char *path, const posix_spawn_file_ac
 {
 	init();
 	keep_lines(1);
-	int result = NEXT(posix_spawn)(child, path, actions, with, words, env);
-	keep_lines(0);
-	return result;
+	return done(NEXT(posix_spawn)(child, path, actions, with, words, env));
 }
 
 EXPORT int posix_spawnp(pid_t *child, const char *file, const posix_spawn_file_actions_t *actions, const posix_spawnattr_t *with,
@@ -242,7 +257,5 @@ EXPORT int posix_spawnp(pid_t *child, const char *file, const posix_spawn_file_a
 {
 	init();
 	keep_lines(1);
-	int result = NEXT(posix_spawnp)(child, file, actions, with, words, env);
-	keep_lines(0);
-	return result;
+	return done(NEXT(posix_spawnp)(child, file, actions, with, words, env));
 }

@@ -1,5 +1,6 @@
 """Writes to a server what is on the air, at its pace, until it is told to end."""
 import fcntl
+import os
 import struct
 import termios
 import threading
@@ -63,7 +64,7 @@ class Feeder(threading.Thread):
             self.now = found
         if self.tunings:
             what = found.recording.path if found else "no lock"
-            self.tunings.write(f"{self.count} {tuning[1].words()} {what}\n")
+            self.tunings.write(os.fsencode(f"{self.count} {tuning[1].words()} {what}\n"))
             self.tunings.flush()
         self.front.grant(tuning[0], status)
 

@@ -23,7 +23,7 @@ enum { SYSTEMS = 8, COMMANDS = DTV_MAX_COMMAND + 1, MOST_PROPERTIES = 64, GOOD =
 /* What serve/channels.py has too. All frequencies are in Hz, or in kHz behind a satellite's converter. */
 struct front {
 	uint32_t wanted, granted, status, taken; /* tunings: how many were asked for, done, with what status, and told as an event */
-	uint32_t frequency, system, voltage, tone;
+	uint32_t frequency, system, voltage, tone, stream, unused;
 	uint64_t packets;
 	uint32_t systems[SYSTEMS];               /* which it has; behind the last a 0 */
 	uint32_t asked[COMMANDS];                /* the properties, by their commands */
@@ -72,13 +72,22 @@ static struct front *front_of(int adapter)
 	return there;
 }
 
-/* Who may tune holds a lock of the file, as one open of a card for writing is all that it has: a descriptor, -EBUSY, or -1. */
+/*
+ * Who may tune holds a lock of the file, as one open of a card for writing is all that it has: a descriptor, -EBUSY, or -1. An event
+ * that nobody took before isn't told any more.
+ */
 int frontend_lock(int adapter)
 {
 	struct flock whole = { .l_type = F_WRLCK };
+	struct front *front = front_of(adapter);
 	int fd = high(open_front(adapter));
-	if (fd < 0 || !syscall(SYS_fcntl, fd, F_OFD_SETLK, &whole))
+	if (fd < 0)
 		return fd;
+	if (!syscall(SYS_fcntl, fd, F_OFD_SETLK, &whole)) {
+		if (front)
+			front->taken = front->granted;
+		return fd;
+	}
 	let_go(fd);
 	return -EBUSY;
 }
@@ -109,6 +118,7 @@ static void tune(struct front *front)
 	front->system = front->asked[DTV_DELIVERY_SYSTEM];
 	front->voltage = front->asked[DTV_VOLTAGE];
 	front->tone = front->asked[DTV_TONE];
+	front->stream = front->asked[DTV_STREAM_ID];
 	front->taken = front->granted;
 	__atomic_add_fetch(&front->wanted, 1, __ATOMIC_SEQ_CST);
 }
@@ -217,7 +227,7 @@ static int set_property(struct front *front, const struct dtv_property *one)
 	else if (one->cmd == DTV_CLEAR)
 		clear(front);
 	else
-		front->asked[one->cmd] = one->u.data;
+		front->asked[one->cmd == DTV_DVBT2_PLP_ID_LEGACY ? DTV_STREAM_ID : one->cmd] = one->u.data;
 	return 0;
 }
 

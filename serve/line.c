@@ -1,6 +1,6 @@
 /*
  * The line of a process to the server of an adapter, dvb_serve: requests and their replies over a pair of named pipes, whose name is
- * told at the pipe `door` of the server's folder. Forked children have the line too.
+ * told at the pipe `knock` of the server's folder, from where keeper.py hands it on. Forked children have the line too.
  *
  *   DVBEMU_DIR    the folders of the servers of adapter 0, 1 and so on, with colons between
  */
@@ -19,7 +19,7 @@
 
 #include "preload.h"
 
-enum { ARGUMENT = 60, NAME = 64, SEAT_MS = 5000, KNOCK_MS = 5, SCRATCH = 4096 };
+enum { ARGUMENT = 60, NAME = 64, SEAT_MS = 5000, SCRATCH = 4096 };
 
 struct request {
 	uint32_t verb, node, number, length;
@@ -211,25 +211,28 @@ static ino_t ino_of(int fd)
 	return syscall(SYS_fstat, fd, &now) ? 0 : now.st_ino;
 }
 
-/* tells a name at the door, again as long as others fill it */
+/* tells a name, in a line of its own whatever stands in front of it, and again as long as others fill the pipe */
 static int knock(const char *folder, const char *name)
 {
-	char path[PATH];
-	long n = -1, since = milliseconds();
-	snprintf(path, sizeof path, "%s/door", folder);
-	int fd = open_raw(path, O_WRONLY | O_NONBLOCK);
-	while (fd >= 0 && (n = syscall(SYS_write, fd, name, NAME)) < 0 && errno == EAGAIN && milliseconds() - since < SEAT_MS)
-		wait_raw(NULL, 0, KNOCK_MS);
-	if (fd >= 0)
-		syscall(SYS_close, fd);
-	return n == NAME ? 0 : -1;
+	char path[PATH], line[NAME];
+	long n = -1, left = SEAT_MS, until = milliseconds() + SEAT_MS;
+	int length = snprintf(line, sizeof line, "\n%s\n", name);
+	snprintf(path, sizeof path, "%s/knock", folder);
+	struct pollfd pipe = { open_raw(path, O_WRONLY | O_NONBLOCK), POLLOUT, 0 };
+	while (pipe.fd >= 0 && left > 0 && (n = syscall(SYS_write, pipe.fd, line, length)) < 0 && errno == EAGAIN) {
+		wait_raw(&pipe, 1, left);
+		left = until - milliseconds();
+	}
+	if (pipe.fd >= 0)
+		syscall(SYS_close, pipe.fd);
+	return n == length ? 0 : -1;
 }
 
 /* Makes the two pipes and tells their name, which no other program has, also not one that counts its processes anew. */
 static int come_in(struct line *line, char *ask, char *tell)
 {
 	const char *folder = folders[line->table->adapter];
-	char name[NAME] = "";
+	char name[NAME];
 	uint64_t number = 0;
 	if (syscall(SYS_getrandom, &number, sizeof number, 0) != sizeof number)
 		number = (uint64_t)self << 32 ^ (uint64_t)clock();

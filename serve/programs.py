@@ -4,7 +4,7 @@ import re
 import shutil
 import socket
 
-from room import PACKET, bytes_of
+from room import HERE, PACKET, bytes_of
 
 DVBV5 = """[CHANNEL]
 \tDELIVERY_SYSTEM = DVBT
@@ -28,6 +28,8 @@ autoconfiguration=full
 SERVICES = "The test picture of lavfi", "The same tone of 440 hertz"
 # The least packets of a recording, and how many at its end follow one another as in the stream, where none were lost.
 LEAST, FOLLOWING = 100, 60
+# The bytes in front of the packets of a datagram.
+RTP = 12
 
 
 def packets_of(data):
@@ -38,17 +40,19 @@ def pid_of(packet):
     return (packet[1] & 0x1F) << 8 | packet[2]
 
 
-def following(packets, loop):
-    """How many packets at the end of these follow one another as in a stream that goes round."""
+def following(packets, loop, breaks=0):
+    """How many packets at the end of these follow one another as in a stream that goes round, but for so many losses."""
     places, here, count = {}, None, 0
     for place, packet in enumerate(loop):
         places.setdefault(packet, set()).add(place)
     for packet in reversed(packets):
         at = places.get(packet, set())
-        here = at if here is None else at & {(place - 1) % len(loop) for place in here}
-        if not here:
+        next_to = at if here is None else at & {(place - 1) % len(loop) for place in here}
+        if not next_to and at and breaks:
+            next_to, breaks = at, breaks - 1
+        if not next_to:
             break
-        count += 1
+        here, count = next_to, count + 1
     return count
 
 
@@ -59,8 +63,9 @@ def is_recording(room, name, pids):
     room.want(len(packets) >= LEAST and told.startswith(data), f"{name} has what was read", f"{len(data)} of {len(told)} bytes")
     loop = [packet for packet in packets_of(bytes_of(room.stream)) if pid_of(packet) in pids]
     room.want(set(map(pid_of, packets)) == set(pids), f"{name} has these PIDs", set(map(pid_of, packets)))
-    count = following(packets, loop)
-    room.want(lost or count >= FOLLOWING, f"{name} is the looped stream", f"{count} of {len(packets)} packets follow one another")
+    count = following(packets, loop, lost)
+    told = f"{count} of {len(packets)} packets follow one another, {lost} losses"
+    room.want(count >= FOLLOWING, f"{name} is the looped stream", told)
 
 
 def try_program(room, words, holds, statuses=(0,)):
@@ -94,7 +99,7 @@ def try_scans(room):
 
 def try_w_scan(room):
     """w_scan finds them on whatever frequency it tries."""
-    try_program(room, ["w_scan", "-f", "t", "-c", "DE"], lambda out: SERVICES[0] in out)
+    try_program(room, ["w_scan", "-f", "t", "-c", "DE"], has_all)
 
 
 def try_zap(room):
@@ -114,6 +119,15 @@ def try_gnutv(room):
         is_recording(room, "g.ts", set(map(int, asked)))
 
 
+def datagrams(port):
+    """What has come to a port."""
+    try:
+        while True:
+            yield port.recv(2048)
+    except BlockingIOError:
+        pass
+
+
 def try_dvblast(room):
     """dvblast sends a service to a port of this machine that nobody else has."""
     with socket.socket(socket.AF_INET, socket.SOCK_DGRAM) as port:
@@ -123,12 +137,11 @@ def try_dvblast(room):
         words = ["timeout", "-s", "INT", "5", "dvblast", "-f", "474000000", "-a", "0", "-c", "dvblast.conf"]
         if not try_program(room, words, lambda _: True, (0, 124)):
             return
-        try:
-            datagram = port.recv(2048)
-        except BlockingIOError:
-            datagram = b""
-        sent = packets_of(datagram[12:])
-        room.want(sent and all(packet[0] == 0x47 for packet in sent), "dvblast sends packets", len(datagram))
+        sent = [packet for datagram in datagrams(port) for packet in packets_of(datagram[RTP:])]
+        own, loop = ([one for one in some if pid_of(one) in {256, 257}] for some in (sent, packets_of(bytes_of(room.stream))))
+        count = following(own, loop, room.dvr_told()[1])
+        is_own = own and count >= min(FOLLOWING, len(own))
+        room.want(is_own, "dvblast sends the looped stream of its PIDs", f"{count} of {len(own)} packets")
 
 
 def try_mumudvb(room):
@@ -138,4 +151,12 @@ def try_mumudvb(room):
     try_program(room, words, has_all, (0, 124))
 
 
-PARTS = try_w_scan, try_mumudvb, try_dvblast, try_scans, try_zap, try_gnutv
+def try_python(room):
+    """Python's own means find an adapter and wait for it."""
+    out, status = room.run(os.path.join(HERE, "loops.py"))
+    ways = ["paths", "select", "poll", "epoll", "selectors", "file", "asyncio", "file"]
+    room.want(status == 0 and out.split() == ways, f"Python's ways to wait, status {status}", out)
+    room.is_right("Python's ways to wait")
+
+
+PARTS = try_w_scan, try_mumudvb, try_dvblast, try_scans, try_zap, try_gnutv, try_python

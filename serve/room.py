@@ -22,6 +22,32 @@ PACKET, BATCH = 188, 64
 RATE, MOST, AGAIN = "1500", 100, 300_000
 
 
+def calls_of(room):
+    """The program of serve/calls.c."""
+    return os.path.join(os.path.dirname(room.folder), "calls")
+
+
+def cases_of(room):
+    """The program of serve/cases."""
+    return os.path.join(os.path.dirname(room.folder), "cases")
+
+
+def is_passed(out):
+    """Whether a program has counted cases, of which none failed."""
+    return re.search(r"^\d+ passed, 0 failed$", out, re.M)
+
+
+def passes(out):
+    """How many programs have counted so."""
+    return len(re.findall(r"^\d+ passed, 0 failed$", out, re.M))
+
+
+def ran(words):
+    """A command that was run, with what it wrote."""
+    ends = {"stdin": subprocess.DEVNULL, "stdout": subprocess.PIPE, "stderr": subprocess.STDOUT}
+    return subprocess.run(words, text=True, errors="replace", check=False, **ends)
+
+
 def plain(report):
     """A report without its moments."""
     return re.sub(r" at=\d+", "", report)

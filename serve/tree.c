@@ -220,6 +220,23 @@ EXPORT int fstatat64(int there, const char *path, struct stat64 *told, int flags
 	return fstatat(there, path, (struct stat *)told, flags);
 }
 
+/* the names that these have in programs of a C library before 2.33 */
+EXPORT int __xstat(int version, const char *path, struct stat *told);
+EXPORT int __xstat(int version, const char *path, struct stat *told) { return (void)version, stat(path, told); }
+EXPORT int __lxstat(int version, const char *path, struct stat *told);
+EXPORT int __lxstat(int version, const char *path, struct stat *told) { return (void)version, lstat(path, told); }
+EXPORT int __fxstat(int version, int fd, struct stat *told);
+EXPORT int __fxstat(int version, int fd, struct stat *told) { return (void)version, fstat(fd, told); }
+EXPORT int __fxstatat(int version, int there, const char *path, struct stat *told, int flags);
+EXPORT int __fxstatat(int version, int there, const char *path, struct stat *told, int flags)
+{
+	return (void)version, fstatat(there, path, told, flags);
+}
+EXPORT int __xstat64(int, const char *, struct stat64 *) __attribute__((alias("__xstat")));
+EXPORT int __lxstat64(int, const char *, struct stat64 *) __attribute__((alias("__lxstat")));
+EXPORT int __fxstat64(int, int, struct stat64 *) __attribute__((alias("__fxstat")));
+EXPORT int __fxstatat64(int, int, const char *, struct stat64 *, int) __attribute__((alias("__fxstatat")));
+
 EXPORT int statx(int there, const char *restrict path, int flags, unsigned int mask, struct statx *restrict told)
 {
 	char into[PATH];

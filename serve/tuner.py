@@ -1,11 +1,12 @@
 #!/usr/bin/env python3
 """A small program that tunes, for serve/check: tuner.py WORD ..
 
-    HZ[:SYSTEM[:VOLTAGE[:TONE]]]   tunes there (kHz for a satellite), and says which services its table tells, or what the status is
-    adapter N                      goes on with this adapter
-    look                           says the status, as a program beside another one sees it
-    packets N                      records so many packets and says which PIDs they have
-    hold                           writes `held`, and reads until there is an error, of which it tells
+    HZ[:SYSTEM[:VOLTAGE[:TONE[:STREAM]]]]
+                tunes there (kHz for a satellite), and says which services its table tells, or what the status is
+    adapter N   goes on with this adapter
+    look        says the status, as a program beside another one sees it
+    packets N   records so many packets and says which PIDs they have
+    hold        writes `held`, and reads until there is an error, of which it tells
 """
 import ctypes
 import errno
@@ -17,7 +18,7 @@ import time
 
 FE_SET_PROPERTY, FE_GET_PROPERTY, FE_READ_STATUS = 0x40106F52, 0x80106F53, 0x80046F45
 DMX_SET_FILTER, DMX_SET_PES_FILTER = 0x403C6F2B, 0x40146F2C
-CLEAR, TUNE, FREQUENCY, VOLTAGE, TONE, SYSTEM, STRENGTH = 2, 1, 3, 10, 11, 17, 62
+CLEAR, TUNE, FREQUENCY, VOLTAGE, TONE, SYSTEM, STREAM, STRENGTH = 2, 1, 3, 10, 11, 17, 42, 62
 LOCK, SDT_PID, SDT, WAITS, START = 0x10, 17, 0x42, 4.0, 4
 IN_FRONTEND, OUT_TS_TAP, OTHER = 0, 2, 20
 PROPERTY = struct.Struct("=I12sI52sI")
@@ -43,8 +44,8 @@ def strength_of(tuner):
 def services(folder):
     """The names that the next table of services has."""
     with open(f"{folder}/demux0", "r+b", buffering=0) as demux:
-        matches = struct.pack("=H16s16s16sxxII", SDT_PID, bytes([SDT]).ljust(16, b"\0"), b"\xff".ljust(16, b"\0"), bytes(16), 5000, START)
-        fcntl.ioctl(demux, DMX_SET_FILTER, matches)
+        byte, mask = (bytes([value]).ljust(16, b"\0") for value in (SDT, 0xFF))
+        fcntl.ioctl(demux, DMX_SET_FILTER, struct.pack("=H16s16s16sxxII", SDT_PID, byte, mask, bytes(16), 5000, START))
         table = demux.read(4096)
     names, at = [], 11
     while at + 9 < len(table):
@@ -57,8 +58,8 @@ def services(folder):
 
 def tune(tuner, folder, word):
     """Tunes, waits for a lock, and says what is there."""
-    frequency, system, voltage, tone = (*map(int, word.split(":")), *[None] * 3)[:4]
-    pairs = [(CLEAR, 0), (SYSTEM, system), (FREQUENCY, frequency), (VOLTAGE, voltage), (TONE, tone), (TUNE, 0)]
+    numbers = zip((FREQUENCY, SYSTEM, VOLTAGE, TONE, STREAM), (*map(int, word.split(":")), *[None] * 4))
+    pairs = [(CLEAR, 0), *numbers, (TUNE, 0)]
     properties(tuner, FE_SET_PROPERTY, [pair for pair in pairs if pair[1] is not None])
     begun = time.monotonic()
     while not status_of(tuner) & LOCK and time.monotonic() - begun < WAITS:

@@ -1,18 +1,19 @@
-/* A test of a scanner in C: `scan CHANNEL SERVICE ..` runs dvbv5-scan, and each of these services, by its service_id, must be in what it
-   has found. It runs below `served`, so that the scanner finds an adapter; what it writes goes into the folder in which it is called. */
+/* A test of a scanner in C: `scan CHANNELS SERVICE ..` runs dvbv5-scan, and each of these services, by its service_id, must be in what it
+   has found. It runs below `served`, so that the scanner finds an adapter. The scanner writes into a file without a name, so nothing is
+   left of it however this ends, and tests that run side by side have a file each. */
 #include <stdio.h>
 #include <string.h>
 #include <sys/wait.h>
 #include <unistd.h>
 
-static const char *const found = "channels-of-scan";
-
-/* Runs the scanner, and gives its status. */
-static int scanned(const char *channel) {
+/* Runs the scanner, which writes into a file, and gives its status. */
+static int scanned(const char *channels, FILE *file) {
     int status;
+    char path[32];
+    snprintf(path, sizeof path, "/dev/fd/%d", fileno(file));
     pid_t child = fork();
     if (child == 0) {
-        execlp("dvbv5-scan", "dvbv5-scan", "-o", found, channel, (char *)NULL);
+        execlp("dvbv5-scan", "dvbv5-scan", "-o", path, channels, (char *)NULL);
         perror("dvbv5-scan");
         _exit(127);
     }
@@ -22,23 +23,16 @@ static int scanned(const char *channel) {
 }
 
 /* Whether a line of the file names this service; all services are told where none does. */
-static int has(const char *service) {
+static int has(FILE *file, const char *service) {
     char line[256], name[256], others[1024] = "";
-    FILE *file = fopen(found, "r");
-    if (file == NULL) {
-        perror(found);
-        return 0;
-    }
+    rewind(file);
     while (fgets(line, sizeof line, file) != NULL) {
         if (sscanf(line, " SERVICE_ID = %255s", name) != 1)
             continue;
-        if (strcmp(name, service) == 0) {
-            fclose(file);
+        if (strcmp(name, service) == 0)
             return 1;
-        }
         snprintf(others + strlen(others), sizeof others - strlen(others), " %s", name);
     }
-    fclose(file);
     fprintf(stderr, "no service %s; found:%s\n", service, others);
     return 0;
 }
@@ -46,14 +40,19 @@ static int has(const char *service) {
 int main(int count, char **words) {
     int missing = 0;
     if (count < 3) {
-        fprintf(stderr, "usage: scan CHANNEL SERVICE ..\n");
+        fprintf(stderr, "usage: scan CHANNELS SERVICE ..\n");
         return 2;
     }
-    if (scanned(words[1]) != 0) {
+    FILE *file = tmpfile();
+    if (file == NULL) {
+        perror("a file");
+        return 1;
+    }
+    if (scanned(words[1], file) != 0) {
         fprintf(stderr, "dvbv5-scan failed\n");
         return 1;
     }
     for (int at = 2; at < count; at++)
-        missing += !has(words[at]);
+        missing += !has(file, words[at]);
     return missing ? 1 : 0;
 }

@@ -1,4 +1,5 @@
-"""A test of a scanner by pytest: it has to find both services of a recording. `pytest examples/tests`; SERVICES names others by their service_id."""
+"""A test of a scanner by pytest: it has to find both services of a recording. `pytest examples/tests`; SERVICES names others by
+their service_id."""
 import os
 import re
 

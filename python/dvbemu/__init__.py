@@ -13,9 +13,10 @@
         adapter.run(["dvbv5-scan", "-o", "channels", "dvbv5.conf"], timeout=60)
     print(adapter.report.explain())
 
-It needs the standard library alone, and calls the programs `dvbemu` and `dvbemu-serve`: those that `DVBEMU` and `DVBEMU_SERVE` of the
-environment name, else those beside this module, else those of the PATH. Whether a reply is right is decided by the program, whose
-`steps`, `run` and `check` are proved; this module is tested, and neither the server's outside nor the preload is proved (docs/PROVED.md).
+It needs the standard library alone, and calls the programs `dvbemu` and `dvbemu-serve`: those that `DVBEMU` and `DVBEMU_SERVE` of
+the environment name, else those beside this module, else those of the PATH. Whether a reply is right is decided by the program,
+whose `steps`, `run` and `check` are proved; this module is tested, and neither the server's outside nor the preload is proved
+(docs/PROVED.md).
 """
 from .adapter import Adapter, NoAdapter, serve
 from .calls import (

@@ -1,9 +1,12 @@
-"""Modules of the tools, tools/lib, which stands beside this one in the repository and in what is packed of it."""
+"""Modules of the tools, which are those of tools/lib: beside `python` in the repository and in what is packed of it, in a wheel
+in `_lib`."""
 import importlib.util
 import os
 import sys
 
-LIBRARY = os.path.realpath(os.path.join(os.path.dirname(os.path.realpath(__file__)), "..", "..", "tools", "lib"))
+HERE = os.path.dirname(os.path.realpath(__file__))
+OWN, BESIDE = os.path.join(HERE, "_lib"), os.path.realpath(os.path.join(HERE, "..", "..", "tools", "lib"))
+LIBRARY = OWN if os.path.isdir(OWN) else BESIDE
 
 
 def take_place(name: str, file: str) -> None:

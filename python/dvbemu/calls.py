@@ -3,7 +3,8 @@ import enum
 
 
 class Flag(enum.IntFlag):
-    """The flags of a filter. KEEP is none of the header's: with it an overflow leaves what is unread (docs/BEHAVIOUR.md, 'The ledger')."""
+    """The flags of a filter. KEEP is none of the header's: with it an overflow leaves what is unread (docs/BEHAVIOUR.md, 'The
+    ledger')."""
 
     DMX_CHECK_CRC = 1
     DMX_ONESHOT = 2

@@ -43,15 +43,17 @@ class Verdict:
 def steps(script: Source, *streams: Stream, batch: int = 64, packet: int = 188) -> Report:
     """The report of a script that is done in the order of its lines, the same each time.
 
-    The script is a Script, or a file by its name, or bytes; the streams go on behind one another, each a file by its name, or bytes. A
-    session, which has its stream in it, is a file or bytes without streams. Packets pass `batch` at a time, 1 to 64; each takes up
-    `packet` bytes, 188 or 204. Raises ScriptFault where the script has a fault, else Failed where there is no report.
+    The script is a Script, or a file by its name, or bytes; the streams go on behind one another, each a file by its name, or
+    bytes. A session, which has its stream in it, is a file or bytes without streams. Packets pass `batch` at a time, 1 to 64;
+    each takes up `packet` bytes, 188 or 204. Raises ScriptFault where the script has a fault, else Failed where there is no
+    report.
     """
     return _report("steps", script, streams, batch, packet)
 
 
 def run(script: Source, *streams: Stream, batch: int = 64, packet: int = 188) -> Report:
-    """The report of a script that is done on threads, one for each client and one for the stream: each time another lawful one."""
+    """The report of a script that is done on threads, one for each client and one for the stream: each time another
+    lawful one."""
     return _report("run", script, streams, batch, packet)
 
 
@@ -94,7 +96,8 @@ def _report(word: str, script: Source, streams: Sequence[Stream], batch: int, pa
 
 
 def _session(script: Source, streams: Sequence[Stream]) -> list[bytes]:
-    """The bytes of a session: the line `stream` is put behind a Script, and behind another script that has none and that streams follow."""
+    """The bytes of a session: the line `stream` is put behind a Script, and behind another script that has none and that streams
+    follow."""
     if isinstance(script, Script):
         return [str(script).encode("utf-8", "surrogateescape") + b"stream\n", *map(_bytes, streams)]
     text = _bytes(script)

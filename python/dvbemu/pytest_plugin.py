@@ -4,9 +4,9 @@
     def test_my_receiver(dvb_adapter, tmp_path):
         dvb_adapter.run(["my-receiver", "--once"], cwd=tmp_path, check=True, timeout=60)
 
-The marker takes what `dvbemu.serve` takes; a stream is looked for beside the test's file. Where the test fails, its report is kept in the
-folder of `--dvb-reports`, and what it says in sentences stands in the output. Each test has an adapter of its own, so that tests of several
-workers (`pytest -n`) don't meet one another.
+The marker takes what `dvbemu.serve` takes; recordings are looked for beside the test's file. Where the test fails, its report is
+kept in the folder of `--dvb-reports`, and what it says in sentences stands in the output. Each test has an adapter of its own, so
+that tests of several workers (`pytest -n`) don't meet one another.
 """
 from __future__ import annotations
 
@@ -18,10 +18,14 @@ import pytest
 
 from .adapter import Adapter, NoAdapter, serve
 from .program import Failed
+from .report import Report
 
 ADAPTER = pytest.StashKey[Adapter]()
 # The most lines of a report's sentences that are shown; the file has all.
 SHOWN = 80
+# The longest name of a file that is made of a test's.
+LONGEST = 200
+MARKER = "dvb(stream, packets=, once=, seats=, tune=, adapters=, words=): what dvb_adapter plays, as dvbemu.serve takes it"
 
 
 def pytest_addoption(parser: pytest.Parser) -> None:
@@ -31,7 +35,7 @@ def pytest_addoption(parser: pytest.Parser) -> None:
 
 def pytest_configure(config: pytest.Config) -> None:
     """Names the marker."""
-    config.addinivalue_line("markers", "dvb(stream, packets=, once=, seats=, tune=, words=): what dvb_adapter plays, as dvbemu.serve takes it")
+    config.addinivalue_line("markers", MARKER)
 
 
 @pytest.fixture
@@ -45,6 +49,8 @@ def dvb_adapter(request: pytest.FixtureRequest) -> Iterator[Adapter]:
     streams = [os.path.join(folder, stream) for stream in marker.args]
     if "tune" in words:
         words["tune"] = {channel: os.path.join(folder, path) for channel, path in words["tune"].items()}
+    if "adapters" in words:
+        words["adapters"] = [os.path.join(folder, path) for path in words["adapters"]]
     with serve(*streams, **words) as adapter:
         request.node.stash[ADAPTER] = adapter
         yield adapter
@@ -56,22 +62,28 @@ def pytest_runtest_makereport(item: pytest.Item, call: pytest.CallInfo[None]) ->
     told = (yield).get_result()
     if call.when == "call" and told.failed and ADAPTER in item.stash:
         folder = os.path.abspath(item.config.getoption("--dvb-reports"))
-        told.sections.append(("dvb_adapter", kept(item.stash[ADAPTER], os.path.join(folder, f"{file_name(item.nodeid)}.report"))))
+        told.sections.append(("dvb_adapter", kept(item.stash[ADAPTER], os.path.join(folder, file_name(item.nodeid)))))
 
 
 def file_name(test: str) -> str:
     """The name of a test as that of a file."""
-    return re.sub(r"[^\w.-]+", "-", test).strip("-")
+    return re.sub(r"[^\w.-]+", "-", test).strip("-")[-LONGEST:]
 
 
 def kept(adapter: Adapter, path: str) -> str:
-    """Ends an adapter, keeps its report, and says in sentences what it has."""
+    """Ends an adapter, keeps its reports, and says in sentences what they have."""
     try:
         adapter.close()
         os.makedirs(os.path.dirname(path), exist_ok=True)
-        adapter.report.save(path)
-        lines = adapter.report.explain().rstrip("\n").split("\n")
+        ends = [".report"] if adapter.count == 1 else [f".{number}.report" for number in range(adapter.count)]
+        return "\n".join(kept_one(report, path + end) for report, end in zip(adapter.reports, ends))
     except (NoAdapter, Failed, OSError) as fault:
         return f"there is no report: {fault}"
+
+
+def kept_one(report: Report, path: str) -> str:
+    """Keeps a report, and says in sentences what it has."""
+    report.save(path)
+    lines = report.explain().rstrip("\n").split("\n")
     left = [f".. {len(lines) - SHOWN} lines more: dvbemu explain {path}"] if len(lines) > SHOWN else []
     return "\n".join([f"The report is kept: {path}", *lines[:SHOWN], *left])

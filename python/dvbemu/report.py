@@ -1,6 +1,6 @@
 """A report as typed objects: nodes with their entries, calls and replies, and what became of each command of the script.
 
-The text is read by the reader of the tools, tools/lib/reports.py, of which an installed module has a copy.
+The text is read by the reader of the tools, tools/lib/reports.py, of which a wheel has a copy.
 """
 from __future__ import annotations
 
@@ -18,9 +18,9 @@ __all__ = ["Call", "Done", "Busy", "Refused", "Data", "Again", "Overflow", "Time
 
 @dataclass(frozen=True)
 class Call:
-    """A call: `open`, `section`, `pes`, `start`, `read` or another first word of the report's acts. `arguments` has what stands behind
-    it by name, as `pid`, `flags`, `count` and the moment `at`, in milliseconds; `bytes` of a `section` are the filter, mask and mode
-    byte by their places."""
+    """A call: `open`, `section`, `pes`, `start`, `read` or another first word of the report's acts. `arguments` has what stands
+    behind it by name, as `pid`, `flags`, `count` and the moment `at`, in milliseconds; `bytes` of a `section` are the filter,
+    mask and mode byte by their places."""
 
     name: str
     arguments: Mapping[str, Any]
@@ -65,8 +65,8 @@ class Again:
 
 @dataclass(frozen=True)
 class Overflow:
-    """EOVERFLOW: the bytes of the capture from `span[0]` to `span[1]` are lost, since item number `item` needed more bytes than there was
-    room for."""
+    """EOVERFLOW: the bytes of the capture from `span[0]` to `span[1]` are lost, since item number `item` needed more bytes than
+    there was room for."""
 
     span: tuple[int, int]
     item: int
@@ -103,7 +103,8 @@ Reply = Union[Done, Busy, Refused, Data, Again, Overflow, TimedOut, Ready, Passe
 
 @dataclass(frozen=True)
 class Entry:
-    """A call with its reply, at its place on a node. `who` is `c0` to `c7`, or `feed` for the stream; `step` counts its caller's calls."""
+    """A call with its reply, at its place on a node. `who` is `c0` to `c7`, or `feed` for the stream; `step` counts its caller's
+    calls."""
 
     place: int
     who: str
@@ -166,7 +167,8 @@ class Node:
 
 @dataclass(frozen=True)
 class Report:
-    """A report. `text` is it as it was written; `clients` has the outcomes of each client, and `nodes` each node that one called."""
+    """A report. `text` is it as it was written; `clients` has the outcomes of each client, and `nodes` each node that
+    one called."""
 
     text: bytes = field(repr=False)
     packets: int
@@ -212,8 +214,8 @@ class Report:
         raise KeyError(f"line {line} has no command")
 
     def check(self, script: Any, *streams: Any, packet: int = 188) -> Any:
-        """Whether this is the report of a run of a session, as `dvbemu check` says, which is proved: a Verdict, true or false, with the
-        reason. The session is one file or its bytes, or a script and its streams, as for `steps`."""
+        """Whether this is the report of a run of a session, as `dvbemu check` says, which is proved: a Verdict, true or false,
+        with the reason. The session is one file or its bytes, or a script and its streams, as for `steps`."""
         from .program import check  # pylint: disable=import-outside-toplevel
 
         return check(self, script, *streams, packet=packet)

@@ -21,8 +21,8 @@ class Script:
         return "".join(line + "\n" for line in self._lines)
 
     def lines(self, text: str) -> Script:
-        """Adds lines as `dvbemu words` takes them: plain ones, and ones with names, as `c0 section demux0 0x10 0 CHECK_CRC table_id=0x40`.
-        Raises a ValueError, which names the line and the word, where it can't be read."""
+        """Adds lines as `dvbemu words` takes them: plain ones, and ones with names, as `c0 section demux0 0x10 0 CHECK_CRC
+        table_id=0x40`. Raises a ValueError, which names the line and the word, where it can't be read."""
         try:
             plain = _naming.plain_script(text.encode("utf-8", "surrogateescape")).decode("utf-8", "surrogateescape")
         except _naming.Fault as fault:
@@ -57,8 +57,8 @@ class Client:
         self.script, self.number = script, number
 
     def open(self, device: str) -> Device:
-        """open(): `demux0` to `demux31` is a node by its number, `dvr` or `dvr0` the dvr device, `h0` to `h31` the first demux node that is
-        free, as what a slot of this client holds from then on."""
+        """open(): `demux0` to `demux31` is a node by its number, `dvr` or `dvr0` the dvr device, `h0` to `h31` the first demux
+        node that is free, as what a slot of this client holds from then on."""
         found = Device(self, _target(device))
         found._call("open")
         return found
@@ -81,8 +81,8 @@ class Device:
         self, pid: int, filter: bytes = b"", mask: bytes = b"", mode: bytes = b"", *, timeout: int = 0,
         flags: Flag = DMX_CHECK_CRC | DMX_IMMEDIATE_START, **fields: int,
     ) -> None:  # fmt: skip
-        """DMX_SET_FILTER: the bytes of filter, mask and mode as in struct dmx_filter, up to 16 each, or fields of a section by their names,
-        as `table_id=0x42`; timeout in milliseconds, 0 for none."""
+        """DMX_SET_FILTER: the bytes of filter, mask and mode as in struct dmx_filter, up to 16 each, or fields of a section by
+        their names, as `table_id=0x42`; timeout in milliseconds, 0 for none."""
         if fields and (filter or mask or mode):
             raise ValueError("a filter is its bytes, or fields by their names")
         words = [f"{name}={value}" for name, value in fields.items()]

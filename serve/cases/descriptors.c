@@ -251,6 +251,33 @@ static void by_spawn(void)
 	want(is_pat(pat(0)), "and its parent has its own");
 }
 
+static void by_vfork(void)
+{
+	char *words[] = { "true", NULL };
+	int fd = pat(0), status = -1;
+	pid_t pid = vfork();
+	if (!pid) {
+		close(fd);
+		execvp("true", words);
+		_exit(9);
+	}
+	waitpid(pid, &status, 0);
+	want(status == 0 && is_pat(fd), "what a child of vfork closes is its parent's still");
+}
+
+static void by_system_and_popen(void)
+{
+	char script[80];
+	int all = recorder(O_RDONLY), fd = demux(0);
+	record_all(fd);
+	snprintf(script, sizeof script, "test $(head -c 18800 <&%d | wc -c) = 18800", all);
+	want(!system(script), "a program of system() reads it");
+	snprintf(script, sizeof script, "head -c 18800 <&%d", all);
+	FILE *read_by = popen(script, "r");
+	want(read_by && fread(bytes, PACKET, 101, read_by) == 100 && bytes[0] == 0x47 && !pclose(read_by), "and one of popen()");
+	want(read(all, bytes, PACKET) == PACKET && is_pat(pat(0)), "and their parent has its own");
+}
+
 static void other_programs_beside(void)
 {
 	int fd = pat(0);
@@ -290,4 +317,4 @@ const struct one descriptors[] = { CASE(doubled), CASE(moved_to_a_number), CASE(
 				   CASE(a_loop_of_closes), CASE(numbers_of_the_preload), CASE(closed_twice), CASE(few_descriptors),
 				   CASE(a_high_number), CASE(flags_of_descriptors), CASE(in_a_forked_child), CASE(in_a_daemon),
 				   ALONE(a_daemons_close_frees), CASE(by_exec), ALONE(by_the_shell), CASE(by_spawn),
-				   CASE(other_programs_beside), CASE(streams), CASE(what_a_device_has_not), { 0 } };
+				   CASE(by_vfork), CASE(by_system_and_popen), CASE(other_programs_beside), CASE(streams), CASE(what_a_device_has_not), { 0 } };

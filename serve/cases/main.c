@@ -1,6 +1,6 @@
 /*
- * Own calls on an adapter, as serve/check has them: cases [NAME ..], cases +lock for whether the frontend has one. Each case runs in a
- * process of its own, several side by side. The last line is `N passed, M failed`.
+ * Own calls on an adapter, as serve/check has them: cases [NAME ..], cases -NAME .. for all others, cases +lock for whether the frontend
+ * has one. Each case runs in a process of its own, several side by side. The last line is `N passed, M failed`.
  */
 #define _GNU_SOURCE
 #include <time.h>
@@ -152,9 +152,10 @@ static void run(const struct one *one)
 
 static int is_asked(const char *name, char **words)
 {
-	int is_any = !*words;
+	int leaves_out = *words && **words == '-', is_any = !*words || leaves_out;
 	for (; *words; words++)
-		is_any |= !strcmp(name, *words);
+		if (!strcmp(name, *words + leaves_out))
+			return !leaves_out;
 	return is_any;
 }
 

@@ -1,6 +1,7 @@
 /* The folder /dev/dvb: paths of it in each form, and what is told of them. */
 #define _GNU_SOURCE
 #include <dirent.h>
+#include <dlfcn.h>
 #include <limits.h>
 #include <sys/stat.h>
 #include <sys/sysmacros.h>
@@ -31,6 +32,16 @@ static void fstat_of_a_device(void)
 	struct stat told;
 	want(!fstat(demux(0), &told) && S_ISCHR(told.st_mode) && major(told.st_rdev) == 212, "fstat of a demux");
 	want(!fstat(open("/dev/null", O_RDONLY), &told) && major(told.st_rdev) == 1, "fstat of another");
+}
+
+static void stat_by_its_older_names(void)
+{
+	int (*by_path)(int, const char *, struct stat *) = (__typeof__(by_path))dlsym(RTLD_DEFAULT, "__xstat64");
+	int (*by_number)(int, int, struct stat *) = (__typeof__(by_number))dlsym(RTLD_DEFAULT, "__fxstat");
+	struct stat told;
+	want(by_path && !by_path(1, DEMUX, &told) && S_ISCHR(told.st_mode), "__xstat64 of demux0");
+	want(by_path(1, "/dev/dvb/adapter9", &told) && errno == ENOENT, "of adapter9");
+	want(by_number && !by_number(1, demux(0), &told) && S_ISCHR(told.st_mode), "__fxstat of a demux");
 }
 
 static void access_to_a_device(void)
@@ -134,6 +145,7 @@ static void other_files(void)
 	want(!chdir("/") && !access("etc", F_OK) && adapters_in(opendir("/tmp")) >= 0, "other folders too");
 }
 
-const struct one paths[] = { CASE(stat_of_a_device), CASE(statx_of_a_device), CASE(fstat_of_a_device), CASE(access_to_a_device),
+const struct one paths[] = { CASE(stat_of_a_device), CASE(statx_of_a_device), CASE(fstat_of_a_device),
+			     CASE(stat_by_its_older_names), CASE(access_to_a_device),
 			     CASE(folders_are_read), CASE(open_from_a_folder), CASE(open_from_the_working_folder), CASE(slashes_and_dots),
 			     CASE(links), CASE(real_paths), CASE(flags_of_open), CASE(other_files), { 0 } };

@@ -117,6 +117,13 @@ static void an_event(void)
 	want(!ioctl(fd, FE_GET_FRONTEND, &now) && now.frequency == FREQUENCY && now.u.ofdm.bandwidth == BANDWIDTH_7_MHZ, "FE_GET_FRONTEND");
 }
 
+static void an_old_event_is_not_told(void)
+{
+	struct dvb_frontend_event event;
+	close(tuned(0));
+	want(ioctl(tuner(O_RDWR | O_NONBLOCK), FE_GET_EVENT, &event) < 0 && errno == EAGAIN, "an event from before its open");
+}
+
 static void an_event_is_waited_for(void)
 {
 	int fd = tuner(O_RDWR);
@@ -134,6 +141,6 @@ static void what_a_frontend_has_not(void)
 	want(set(fd, DTV_MAX_COMMAND + 1, 0) < 0 && errno == EINVAL, "an unknown property is EINVAL");
 }
 
-const struct one tunings[] = { CASE(one_may_tune), CASE(who_looks_may_not_tune), CASE(another_process_sees_the_lock), CASE(statistics_agree),
-			       CASE(what_was_set_is_told), CASE(lists_of_properties), CASE(an_event), CASE(an_event_is_waited_for),
-			       CASE(what_a_frontend_has_not), { 0 } };
+const struct one tunings[] = { ALONE(one_may_tune), CASE(who_looks_may_not_tune), CASE(another_process_sees_the_lock), CASE(statistics_agree),
+			       CASE(what_was_set_is_told), CASE(lists_of_properties), CASE(an_event), CASE(an_old_event_is_not_told),
+			       CASE(an_event_is_waited_for), CASE(what_a_frontend_has_not), { 0 } };

@@ -35,6 +35,7 @@ class Browser:
         self.session = self.ask("Target.attachToTarget", targetId=target["targetId"], flatten=True)["sessionId"]
         for part in "Page", "Runtime", "Log", "Network":
             self.ask(f"{part}.enable")
+        self.ask("Performance.enable", timeDomain="threadTicks")
 
     def message(self):
         """The next message of the browser."""
@@ -87,6 +88,10 @@ class Browser:
         if "exceptionDetails" in told:
             raise ValueError(f"{expression}: {told['exceptionDetails']}")
         return told["result"].get("value")
+
+    def busy(self):
+        """How many seconds of a processor the page has taken to be there."""
+        return next(one["value"] for one in self.ask("Performance.getMetrics")["metrics"] if one["name"] == "TaskDuration")
 
     def mouse(self, kind, x, y, **given):
         """An event of the mouse."""

@@ -1,6 +1,6 @@
 """What is known of the filters and captures of a report, for tools/explain."""
 from fields import streams_in
-from walk import KEEP, ONESHOT
+from walk import KEEP, ONESHOT, Answered
 
 
 class Offered:
@@ -36,7 +36,7 @@ class Filter:
 
     def __init__(self, act, line, client):
         self.kind, self.pid, self.line, self.client = act["name"], act["pid"], line, client
-        self.output, self.timeout = act.get("output", ""), act.get("timeout", 0)
+        self.output = act.get("output", "")
         self.is_played = act.get("input") == "dvr"
         self.once = self.kind == "section" and bool(act["flags"] & ONESHOT)
         self.keeps = bool(act["flags"] & KEEP)
@@ -61,15 +61,16 @@ class Filter:
             offered.leave()
 
 
-class Capture:
-    """What is known of a capture: whose it is, the line that began it, how much of the stream had passed then, the moment from which its timeout may
-    be over, whether the stream had ended when it began, how many bytes and items were answered, and where in a section the reader stands.
+class Capture(Answered):
+    """What is known of a capture: whose it is, the line that began it, how much of the stream had passed then, whether the stream had ended
+    when it began, how many bytes and items were answered, and where in a section the reader stands.
     `clear` is how much of the stream had passed when all that had come was read, and `early` has the lines of the reads that found nothing
     before the first packet passed; it is None once something else is found, or a later read is made."""
 
-    def __init__(self, client, line, passed, due=None, is_late=False):
-        self.client, self.line, self.begin, self.due, self.is_late = client, line, passed, due, is_late
-        self.answered, self.items, self.polled = 0, 0, None
+    def __init__(self, client, line, passed, is_late):
+        super().__init__()
+        self.client, self.line, self.begin, self.is_late = client, line, passed, is_late
+        self.items, self.polled = 0, None
         self.have, self.digits, self.tail = 0, "", ""
         self.clear, self.early = passed, []
 
@@ -97,6 +98,6 @@ class Capture:
         self.tail = data[-6:]
         return streams_in(bytes.fromhex(data))
 
-    def skip_to(self, answered):
-        """Takes an Overflow, behind which an item begins."""
-        self.answered, self.have, self.digits, self.tail = answered, 0, "", ""
+    def skip_to(self, after):
+        super().skip_to(after)
+        self.have, self.digits, self.tail = 0, "", ""

@@ -3,7 +3,10 @@ from bisect import bisect_right
 from typing import NamedTuple
 
 from fields import NAMES, head_of
+from reports import DVR
 from tables import read
+
+PACKET = 188
 
 
 class Call:
@@ -34,6 +37,21 @@ class Lost(NamedTuple):
     sections: int | None
     first: int
     after: int
+
+
+def lost_by(node, reply):
+    """What is known of the span of an Overflow. Of whole packets each item is another one of those that have passed since the capture began;
+    what clients write has no place in the stream."""
+    is_whole = node.number == DVR or bool(node.filter) and node.filter.output == "tsdemux_tap"
+    is_section = bool(node.filter) and node.filter.kind == "section"
+    kept, (begin, after) = bool(node.filter and node.filter.keeps), reply["span"]
+    packets = -(-after // PACKET) - begin // PACKET if is_whole else None
+    read = reply["item"] if kept else node.capture.items if node.capture else 0
+    sections = max(1, reply["item"] + 1 - read) if is_section else None
+    if node.capture is None or node.filter and node.filter.is_played:
+        return Lost(kept, packets, sections, 0, 0)
+    least = node.capture.begin + begin // PACKET if is_whole else 0
+    return Lost(kept, packets, sections, max(node.capture.clear, least), node.passed)
 
 
 class Got:

@@ -2,6 +2,7 @@
 they say."""
 from typing import NamedTuple
 
+from fields import pid_text
 from letters import text_of
 
 NAMES = {
@@ -87,7 +88,7 @@ def counted(data, place):
 
 def ca(data):
     """CA: the system and the PID of its messages."""
-    return f"CA system 0x{number(data, 0, 2):04X} on PID {number(data, 2, 4) & 0x1FFF}"
+    return f"CA system 0x{number(data, 0, 2):04X} on PID {pid_text(number(data, 2, 4) & 0x1FFF)}"
 
 
 def languages(data):
@@ -145,9 +146,10 @@ def cable(data):
 
 
 def terrestrial(data):
-    """terrestrial_delivery_system: frequency and bandwidth."""
+    """terrestrial_delivery_system: frequency and bandwidth, of which four values are reserved."""
     number(data, 0, 11)
-    return f"terrestrial {number(data, 0, 4) * 10 / 1e6:g} MHz, {[8, 7, 6, 5, 0, 0, 0, 0][data[4] >> 5]} MHz wide"
+    bandwidth = data[4] >> 5
+    return f"terrestrial {number(data, 0, 4) * 10 / 1e6:g} MHz" + (f", {8 - bandwidth} MHz wide" if bandwidth < 4 else "")
 
 
 def local_times(data):

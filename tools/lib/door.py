@@ -1,15 +1,13 @@
 """The words of `dvbemu` that the program over standard input doesn't do: help, files, wrong words, and the tools.
 
-The wrapper `dvbemu` starts this where its words aren't just those of the proved program. `steps`, `run` and `check` with files give the
-program what the files hold, by its standard input: what it writes and its status are its own, but that `check` with files has the status
-1 where the answer is no, and that a file that can't be read to its end is told by its name, with the status 1. The other words are the
-tools beside this.
+The wrapper `dvbemu` starts this where its words aren't just those of the proved program, nor those of `steps` over small files. `steps`,
+`run` and `check` with files give the program what the files hold, by its standard input: what it writes and its status are its own, but
+that `check` with files has the status 1 where the answer is no, and that a file that can't be read to its end is told by its name, with
+the status 1. The other words are the tools beside this.
 """
 import os
 import signal
-import subprocess
 import sys
-import threading
 
 HERE = os.path.dirname(os.path.realpath(__file__))
 sys.path[0] = HERE
@@ -17,8 +15,12 @@ sys.dont_write_bytecode = True
 
 import tool  # noqa: E402
 import inputs  # noqa: E402
+import progress  # noqa: E402
+import spawned  # noqa: E402
 
 DVBEMU = os.path.join(tool.ROOT, "dvbemu")
+# The program's path, where the wrapper has seen that it is built.
+built = []
 BATCH, PACKET = "[--batch B]", "[--packet P]"
 # The words of the proved program: what stands behind each, and what it does.
 PROVED = {
@@ -95,14 +97,23 @@ def plain(word, given):
     return words
 
 
+def told_by_wrapper(word, tells):
+    """What the wrapper tells of the program's path; None where it fails."""
+    told, env = spawned.memory(), {**os.environ, "DVBEMU_TELL": tells}
+    ends = {0: os.open(os.devnull, os.O_RDONLY), 1: told}
+    status = spawned.ended(spawned.started([DVBEMU, word], ends, env))
+    os.close(ends[0])
+    text = spawned.bytes_of(told).decode().strip()
+    return None if status else text
+
+
 def program_for(word):
     """The program, which is proved or compiled where there is none; the wrapper where it can't be kept. None where that fails."""
+    if built:
+        return built[0]
     for _ in range(2):
-        ran = subprocess.run([DVBEMU, word], env={**os.environ, "DVBEMU_TELL": "1"}, stdin=subprocess.DEVNULL, stdout=subprocess.PIPE,
-                             check=False)  # fmt: skip
-        if ran.returncode:
-            return None
-        if path := ran.stdout.decode().strip():
+        path = told_by_wrapper(word, "1")
+        if path or path is None:
             return path
         if os.environ.get("DVBEMU_UNPROVED", "0") not in ("", "0"):
             break
@@ -111,9 +122,7 @@ def program_for(word):
 
 def built_program():
     """The program, where it is built, proved or in haste; else None."""
-    ran = subprocess.run([DVBEMU, "steps"], env={**os.environ, "DVBEMU_TELL": "built"}, stdin=subprocess.DEVNULL, capture_output=True,
-                         check=False)  # fmt: skip
-    return ran.stdout.decode().strip() or None
+    return built[0] if built else told_by_wrapper("steps", "built") or None
 
 
 class Run:
@@ -121,26 +130,22 @@ class Run:
     A signal that ends this ends the program first: it never takes what came till then for the whole."""
 
     def __init__(self, program, words, takes_output=False):
-        env = dict(os.environ)
-        if words[0] != "run":
-            env.setdefault("GLIBC_TUNABLES", "glibc.malloc.hugetlb=1")
-        self.child = subprocess.Popen([program, *words], stdin=subprocess.PIPE, stderr=subprocess.PIPE, env=env,
-                                      stdout=subprocess.PIPE if takes_output else None)  # fmt: skip
+        reader, self.input = os.pipe()
+        self.ends = {end: spawned.memory() for end in ((1, 2) if takes_output else (2,))}
+        self.child = spawned.started([program, *words], {0: reader, **self.ends}, spawned.environment(words[0]))
+        os.close(reader)
         for number in signal.SIGINT, signal.SIGTERM, signal.SIGHUP:
             signal.signal(number, self.end)
         self.output, self.told = b"", b""
-        self.readers = [threading.Thread(target=self.take, args=("told", self.child.stderr), daemon=True)]
-        if takes_output:
-            self.readers.append(threading.Thread(target=self.take, args=("output", self.child.stdout), daemon=True))
-        for thread in self.readers:
-            thread.start()
 
-    def take(self, name, pipe):
-        setattr(self, name, pipe.read())
+    def kill(self):
+        """Ends the program, where that runs."""
+        if self.child:
+            os.kill(self.child, signal.SIGKILL)
 
     def end(self, number, _frame):
         """Ends the program, and then this."""
-        self.child.kill()
+        self.kill()
         signal.signal(number, signal.SIG_DFL)
         os.kill(os.getpid(), number)
 
@@ -149,25 +154,20 @@ class Run:
         signal.signal(signal.SIGPIPE, signal.SIG_IGN)
         try:
             for piece in pieces:
-                self.give(piece)
-            self.child.stdin.close()
+                spawned.write(self.input, piece)
         except BrokenPipeError:
             # (a script with a fault isn't read to its end)
             pass
-        except inputs.Broken:
-            self.child.kill()
+        except BaseException:
+            self.kill()
             raise
         finally:
-            for thread in self.readers:
-                thread.join()
-            self.child.wait()
+            os.close(self.input)
+            status = spawned.ended(self.child)
+            self.child = None
             signal.signal(signal.SIGPIPE, signal.SIG_DFL)
-        return self.child.returncode
-
-    def give(self, piece):
-        rest = memoryview(piece)
-        while rest:
-            rest = rest[os.write(self.child.stdin.fileno(), rest):]
+        self.told, self.output = (spawned.bytes_of(self.ends[end]) if end in self.ends else b"" for end in (2, 1))
+        return status
 
 
 def started(words, takes_output=False):
@@ -193,24 +193,32 @@ def over_files(words, given, word):
         files = inputs.opened(given.files)
         if any(file.is_terminal for file in files):
             words.tell_waiting()
-        run = started(plain(word, given))
-        status = run.feed(kept_head(inputs.session_pieces(files), kept))
+        run, work = started(plain(word, given)), progress.Work(files, "")
+        progress.show_beside(words.teller, work.text)
+        status = run.feed(kept_head(inputs.session_pieces(files), kept, work))
     except inputs.Broken as fault:
         return words.fail(fault)
+    progress.end()
     sys.stderr.buffer.write(run.told)
     sys.stderr.flush()
-    if status == 3:
-        import faulty  # pylint: disable=import-outside-toplevel
-        sys.stderr.write(faulty.hint(run.told.decode(errors="replace"), kept[0], given.files))
+    tell_more(status, run, kept[0], given.files)
     return ended(status)
 
 
-def kept_head(pieces, kept):
-    """The pieces; the first of them is kept."""
+def tell_more(status, run, script, names):
+    """What a script's fault may be about, behind the program's lines."""
+    if status == 3:
+        import faulty  # pylint: disable=import-outside-toplevel
+        sys.stderr.write(faulty.hint(run.told.decode(errors="replace"), script, names))
+
+
+def kept_head(pieces, kept, work):
+    """The pieces; the first of them is kept, and behind the last one the report is written."""
     for piece in pieces:
         if not kept:
             kept.append(piece)
         yield piece
+    work.begin("writing the report")
 
 
 def check_files(words, given):
@@ -221,18 +229,30 @@ def check_files(words, given):
         report, *session = inputs.opened(given.files)
         if report.is_terminal or any(file.is_terminal for file in session):
             words.tell_waiting()
+        work = progress.Work([report, *session], "checking")
+        progress.show(words.teller, work.text)
         text, behind = report.whole(), b"".join(inputs.session_pieces(session))
+        progress.end()
         run = started(plain("check", given), True)
+        work.begin("checking")
+        progress.show(words.teller, work.text)
         status = run.feed([b"report %d\n" % len(text), text, behind])
     except inputs.Broken as fault:
         return words.fail(fault)
+    progress.end()
     sys.stdout.buffer.write(run.output)
     sys.stdout.flush()
     if status or run.output != b"no\n":
         sys.stderr.buffer.write(run.told)
+        sys.stderr.flush()
+        tell_more(status, run, behind, given.files[1:])
         return ended(status)
     import reasons  # pylint: disable=import-outside-toplevel
-    print(f"dvbemu: {report.name}: {reasons.wrong(behind, text, given.packet or 188, run.told)}", file=sys.stderr)
+    work.begin(reasons.LOOKS)
+    progress.show(words.teller, work.text)
+    wrong = reasons.wrong(behind, text, given.packet or 188, run.told, work)
+    progress.end()
+    print(f"dvbemu: {report.name}: {wrong}", file=sys.stderr)
     return 1
 
 
@@ -261,9 +281,28 @@ def refuse(word):
     return 2
 
 
-def main(words):
-    """Does what the words ask for."""
+def run_tool(word, behind):
+    """Runs a tool: in this process, but for `serve`, which goes on for long and is known by its name."""
+    path = os.path.join(tool.ROOT, "tools", TOOLS[word][0])
+    if word == "serve":
+        # (Ctrl-C waits once more until Python is up)
+        signal.pthread_sigmask(signal.SIG_BLOCK, {signal.SIGINT})
+        os.execv(path, [path, *behind])
+    sys.argv, sys.path[0] = [path, *behind], os.path.dirname(path)
+    # (to the tool this is the module `door`, which knows whether the program is built)
+    sys.modules["door"] = sys.modules[__name__]
+    with open(path, "rb") as file:
+        code = compile(file.read(), path, "exec")
+    exec(code, {"__name__": "__main__", "__file__": path})  # pylint: disable=exec-used
+    return 0
+
+
+def main(program, *words):
+    """Does what the words ask for. The wrapper names the program in front of them, where it has seen that this is built."""
+    built[:] = [program] if program else []
     word = words[0] if words else None
+    if word == "help" and words[1:]:
+        return main(program, words[1], "--help")
     if word in ("-h", "--help", "help"):
         sys.stdout.write(whole_help())
     elif word == "--version":
@@ -273,12 +312,11 @@ def main(words):
     elif word in TOOLS and words[1:] == ["--version"]:
         print(tool.version())
     elif word in TOOLS:
-        path = os.path.join(tool.ROOT, "tools", TOOLS[word][0])
-        os.execv(path, [path, *words[1:]])
+        return run_tool(word, words[1:])
     else:
         return refuse(word)
     return 0
 
 
 if __name__ == "__main__":
-    sys.exit(main(sys.argv[1:]))
+    sys.exit(main(*sys.argv[1:]))

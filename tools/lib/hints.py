@@ -4,6 +4,7 @@ RULES has for each kind of stumble the heading or paragraph of docs/BEHAVIOUR.md
 for them.
 """
 from fields import as_hex, pid_text
+from refusals import LARGEST_SIZE
 from reports import DVR
 from sentences import NAMES, joined, lines_text, many, node_name, node_text, pids_text
 from walk import CRC
@@ -16,6 +17,7 @@ RULES = {
     "larger": ("The ledger", "A buffer of n bytes holds n - 1."),
     "first size": ("Calls", "makes the caller the owner, with a buffer size of 8192 and no filter"),
     "first size of dvr": ("The dvr node", "Done; the buffer size is 1,925,120"),
+    "overflow": ("The ledger", "From the first item that doesn't fit on, every item is lost to the reader until a read has answered Overflow"),
     "break of sections": ("Segments", "The end of a run ends the open segment, and a run begins with none."),
     "break of packets": ("Items of a PES filter", "Packets are taken as they are"),
     "duplicate of sections": ("Clean packets", "those that have a payload and error bit 0, without duplicates"),
@@ -43,13 +45,17 @@ RULES = {
 
 
 def size_words(stumble):
-    """The words of the two stumbles over a buffer's size."""
+    """The words of the stumbles over a buffer's size."""
     facts = stumble.facts
     if stumble.kind == "larger":
         item = f"item {facts['item']} has {many(facts['need'], 'byte')}, and the buffer size is {facts['size']}"
         return f"an Overflow that no reading in time avoids, only a greater size: {item}"
-    given = "which is the one that Open gives; SetSize takes others up to 16,777,216"
-    return f"an Overflow at the buffer size {facts['size']}, {given}"
+    held = f"; one of {facts['wanted']} would have held what came" if 0 < facts["wanted"] <= LARGEST_SIZE else ""
+    if stumble.kind == "first size":
+        given = f"which is the one that Open gives; SetSize takes others up to {LARGEST_SIZE:,}"
+        return f"an Overflow at the buffer size {facts['size']}, {given}{held}"
+    late = f"more came before the client read than the buffer size {facts['size']} has room for{held}"
+    return f"an Overflow: {late}{'' if facts['played'] else '; `dvbemu hint REPORT SESSION` tells which packets were lost, and when'}"
 
 
 def size_of_packets_words(facts):
@@ -57,7 +63,7 @@ def size_of_packets_words(facts):
     of = f"{many(facts['skipped'], 'byte')} were skipped at {many(facts['packets'], 'packet')}"
     if facts["size"] == 192:
         shown = f"{of}, as where packets take up 192 bytes of the stream, with a time stamp of 4 in front of each"
-        return f"{shown}: they are skipped, but where one has the byte 0x47; make packets of 188 of it before"
+        return f"{shown}: where a stamp has the byte 0x47, what follows is taken for a packet; take the stamps away before"
     if facts["size"] == 204:
         return f"{of}, as where packets take up 204 bytes of the stream: try `--packet 204`"
     return f"{of}, as where packets take up 188 bytes of the stream and are read as 204: try it without `--packet 204`"
@@ -125,7 +131,7 @@ def late_words(stumble):
     if stumble.kind == "late":
         return f"{none}; a `feed`, `readw` or `drain` before it has taken the stream to its end"
     clock = f"the moments begin at {facts['moment']}, as those of `run` do, whose feeder waits for no client"
-    return f"{none}; {clock}: let tools/pace write the stream at its own pace, or try the filter with `steps`"
+    return f"{none}; {clock}: let `dvbemu pace` write the stream at its own pace, or try the filter with `steps`"
 
 
 def words(stumble):
@@ -139,7 +145,7 @@ def words(stumble):
         shown = f"though the stream has {many(facts['packets'], 'packet')} of its PID, {pid_text(facts['pid'])}"
         why = "they came before the capture or too late, or brought no section that is selected"
         return f"the section filter timed out, {shown}; {why}"
-    if stumble.kind in ("larger", "first size"):
+    if stumble.kind in ("larger", "first size", "overflow"):
         return size_words(stumble)
     if stumble.kind == "dropped":
         return f"{NAMES[facts['act']]} drops {many(facts['bytes'], 'byte')} that the client hadn't read"
@@ -184,7 +190,7 @@ def hint_text(stumble):
     if stumble.node is not None:
         where += f", {node_text(stumble.node)}"
     more = len(stumble.lines) - 1
-    first = ", at first" if more and stumble.kind in ("dropped", "larger", "first size", "part", "late", "late in run") else ""
+    first = ", at first" if more and stumble.kind in ("dropped", "larger", "first size", "overflow", "part", "late", "late in run") else ""
     return f"{where}{first}: {words(stumble)}."
 
 

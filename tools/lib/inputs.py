@@ -7,6 +7,11 @@ PIECE, SCRIPT = 1 << 20, 1 << 20
 LINE = b"stream\n"
 
 
+def many(count, one, more=None):
+    """A number of things: `1 read`, `2,000 reads`."""
+    return f"{count:,} {one if count == 1 else more or one + 's'}"
+
+
 class Broken(Exception):
     """A file that can't be read to its end: its name, and why."""
 
@@ -36,10 +41,10 @@ class Input:
         try:
             piece = os.read(self.file, most)
         except OSError as fault:
-            raise Broken(self.name, f"reading failed behind {self.taken:,} bytes: {fault.strerror}") from None
+            raise Broken(self.name, f"reading failed behind {many(self.taken, 'byte')}: {fault.strerror}") from None
         self.taken += len(piece)
         if not piece and self.size is not None and self.taken < self.size:
-            raise Broken(self.name, f"it ended behind {self.taken:,} of its {self.size:,} bytes")
+            raise Broken(self.name, f"it ended behind {self.taken:,} of its {many(self.size, 'byte')}")
         return piece
 
     def pieces(self):

@@ -268,7 +268,7 @@ BOXES = {
     "nostc": (f'fill="{YELLOW}" fill-opacity="0.5" stroke="{GREY}"', "system time counter that there is none of"),
 }
 NOTES = {
-    "size line": "Black line: the buffer's size; where it is dotted, the size is above the scale.",
+    "size line": "Line: the buffer's size; where it is dotted, the size is above the scale.",
     "perhaps": "A report doesn't tell how many bytes a batch brings, only, later, how many had come: where several batches may "
     "have brought them, they are drawn in full from the last of these on and pale from the first.",
     "sign": f"{SIGN} stands for a number that has no room; the mark's title has it.",

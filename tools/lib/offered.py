@@ -27,7 +27,8 @@ class Lost(NamedTuple):
 
 
 class Used(NamedTuple):
-    """A filter that ran and gave nothing: whose, its line, its node, its set call, and the places of the packets that it was offered."""
+    """A filter that ran and gave nothing: whose, its line, its node, its set call, and the places of the packets that each of its captures
+    was offered."""
 
     client: int
     line: int
@@ -43,7 +44,7 @@ class Offered(Walk):
         super().__init__(number)
         self.story, self.packets, self.by_pid = story, packets, by_pid
         self.used, self.lost = [], []
-        self.places, self.all_places, self.gave, self.line, self.due = [], [], False, 0, None
+        self.places, self.all_places, self.gave, self.line = [], [], False, 0
         self.taps = {}
 
     def take(self, entry):
@@ -86,19 +87,18 @@ class Offered(Walk):
 
     def begin_capture(self, entry):
         """A capture is offered packets from here on."""
-        timeout = (self.filter or {}).get("timeout")
-        self.places, self.due = [], reports.moment(entry) + timeout if timeout else None
+        self.places = []
 
     def end_capture(self, entry, reply):
         """A capture has ended."""
-        self.all_places += self.places
+        self.all_places.append(self.places)
         self.places = []
 
     def end_filter(self):
         """The filter's time is over."""
-        self.all_places += self.places
+        self.all_places.append(self.places)
         client = self.story.client_at(self.line)
-        if self.filter and self.all_places and not self.gave and self.filter["name"] == "section":
+        if self.filter and any(self.all_places) and not self.gave and self.filter["name"] == "section":
             self.used.append(Used(client, self.line, self.number, self.filter, self.all_places))
         self.filter, self.places, self.all_places = None, [], []
 

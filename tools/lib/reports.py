@@ -3,6 +3,7 @@
 The form is that of docs/BEHAVIOUR.md, 'The report'. Only the form is looked at: whether the replies are right is not.
 """
 import io
+import re
 from functools import lru_cache
 from typing import NamedTuple
 
@@ -14,12 +15,11 @@ HEX_DIGITS = b"0123456789abcdef"
 
 
 class NotAReport(Exception):
-    """A text that is no report: the number of the line, from 1, what was expected there, what was found, and whether all that is wrong
-    is where it stands."""
+    """A text that is no report: the number of the line, from 1, what was expected there, and what was found."""
 
-    def __init__(self, line, expected, found=None, misplaced=False):
+    def __init__(self, line, expected, found=None):
         super().__init__(f"line {line}: expected {expected}{'' if found is None else f', found {found}'}")
-        self.line, self.expected, self.found, self.misplaced = line, expected, found, misplaced
+        self.line, self.expected, self.found = line, expected, found
 
 
 class AnotherFormat(NotAReport):
@@ -74,15 +74,7 @@ class Report(NamedTuple):
 
 
 class Wrong(ValueError):
-    """A word or a group of words that isn't of its form; the text is what was expected."""
-
-    misplaced = False
-
-
-class Misplaced(Wrong):
-    """A line that is of its form and doesn't belong where it stands; the text is what was expected."""
-
-    misplaced = True
+    """A word or a group of words that isn't of its form, or stands in another place; the text is what was expected."""
 
 
 def number(word, most=2**64 - 1):
@@ -217,6 +209,8 @@ def readers_of(places):
 
 
 READERS = {places: readers_of(places) for places in [*ACTS.values(), *REPLIES.values()]}
+# The line of a batch, which most lines of a long report are.
+PASSED = re.compile(r"(N) feed (N) (pass input=frontend first=N count=N at=N) = passed".replace("N", r"(?:0|[1-9]\d{0,17})"), re.ASCII)
 
 
 def read_places(name, places, words):
@@ -353,14 +347,14 @@ class Lines:
         """Whether the line in hand begins with this."""
         return self.text is not None and self.text.startswith(beginning)
 
-    def wrong(self, what, misplaced=False):
+    def wrong(self, what):
         """The exception for the line in hand."""
-        return NotAReport(self.line, what, shown(self.text), misplaced)
+        return NotAReport(self.line, what, shown(self.text))
 
-    def want(self, holds, what, misplaced=False):
+    def want(self, holds, what):
         """Raises where it doesn't hold."""
         if not holds:
-            raise self.wrong(what, misplaced)
+            raise self.wrong(what)
 
 
 def head_of(lines):
@@ -422,6 +416,8 @@ def clients_of(lines):
 
 def entry_of(text, place):
     """The entry that a line is, at this place of its node."""
+    if (passed := PASSED.fullmatch(text)) and int(passed[1]) == place:
+        return Entry(place, "feed", int(passed[2]), passed[3], "passed")
     words = text.split(" ", 3)
     if len(words) < 4:
         raise Wrong(f"`{place} WHO STEP ACT = REPLY`")
@@ -438,7 +434,7 @@ def entry_of(text, place):
         raise Wrong(f"a reply to `{asked}`: " + ", ".join(answers))
     step = number(words[2])
     if number(words[0]) != place:
-        raise Misplaced(f"`{place} WHO STEP ACT = REPLY`")
+        raise Wrong(f"`{place} WHO STEP ACT = REPLY`")
     return Entry(place, words[1], step, act, reply)
 
 
@@ -457,9 +453,10 @@ def nodes_of(lines):
     while lines.starts("node "):
         name = lines.text[5:]
         node = DVR if name == "dvr" else number(name, DVR - 1)
-        lines.want(not found or node > max(found), f"a node behind {node_name(max(found, default=0))}", misplaced=True)
+        lines.want(not found or node > max(found), f"a node behind {node_name(max(found, default=0))}")
         lines.go_on()
-        found[node] = entries_of(lines)
+        entries = found[node] = entries_of(lines)
+        lines.want(any(entry.who != "feed" for entry in entries), f"`{len(entries)} WHO STEP ACT = REPLY` of a client")
     return found
 
 
@@ -472,7 +469,7 @@ def read(file):
         clients = clients_of(lines)
         nodes = nodes_of(lines)
     except Wrong as wrong:
-        raise lines.wrong(str(wrong), wrong.misplaced) from None
+        raise lines.wrong(str(wrong)) from None
     last = lines.text
     lines.want(last in ("end", "fault read"), what_follows(rows, clients, nodes))
     lines.go_on()

@@ -1,9 +1,10 @@
 """Calls and replies of a report in plain words, for tools/explain."""
+from clients import PACKET
 from fields import NAMES as FIELD_NAMES
 from fields import filter_texts, head_of, head_text, pid_name, pid_text, stream_text, table_text
+from inputs import many
 from refusals import ALL_PACKETS
 from reports import DVR, act_of, moment, node_name, reply_of
-from story import PACKET
 from tables import short_text, text_of
 from walk import FLAGS
 
@@ -30,11 +31,6 @@ def joined(parts):
     """A list in words: `a`, `a and b`, `a, b and c`."""
     parts = list(map(str, parts))
     return " and ".join([", ".join(parts[:-1]), parts[-1]] if len(parts) > 1 else parts)
-
-
-def many(count, one, more=None):
-    """A number of things: `1 read`, `2,000 reads`."""
-    return f"{count:,} {one if count == 1 else more or one + 's'}"
 
 
 def lines_text(lines):
@@ -72,7 +68,7 @@ def flags_text(flags):
 
 def section_text(act, on):
     """A SetFilter in words."""
-    timeout = f"timeout {act['timeout']}" if act["timeout"] else "no timeout"
+    timeout = f"timeout {act['timeout']} ms" if act["timeout"] else "no timeout"
     filtered = f"{pids_text([act['pid']])}, {', '.join(filter_texts(act['bytes'])) or 'every section'}"
     return f"sets a section filter on {on} ({filtered}, {timeout}, {flags_text(act['flags'])})"
 
@@ -85,7 +81,8 @@ def pes_text(act, on):
 
 def packets_text(act):
     """The packets that a client has written and passes, in words."""
-    return f"{many(act['count'], 'packet')} that it has written, from number {act['first']} on,"
+    first, last = act["first"], act["first"] + act["count"] - 1
+    return f"what it has written, {f'packet {first}' if first == last else f'packets {first} to {last}'},"
 
 
 def at_most_text(act):
@@ -112,7 +109,9 @@ def act_text(call):
         return f"attaches the tap of {node_name(act['node'])} to the dvr node ({pids_text(act['pids'])})"
     if call.act == "detach":
         return f"detaches the tap of {node_name(act['node'])} from the dvr node"
-    return {"open": "opens", "close": "closes", "start": "starts", "stop": "stops", "poll": "polls"}[call.act] + " " + on
+    if call.act == "poll":
+        return f"polls {on}" + (f", {call.reason}" if call.reply == "ready" and call.reason else "")
+    return {"open": "opens", "close": "closes", "start": "starts", "stop": "stops"}[call.act] + " " + on
 
 
 def moment_text(call):
@@ -164,6 +163,11 @@ def data_text(call):
     return text
 
 
+def expired_text(reply):
+    """The moments of a timeout."""
+    return f"started at moment {reply['started']} with a timeout of {reply['timeout']} ms, expired at {reply['now']}"
+
+
 def reply_text(call):
     """What a call was answered, in words."""
     reply = reply_of(call.entry)
@@ -177,9 +181,9 @@ def reply_text(call):
         return "Again, nothing is unread" + (" and the stream has ended" if reply["ended"] else "")
     if call.reply == "overflow":
         first, after = reply["span"]
-        return f"Overflow, {many(after - first, 'byte')} are lost"
+        return f"Overflow, {many(after - first, 'byte is', 'bytes are')} lost"
     if call.reply == "timedout":
-        return f"TimedOut, started at {reply['started']}, expired at {reply['now']}, timeout {reply['timeout']}"
+        return f"TimedOut, {expired_text(reply)}"
     if call.reply == "ready":
         return ready_text(reply)
     if call.reply == "passed":
@@ -200,7 +204,7 @@ def kind_of_reply(call):
     if call.reply == "data":
         return GIVEN if call.length() else "gave no bytes"
     if call.reply == "again":
-        return "found nothing and the stream had ended" if call.entry.reply.endswith("1") else "found nothing"
+        return "found nothing, as the stream had ended" if call.entry.reply.endswith("1") else "found nothing"
     if call.reply == "ready":
         if "error=none" not in call.entry.reply:
             return "told of an Overflow or a TimedOut"
@@ -226,8 +230,8 @@ def group_text(calls):
         given += call.length()
     on = node_text(first.node)
     asked = f"of {at_most_text(act_of(first.entry))} from {on}" if first.act == "read" else f"of {on}"
-    sums = {GIVEN: f" ({many(given, 'byte')} in all)"}
-    counts = [f"{count:,} {kind}{sums.get(kind, '')}" for kind, count in counted.items()]
+    summed = f" ({many(given, 'byte')}{' in all' if counted.get(GIVEN) != 1 else ''})"
+    counts = [f"{count:,} {kind}{summed if kind == GIVEN else ''}" for kind, count in counted.items()]
     return f"{many(len(calls), first.act)} {asked}: {joined(counts)}"
 
 
@@ -239,7 +243,7 @@ def calls_text(calls):
         return looks_text(calls)
     if len(calls) > 1 and all(call.act == "pass" for call in calls[1:]):
         passed = f"passes {packets_text(act_of(calls[1].entry))} to {node_name(calls[1].node)} to {node_name(calls[-1].node)}"
-        return f"{call_text(calls[0])}; {passed}{moment_text(calls[1])}"
+        return f"writes to the dvr device, so it {call_text(calls[0])}; {passed}{moment_text(calls[1])}"
     return "; ".join(map(call_text, calls))
 
 
@@ -368,22 +372,25 @@ def lost_text(line, call, span):
     head = f"line {line}, {node_text(call.node)}: {length}, {span[0]}..{span[1]} of the capture, "
     if call.reply != "overflow":
         return head + f"unread when {NAMES.get(call.act, call.act)} dropped them"
-    room = f"item {reply['item']} needs {reply['need']:,} and found room for {reply['room']:,}"
+    room = f"item {reply['item']}, counted from 0, needs {many(reply['need'], 'byte')} and found room for {reply['room']:,}"
     buffer = f"in a buffer of size {call.reason}, which holds {int(call.reason) - 1}"
     if call.lost.kept:
-        why = f"all items from {reply['item']} on until an Overflow told it, behind those that KEEP has kept"
+        why = f"all items from {reply['item']} on until a read told the Overflow, behind those that KEEP has kept"
     else:
         why = "all that was unread at an Overflow"
     return head + f"{lost_items(call.lost)}{why}: {room}, {buffer}"
 
 
 def lost_items(lost):
-    """How many packets or sections were lost, and which of the stream's packets brought them."""
+    """How many packets or sections were lost, and which of the stream's packets these are, or brought them."""
     of = f"{many(lost.packets, 'packet')}, " if lost.packets else f"at least {many(lost.sections, 'section')}, " if lost.sections else ""
-    if lost.after <= lost.first:
+    among = lost.after - lost.first
+    if among <= 0:
         return of
-    span = f"packet {lost.first}" if lost.after == lost.first + 1 else f"packets {lost.first} to {lost.after - 1}"
-    return f"{of}from the stream's {span}, "
+    span = f"packet {lost.first}" if among == 1 else f"packets {lost.first} to {lost.after - 1}"
+    if lost.packets:
+        return f"{of}{'' if lost.packets == among else 'among '}the stream's {span}, "
+    return f"{of}brought by {'' if among == 1 else 'packets among '}the stream's {span}, "
 
 
 def waits_text(number, waits):
@@ -401,10 +408,8 @@ def waits_text(number, waits):
 
 def timed_text(line, call, pid):
     """A TimedOut in words."""
-    reply = reply_of(call.entry)
     of = f" of {pids_text([pid])}" if pid is not None else ""
-    moments = f"started at {reply['started']} with timeout {reply['timeout']}, expired at {reply['now']}"
-    return f"line {line}, {node_text(call.node)}: the section filter{of}, {moments}"
+    return f"line {line}, {node_text(call.node)}: the section filter{of}, {expired_text(reply_of(call.entry))}"
 
 
 def refused_texts(refused):

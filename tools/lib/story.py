@@ -4,14 +4,14 @@ Nothing here works out a reply anew: what a node does is taken from its replies,
 accepted so far are kept beside them.
 """
 from captures import Capture, Filter
-from clients import Call, Client, Got, Lost, Waits
+from clients import PACKET, Call, Client, Got, Waits, lost_by
 from fields import as_hex, is_pes_head
 from refusals import ALL_PACKETS, refusal
-from reports import DVR, act_of, first_moment, moment, reply_of
+from reports import DVR, act_of, first_moment, reply_of
 from tables import carried_by
 from walk import Walk
 
-PACKET, MOST_READ_AS = 188, 4
+MOST_READ_AS = 4
 
 
 class Node(Walk):
@@ -26,11 +26,10 @@ class Node(Walk):
 
     def begin_capture(self, entry):
         """A capture begins; on a demux node the filter runs from here on."""
-        is_late, due = self.end is not None and not (self.filter and self.filter.is_played), None
+        is_late = self.end is not None and not (self.filter and self.filter.is_played)
         if self.filter:
             self.filter.started = True
-            due = moment(entry) + self.filter.timeout if self.filter.timeout else None
-        self.capture = Capture(int(entry.who[1]), self.story.line_of(entry), self.passed, due, is_late)
+        self.capture = Capture(int(entry.who[1]), self.story.line_of(entry), self.passed, is_late)
         if is_late:
             self.story.note_late(self, entry)
 
@@ -118,6 +117,7 @@ class Story:
         for client in self.clients.values():
             client.calls.sort(key=lambda call: call.entry.step)
             self.look_at_slots(client)
+            self.look_at_writes(client)
         self.tell_carried()
 
     def tell_carried(self):
@@ -154,6 +154,14 @@ class Story:
         for outcome in client.outcomes:
             if outcome.kind == "unbound":
                 self.stumble("unbound", client.number, None, outcome.line)
+
+    @staticmethod
+    def look_at_writes(client):
+        """Of a client that writes packets to the dvr device a poll of the dvr node alone may be a write too."""
+        if any(call.act == "pass" for call in client.calls):
+            for call, behind in zip(client.calls, [*client.calls[1:], None]):
+                if (call.node, call.act, call.reply) == (DVR, "poll", "ready") and not (behind and behind.act == "pass"):
+                    call.reason = "as a write does that completes no packet"
 
     def stumble(self, kind, client, node, line, subject=None, **facts):
         """Notes that a client stumbles at this line, on a node or none; what is the same but for the line is gathered."""
@@ -201,7 +209,7 @@ class Story:
         if node.taps and node.owner is None:
             node.free_packets += act["count"]
         if node.runs and node.capture and not node.filter.is_played:
-            if node.capture.due is None or act["at"] < node.capture.due:
+            if node.due is None or act["at"] < node.due:
                 node.filter.take(act, node.pids)
 
     def take_played(self, node, call):
@@ -238,7 +246,7 @@ class Story:
         """An Open, accepted or Busy."""
         if call.reply == "busy":
             owner = int(reply_of(call.entry)["owner"][1])
-            call.reason = "it is the owner itself" if owner == client.number else f"client {owner} is its owner"
+            call.reason = f"client {owner} itself is its owner" if owner == client.number else f"client {owner} is its owner"
             if owner != client.number:
                 node.busy[client.number] = line
             client.refused.append((line, call))
@@ -423,7 +431,7 @@ class Story:
         if capture is None:
             return
         before = capture.answered // PACKET
-        capture.answered += length
+        capture.give(length)
         if node.number == DVR or (node.filter and node.filter.output == "tsdemux_tap"):
             got.items += capture.answered // PACKET - before
         elif node.filter and node.filter.kind == "section":
@@ -466,23 +474,14 @@ class Story:
         reply = reply_of(call.entry)
         client.lost.append((line, call, reply["span"]))
         call.reason = str(node.size)
-        call.lost = self.lost_by(node, reply)
+        call.lost = lost_by(node, reply)
         if node.capture:
             node.capture.skip_to(reply["span"][1])
             node.capture.clear = node.passed
-        facts = {"item": reply["item"], "need": reply["need"], "size": node.size}
-        if node.size and reply["need"] > node.size - 1:
-            self.stumble("larger", client.number, node, line, **facts)
-        if node.size == node.first_size:
-            self.stumble("first size", client.number, node, line, **facts)
-
-    def lost_by(self, node, reply):
-        """What is known of the span of an Overflow."""
-        is_whole = node.number == DVR or bool(node.filter) and node.filter.output == "tsdemux_tap"
-        is_section = bool(node.filter) and node.filter.kind == "section"
-        kept, (begin, after) = bool(node.filter and node.filter.keeps), reply["span"]
-        packets = -(-after // PACKET) - begin // PACKET if is_whole else None
-        read = reply["item"] if kept else node.capture.items if node.capture else 0
-        sections = max(1, reply["item"] + 1 - read) if is_section else None
-        passed = (node.capture.clear, node.passed) if node.capture else (0, 0)
-        return Lost(kept, packets, sections, *passed)
+        wanted = 0 if call.lost.kept else reply["span"][1] - reply["span"][0] + 1
+        facts = {"item": reply["item"], "need": reply["need"], "size": node.size, "wanted": wanted,
+                 "played": bool(node.filter) and node.filter.is_played}  # fmt: skip
+        is_larger, is_first = bool(node.size) and reply["need"] > node.size - 1, node.size == node.first_size
+        for kind, holds in (("larger", is_larger), ("first size", is_first), ("overflow", not is_larger and not is_first)):
+            if holds:
+                self.stumble(kind, client.number, node, line, **facts)

@@ -261,8 +261,9 @@ def head_text(data, table):
         text += f", version {fields['version_number']}" + ("" if fields["current_next_indicator"] else ", which applies next")
     if fields.get("last_section_number") and data[0] not in (0x4E, 0x4F):
         text += f", section {fields['section_number']} of 0 to {fields['last_section_number']}"
-    if data[0] in (0x4E, 0x4F) and fields["section_number"] < 2:
-        text += (", the present event", ", the following event")[fields["section_number"]]
+    if READERS[data[0]][0] is eit:
+        which = ("present ", "following ")[fields["section_number"]] if data[0] < 0x50 and fields["section_number"] < 2 else ""
+        text += f": no {which}event" if not table.parts else f", the {which}event" if which else ""
     return text + (f", PCR on PID {pid_text(fields['pcr_pid'])}" if "pcr_pid" in fields else "")
 
 

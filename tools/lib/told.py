@@ -57,7 +57,7 @@ def pid_row_text(row):
 
 def stream_lines(report):
     """What the stream was."""
-    head = f"{many(report.packets, 'packet')}, {many(report.skipped, 'skipped byte')}, a rest of {many(report.rest, 'byte')}."
+    head = f"{many(report.packets, 'packet')}, {many(report.skipped, 'byte')} skipped, {many(report.rest, 'byte')} left over at the end."
     lines = ["The stream", "", *wrapped(head, 2)]
     for row in report.pids:
         lines += wrapped(f"PID {pid_text(row.pid)}: {many(row.packets, 'packet')}, {pid_row_text(row)}.", 2)

@@ -5,13 +5,12 @@ where a word of the command line is wrong, and what its own help says beside the
 error, `dvbemu WORD: ..`. A reader that has seen enough ends it quietly, and so does Ctrl-C, which a shell sees as the status 130.
 """
 import argparse
-import difflib
 import os
 import re
 import signal
-import subprocess
 import sys
-import textwrap
+
+import progress
 
 ROOT = os.path.dirname(os.path.dirname(os.path.dirname(os.path.realpath(__file__))))
 PARTS = ("reads", "writes", "status", "example")
@@ -21,10 +20,13 @@ WIDTH = 120
 signal.signal(signal.SIGPIPE, signal.SIG_DFL)
 if signal.getsignal(signal.SIGINT) is signal.default_int_handler:
     signal.signal(signal.SIGINT, signal.SIG_DFL)
+# (a Ctrl-C that has come since the wrapper began ends it here)
+signal.pthread_sigmask(signal.SIG_UNBLOCK, {signal.SIGINT})
 
 
 def nearest(word, known):
     """Of the words that are known the one that a wrong word is like, as the end of a message; nothing where none is."""
+    import difflib  # pylint: disable=import-outside-toplevel
     found = difflib.get_close_matches(word, known, 1, 0.6)
     return f"; did you mean {found[0]}?" if found else ""
 
@@ -35,6 +37,7 @@ def version():
         number, proved = file.read().splitlines()[:2]
     commit = ""
     if os.path.exists(os.path.join(ROOT, ".git")):
+        import subprocess  # pylint: disable=import-outside-toplevel
         words = ["git", "-C", ROOT, "describe", "--always", "--dirty=, changed", "--exclude=*"]
         try:
             commit = subprocess.run(words, capture_output=True, text=True, check=False).stdout.strip()
@@ -63,12 +66,18 @@ class Command(argparse.ArgumentParser):
 
     def __init__(self, word, usage, about, teller=None, **told):
         self.teller = teller or f"dvbemu {word}"
-        rows = (textwrap.wrap(told[part], WIDTH - 9, break_on_hyphens=False) for part in PARTS)
-        epilog = "\n".join(f"{part:8} " + "\n         ".join(row) for part, row in zip(PARTS, rows))
-        super().__init__(prog=f"dvbemu {word}", usage=f"dvbemu {word} {usage}", description=about, epilog=epilog, add_help=False,
-                         formatter_class=Page, allow_abbrev=False)  # fmt: skip
+        self.told = told
+        super().__init__(prog=f"dvbemu {word}", usage=f"dvbemu {word} {usage}", description=about, add_help=False, formatter_class=Page,
+                         allow_abbrev=False)  # fmt: skip
         self.add_argument("-h", "--help", action="help", help="this text")
         self.add_argument("--version", action=Version, nargs=0, help="the version, its commit, and the toolchain that proved it")
+
+    def format_help(self):
+        """The help, with what is told at its end."""
+        import textwrap  # pylint: disable=import-outside-toplevel
+        rows = (textwrap.wrap(self.told[part], WIDTH - 9, break_on_hyphens=False) for part in PARTS)
+        self.epilog = "\n".join(f"{part:8} " + "\n         ".join(row) for part, row in zip(PARTS, rows))
+        return super().format_help()
 
     def options(self):
         """The options that the command knows."""
@@ -78,13 +87,14 @@ class Command(argparse.ArgumentParser):
         """The words of the command line. An option that isn't known is told before a word that is missing."""
         words = sys.argv[1:] if words is None else words
         takes = {name for action in self._actions if action.nargs is None for name in action.option_strings}
+        gathers = {name for action in self._actions if isinstance(action.default, list) for name in action.option_strings}
         runs = any(action.nargs == argparse.REMAINDER for action in self._actions)
         place, seen = 0, set()
         while place < len(words) and words[place] != "--" and not (runs and words[place][:1] != "-"):
             word, _, value = words[place].partition("=")
             if re.match("-[^0-9]", word) and word not in self.options():
                 self.error(f"unrecognized arguments: {word}")
-            if word in takes and word in seen:
+            if word in takes - gathers and word in seen:
                 self.error(f"{word} stands twice")
             seen.add(word)
             place += 2 if word in takes and not value else 1
@@ -103,7 +113,14 @@ class Command(argparse.ArgumentParser):
         if found := re.match(r"argument (\S+): invalid choice: '(.*)' \(choose from (.*)\)", text):
             known = re.findall(r"[\w-]+", found[3])
             return f"{found[1]} is one of {', '.join(known)}, and not {found[2]}{nearest(found[2], known)}"
+        if found := re.match(r"argument (\S+): not allowed with argument (\S+)", text):
+            return f"{found[1]} can't stand beside {found[2]}"
         return re.sub(r"^argument (\S+): ", r"\1: ", text)
+
+    def exit(self, status=0, message=None):
+        """Ends, behind a line of the message, where there is one."""
+        progress.end()
+        super().exit(status, message)
 
     def error(self, message):
         """Tells a wrong word, and how the command is used; the status is 2."""

@@ -10,7 +10,7 @@ from typing import NamedTuple
 
 import reports
 from fields import pid_name
-from walk import KEEP, Walk
+from walk import KEEP, Answered, Walk
 
 PACKET, ALL_PACKETS, MOST_NAMED = 188, 0x2000, 4
 
@@ -71,17 +71,17 @@ class Drop(NamedTuple):
     end: int
 
 
-class Capture:
+class Capture(Answered):
     """A capture: its first place and, where it has ended, the place of the call that ended it; `quiet` is where it takes no
     further packets, by a stop or a timeout; `labels` has what it takes from which place on, in words and in fewer; `keeps` says
-    that the filter was set with KEEP."""
+    that the filter was set with KEEP; `over` is the place where its timeout may be over."""
 
-    def __init__(self, begin, moment, words, kind, label, timeout):
+    def __init__(self, begin, words, kind, label):
+        super().__init__()
         self.begin, self.end, self.quiet, self.words, self.kind = begin, None, None, words, kind
         self.labels = [(begin, label)]
-        self.started, self.timeout = moment, timeout
-        self.due, self.expiry, self.losses = None, None, []
-        self.packets, self.told_packets, self.answered = 0, 0, 0
+        self.over, self.expiry, self.losses = None, None, []
+        self.packets, self.told_packets = 0, 0
         self.known, self.steps = [Known(begin, 0, 0)], [Step(begin, 0, 0, 0)]
         self.clear, self.pending, self.keeps = 0, None, False
 
@@ -146,9 +146,8 @@ class History(Walk):
     def note_moment(self, entry, act):
         """Notes the first entry at which the timeout may be over."""
         capture = self.capture
-        if capture.timeout and capture.due is None and capture.quiet is None:
-            if act["at"] >= capture.started + capture.timeout:
-                capture.due = entry.place
+        if self.due is not None and capture.over is None and capture.quiet is None and act["at"] >= self.due:
+            capture.over = entry.place
 
     def take_pass(self, entry, act):
         """A batch passes, of the stream or of what a client has written."""
@@ -167,11 +166,11 @@ class History(Walk):
         if name == "overflow":
             capture.know(entry.place, reply["span"][1])
             capture.lose(entry.place, reply)
-            capture.answered = reply["span"][1]
+            capture.skip_to(reply["span"][1])
         elif name == "timedout":
             self.expire(entry)
         elif name == "data":
-            capture.answered += reply["length"]
+            capture.give(reply["length"])
             if capture.kind != "section" and not capture.keeps and reply["length"] < act["count"]:
                 capture.know(entry.place, capture.answered)
         else:
@@ -197,18 +196,17 @@ class History(Walk):
         """The timeout is told here."""
         capture = self.capture
         if capture.expiry is None:
-            place = entry.place if capture.due is None else capture.due
+            place = entry.place if capture.over is None else capture.over
             capture.expiry = Expiry(place, entry.place)
             capture.quiet = capture.quiet or place
 
     def begin_capture(self, entry):
         """A capture begins: of the filter, or on the dvr node of what the taps name."""
-        kind, moment, timeout = "dvr", 0, 0
+        kind = "dvr"
         if self.number != reports.DVR:
             kind = self.filter["name"] if self.filter["name"] == "section" else self.filter["output"]
-            moment, timeout = reports.moment(entry), self.filter.get("timeout", 0)
         label = ("tapped packets", "tapped") if kind == "dvr" else pids_labels(self.pids)
-        self.capture = Capture(entry.place, moment, entry.act, kind, label, timeout)
+        self.capture = Capture(entry.place, entry.act, kind, label)
         self.capture.keeps = kind != "dvr" and bool(self.filter["flags"] & KEEP)
         self.captures.append(self.capture)
 

@@ -18,13 +18,30 @@ CRC, ONESHOT, IMMEDIATE, KEEP = 1, 2, 4, 256
 FLAGS = {CRC: "DMX_CHECK_CRC", ONESHOT: "DMX_ONESHOT", IMMEDIATE: "DMX_IMMEDIATE_START", KEEP: "KEEP"}
 
 
+class Answered:
+    """How many bytes of a capture are answered: given by reads, or named as lost by Overflows."""
+
+    def __init__(self):
+        self.answered = 0
+
+    def give(self, length):
+        """A read gives so many bytes."""
+        self.answered += length
+
+    def skip_to(self, after):
+        """An Overflow names the bytes up to here, behind which an item begins."""
+        self.answered = after
+
+
 class Walk:
     """A node behind some entries. What a filter and a capture are, and what happens where one begins or ends, is said by the
-    classes below this one; filter and capture are None where there is none."""
+    classes below this one; filter and capture are None where there is none. `due` is the moment from which the capture's timeout is over,
+    where nothing was selected before; None where it has none."""
 
     def __init__(self, number):
         self.number, self.node = number, second.Dvr() if number == DVR else second.Demux()
         self.filter, self.capture, self.first_size = None, None, None
+        self.timeout, self.due = 0, None
 
     @property
     def owner(self):
@@ -58,12 +75,14 @@ class Walk:
         if name in ("open", "close", "section", "pes") and was_set:
             self.end_filter()
         if name in ("section", "pes"):
+            self.timeout = act.get("timeout", 0)
             self.set_filter(entry, act)
         if name in ("add", "remove"):
             self.change_pids(entry, act)
         if name == "stop":
             self.stop(entry)
         if self.node.capture is not before and self.node.capture is not None:
+            self.due = moment(entry) + self.timeout if self.timeout else None
             self.begin_capture(entry)
 
     def begin_capture(self, entry):

@@ -1,14 +1,5 @@
 -- The kind of a node, by its number, and what its machine stands for.
-use Rattle.std.proofs.Common.{ℕ, ◌<◌, List, subst, sym, reverse}
-use Rattle.dmx_calls.specs.declared.limits.TheConstants.{DEMUX_NODES}
-use Rattle.dmx_calls.specs.History.{Entry}
-use Rattle.dmx_calls.specs.Rules.{Rules}
-use Rattle.dmx_calls.specs.Legal.{IsLegalFor}
-use Rattle.dmx_calls.proofs.Numbered.{demux_rules, dvr_rules}
-use Rattle.node_core.specs.Stands.{CoreValue, StandsFor}
-use Rattle.dvr_core.specs.Stands.{CoreValue as DvrValue, StandsFor as DvrStandsFor}
-use Rattle.adapter.specs.declared.boxed.Boxed.{Boxed}
-use Rattle.adapter.specs.Nodes.{IsLegalAt}
+use Rattle.adapter.proofs.Imports.{ℕ, ◌<◌, List, subst, sym, reverse, DEMUX_NODES, Entry, Rules, IsLegalFor, demux_rules, dvr_rules, CoreValue, StandsFor, DvrValue, DvrStandsFor, Boxed, IsLegalAt}
 
 -- some core, in its box, stands for the history, which has the oldest entry first
 abbrev pub DemuxStood : List Entry → Type 0

@@ -1,13 +1,5 @@
 -- Passes go to rows, the last first.
-use Rattle.std.proofs.Common.{◌≡◌, ℕ, ◌+◌, ◌<◌, ◌≤◌, List, [], ◌∷◌, ◌++◌, length, slice_get, set, Some, ap, sym, ◌∙◌, subst, arith, length-append, length-set}
-use mathlib.Core.Logic.{dite}
-use native.Mathlib.Decide.{ℕ_discrete}
-use Rattle.std.proofs.Common.{⊎_elim}
-use Rattle.std.proofs.lemmas.Option.{slice_get_within}
-use Rattle.atomic_table.specs.Seated.{TableId}
-use Rattle.node_lock.specs.declared.view.View.{View}
-use Rattle.node_lock.specs.Passes.{IsFresh, AreFresh}
-use Rattle.adapter.specs.Rows.{IsFreshRow, AreFreshRows, AllDealt}
+use Rattle.adapter.proofs.Imports.{◌≡◌, ℕ, ◌+◌, ◌<◌, ◌≤◌, List, [], ◌∷◌, ◌++◌, length, slice_get, set, Some, ap, sym, ◌∙◌, subst, arith, length-append, length-set, dite, ℕ_discrete, ⊎_elim, slice_get_within, TableId, View, IsFresh, AreFresh, IsFreshRow, AreFreshRows, AllDealt}
 use Rattle.adapter.proofs.Lists.{at_place, set_there, set_elsewhere, at_last, at_before, one_value, at_end}
 
 module _ {P V : Type 0} (items : V → List P) (old : List V) (passes : List P) where

@@ -1,16 +1,5 @@
 -- All callers' passes, from what is said of the callers.
-use Rattle.std.proofs.Common.{◌≡◌, ℕ, zero, suc, ◌<◌, List, [], ◌∷◌, ◌++◌, length, slice_get, Option, Some, None, inl, refl, ap, sym, ◌∙◌, subst, arith}
-use Rattle.std.proofs.lemmas.List.{map-append}
-use Rattle.std.specs.Option.{option_to_list}
-use Rattle.std.proofs.lemmas.Option.{slice_get_within}
-use Rattle.atomic_table.specs.Seated.{TableId}
-use Rattle.node_lock.specs.declared.view.View.{View}
-use Rattle.lemmas.specs.Lists.{Has}
-use Rattle.dmx_calls.specs.History.{Entry}
-use Rattle.node_lock.specs.Passes.{IsSamePass}
-use Rattle.adapter.specs.Rows.{Fits, AreSamePasses, SomeHas, AreAll, AreAllRows, column}
-use Rattle.adapter.specs.Callers.{Caller, IsSameCaller, SomeIs, AreAllCallers}
-use Rattle.adapter.specs.Ends.{rows_of}
+use Rattle.adapter.proofs.Imports.{◌≡◌, ℕ, zero, suc, ◌<◌, List, [], ◌∷◌, ◌++◌, length, slice_get, Option, Some, None, inl, refl, ap, sym, ◌∙◌, subst, arith, map-append, option_to_list, slice_get_within, TableId, View, Has, Entry, IsSamePass, Fits, AreSamePasses, SomeHas, AreAll, AreAllRows, column, Caller, IsSameCaller, SomeIs, AreAllCallers, rows_of}
 use Rattle.adapter.proofs.Lists.{at_place}
 use Rattle.adapter.proofs.Mine.{fits_same}
 

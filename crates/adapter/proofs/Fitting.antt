@@ -1,11 +1,5 @@
 -- A row of passes of which one is changed.
-use Rattle.std.proofs.Common.{◌≡◌, ℕ, List, slice_get, set, Some, ap, sym, ◌∙◌, length-set}
-use Rattle.std.proofs.lemmas.Option.{slice_get_within}
-use mathlib.Core.Logic.{dite}
-use native.Mathlib.Decide.{ℕ_discrete}
-use Rattle.atomic_table.specs.Seated.{TableId}
-use Rattle.node_lock.specs.declared.view.View.{View}
-use Rattle.adapter.specs.Rows.{Fits}
+use Rattle.adapter.proofs.Imports.{◌≡◌, ℕ, List, slice_get, set, Some, ap, sym, ◌∙◌, length-set, slice_get_within, dite, ℕ_discrete, TableId, View, Fits}
 use Rattle.adapter.proofs.Lists.{set_there, set_elsewhere, one_value}
 
 -- the pass in one place of a row is changed, and is still one of the lock there

@@ -1,17 +1,7 @@
 -- All callers' passes are joined, caller by caller.
-use Rattle.std.proofs.Common.{◌≡◌, ℕ, List, [], ◌∷◌, ◌++◌, length, slice_get, Some, ap, sym, ◌∙◌, arith, append_assoc}
-use Rattle.std.specs.Option.{option_to_list}
-use Rattle.atomic_table.specs.Seated.{TableId}
-use Rattle.node_lock.specs.declared.view.View.{View}
-use Rattle.std.proofs.lemmas.List.{map-append}
-use Rattle.std.proofs.lemmas.Option.{slice_get_within}
-use Rattle.dmx_calls.specs.History.{Entry}
-use Rattle.adapter.specs.Callers.{Caller}
-use Rattle.adapter.specs.Ends.{rows_of}
-use Rattle.adapter.specs.Rows.{Fits}
+use Rattle.adapter.proofs.Imports.{◌≡◌, ℕ, List, [], ◌∷◌, ◌++◌, length, slice_get, Some, ap, sym, ◌∙◌, arith, append_assoc, option_to_list, TableId, View, map-append, slice_get_within, Entry, Caller, rows_of, Fits, AllJoin, column, AreAllRows, AreGathered}
 use Rattle.adapter.proofs.Lists.{at_place, at_last, at_before}
 use Rattle.adapter.proofs.Joins.{Joined, first_joined, next_joined, all_joined}
-use Rattle.adapter.specs.Rows.{AllJoin, column, AreAllRows, AreGathered}
 
 module _ {N : Type 0} where
   column_more : (i : ℕ) (hs : List (List (TableId × View N))) (h : List (TableId × View N)) (p : TableId × View N) → slice_get h i ≡ Some p → column i (hs ++ h ∷ []) ≡ column i hs ++ p ∷ []

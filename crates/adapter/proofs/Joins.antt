@@ -1,12 +1,5 @@
 -- Passes that are joined one after another.
-use Rattle.std.proofs.Common.{◌≡◌, ◌⊎◌, ℕ, ◌<◌, List, [], ◌∷◌, ◌++◌, length, slice_get, Some, inl, inr, ⊎_elim, refl, ap, sym, ◌∙◌, subst, append_assoc}
-use mathlib.Core.List.{IsPrefix}
-use Rattle.atomic_table.specs.Seated.{TableId}
-use Rattle.node_lock.specs.declared.view.View.{View}
-use Rattle.lemmas.specs.Lists.{Has}
-use Rattle.lemmas.proofs.Lists.{has_left, has_right}
-use Rattle.node_lock.proofs.Views.{prefix_trans}
-use Rattle.adapter.specs.Rows.{SomeHas, AreAll, all_calls, EachBegins}
+use Rattle.adapter.proofs.Imports.{◌≡◌, ◌⊎◌, ℕ, ◌<◌, List, [], ◌∷◌, ◌++◌, length, slice_get, Some, inl, inr, ⊎_elim, refl, ap, sym, ◌∙◌, subst, append_assoc, IsPrefix, TableId, View, Has, has_left, has_right, prefix_trans, SomeHas, AreAll, all_calls, EachBegins}
 use Rattle.adapter.proofs.Lists.{at_either, at_last, at_before}
 
 nothing_at : {A : Type 0} (i : ℕ) (a : A) → slice_get [] i ≡ Some a → ⊥

@@ -15,3 +15,4 @@ pub mod Everybody
 pub mod Pairs
 pub mod Dealing
 pub mod Standing
+pub mod Imports

@@ -1,22 +1,7 @@
 -- The nodes are looked at one after another.
-use Rattle.std.proofs.Common.{◌≡◌, ℕ, ◌+◌, ◌<◌, ◌≤◌, List, length, slice_get, slice_index, set, Some, ap, sym, ◌∙◌, subst, arith, length-set}
-use Rattle.std.proofs.lemmas.List.{get_or-set_same, get_or-set_other}
-use mathlib.Core.Logic.{dite}
-use native.Mathlib.Decide.{ℕ_discrete}
-use Rattle.atomic_table.specs.Seated.{TableId}
-use Rattle.node_lock.specs.declared.view.View.{View}
-use Rattle.node_lock.specs.Passes.{HasJust}
-use Rattle.lemmas.specs.Lists.{Has}
-use Rattle.node_lock.proofs.Views.{prefix_trans}
-use Rattle.dmx_calls.specs.declared.limits.TheConstants.{DEMUX_NODES}
-use Rattle.dmx_calls.specs.History.{Entry}
-use Rattle.adapter.specs.Rows.{Fits}
+use Rattle.adapter.proofs.Imports.{◌≡◌, ℕ, ◌+◌, ◌<◌, ◌≤◌, List, length, slice_get, slice_index, set, Some, ap, sym, ◌∙◌, subst, arith, length-set, get_or-set_same, get_or-set_other, dite, ℕ_discrete, TableId, View, HasJust, Has, prefix_trans, DEMUX_NODES, Entry, Fits, OneLook, OneLooks, column, IsGathered, AreGathered, IsLegalAt, caller_of, IsHistory, AreHistories}
 use Rattle.adapter.proofs.Lists.{set_elsewhere}
 use Rattle.adapter.proofs.Fitting.{fits_set}
-use Rattle.adapter.specs.Rows.{OneLook, OneLooks, column, IsGathered, AreGathered}
-use Rattle.adapter.specs.Nodes.{IsLegalAt}
-use Rattle.dmx_calls.specs.Entries.{caller_of}
-use Rattle.adapter.specs.Ends.{IsHistory, AreHistories}
 
 module _ (locks : List TableId) (rows : List (List (TableId × View Entry))) where
   pub record Looked (node : ℕ) (lengths : List ℕ) (now : List (TableId × View Entry)) : Type 0 where

@@ -1,16 +1,6 @@
 -- The passes of one caller of which one is changed: each is still the caller's, of its lock, and has a call left for each that
 -- the caller has.
-use Rattle.std.proofs.Common.{◌≡◌, ℕ, ◌-◌, ◌<◌, ◌≤◌, Bool, true, false, List, slice_get, slice_index, set, Some, refl, ap, sym, ◌∙◌, subst, arith, length-set}
-use Rattle.std.proofs.lemmas.Option.{slice_get_within}
-use mathlib.Core.Logic.{dite}
-use native.Mathlib.Decide.{ℕ_discrete}
-use Rattle.atomic_table.specs.Seated.{TableId}
-use Rattle.node_lock.specs.declared.view.View.{View}
-use Rattle.node_lock.specs.Passes.{IsSamePass}
-use Rattle.dmx_calls.specs.History.{Entry}
-use Rattle.dmx_calls.specs.Entries.{caller_of}
-use Rattle.adapter.specs.Rows.{Fits, MayCall, MayCallAt, AreSamePasses, OneMore, OneCalls, AllCall}
-use Rattle.adapter.specs.Inside.Held.{AreMine}
+use Rattle.adapter.proofs.Imports.{◌≡◌, ℕ, ◌-◌, ◌<◌, ◌≤◌, Bool, true, false, List, slice_get, slice_index, set, Some, refl, ap, sym, ◌∙◌, subst, arith, length-set, slice_get_within, dite, ℕ_discrete, TableId, View, IsSamePass, Entry, caller_of, Fits, MayCall, MayCallAt, AreSamePasses, OneMore, OneCalls, AllCall, AreMine}
 use Rattle.adapter.proofs.Lists.{at_place, set_there, set_elsewhere, one_value}
 
 module _ {N : Type 0} where

@@ -1,15 +1,6 @@
 -- The passes of the demux nodes and those of the dvr node go to the callers, the last caller first; then the clients are made,
 -- the first first.
-use Rattle.std.proofs.Common.{◌≡◌, ⊎_elim, ℕ, zero, suc, ◌+◌, ◌<◌, ◌≤◌, ◌^◌, List, [], ◌∷◌, ◌++◌, length, slice_get, Some, ap, sym, ◌∙◌, subst, arith, length-append}
-use Rattle.std.proofs.lemmas.Option.{slice_get_within}
-use Rattle.atomic_table.specs.Seated.{TableId}
-use Rattle.node_lock.specs.declared.view.View.{View}
-use Rattle.node_lock.specs.Passes.{AreFresh}
-use Rattle.dmx_calls.specs.History.{Entry}
-use Rattle.adapter.specs.Rows.{Fits, IsFreshRow}
-use Rattle.adapter.specs.Callers.{Caller, IsFreshCaller, AreFreshCallers, AreAllCallers, SomeIs}
-use Rattle.adapter.specs.Inside.Held.{AreMine}
-use Rattle.adapter.specs.Inside.Making.{AreLastFirst, AreFreshClients}
+use Rattle.adapter.proofs.Imports.{◌≡◌, ⊎_elim, ℕ, zero, suc, ◌+◌, ◌<◌, ◌≤◌, ◌^◌, List, [], ◌∷◌, ◌++◌, length, slice_get, Some, ap, sym, ◌∙◌, subst, arith, length-append, slice_get_within, TableId, View, AreFresh, Entry, Fits, IsFreshRow, Caller, IsFreshCaller, AreFreshCallers, AreAllCallers, SomeIs, AreMine, AreLastFirst, AreFreshClients}
 use Rattle.adapter.proofs.Lists.{at_place, at_last, at_before, at_end}
 use Rattle.adapter.proofs.Deals.{fresh_row}
 

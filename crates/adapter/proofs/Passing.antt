@@ -1,25 +1,7 @@
 -- A call is made on one node after another.
-use Rattle.std.proofs.Common.{◌≡◌, ℕ, ◌+◌, ◌<◌, ◌≤◌, Bool, true, false, List, [], ◌∷◌, ◌++◌, length, reverse, slice_get, slice_index, set, Some, ap, sym, ◌∙◌, subst, arith, length-set}
-use Rattle.std.proofs.lemmas.List.{get_or-set_same, get_or-set_other}
-use Rattle.std.proofs.lemmas.Option.{slice_get_within}
-use mathlib.Core.Logic.{dite}
-use native.Mathlib.Decide.{ℕ_discrete}
-use Rattle.atomic_table.specs.Seated.{TableId}
-use Rattle.node_lock.specs.declared.view.View.{View}
-use Rattle.dmx_calls.specs.declared.params.Input.{Input}
-use Rattle.dmx_calls.specs.declared.limits.TheConstants.{DEMUX_NODES}
-use Rattle.dmx_calls.specs.Invocation.{Pass, End}
-use Rattle.dmx_calls.specs.Response.{Response, Passed}
-use Rattle.dmx_calls.specs.History.{Entry, entry_of}
-use Rattle.dmx_calls.specs.Rules.{rules_at}
-use Rattle.dmx_calls.proofs.Lasts.{last_may}
-use Rattle.dmx_calls.proofs.Telling.{go_by}
-use Rattle.adapter.specs.Rows.{Fits, MayCall}
+use Rattle.adapter.proofs.Imports.{◌≡◌, ℕ, ◌+◌, ◌<◌, ◌≤◌, Bool, true, false, List, [], ◌∷◌, ◌++◌, length, reverse, slice_get, slice_index, set, Some, ap, sym, ◌∙◌, subst, arith, length-set, get_or-set_same, get_or-set_other, slice_get_within, dite, ℕ_discrete, TableId, View, Input, DEMUX_NODES, Pass, End, Response, Passed, Entry, entry_of, rules_at, last_may, go_by, Fits, MayCall, OneMore, OneCalls, AllCall, IsLegalAt, caller_of}
 use Rattle.adapter.proofs.Lists.{set_there, set_elsewhere, one_value}
 use Rattle.adapter.proofs.Fitting.{fits_set}
-use Rattle.adapter.specs.Rows.{OneMore, OneCalls, AllCall}
-use Rattle.adapter.specs.Nodes.{IsLegalAt}
-use Rattle.dmx_calls.specs.Entries.{caller_of}
 
 -- a legal history in which a Pass, or an End, comes last has the reply Passed there
 pub passes_at : (node : ℕ) (h : List Entry) (who : ℕ) (input : Input) (first : ℕ) (packets : List (List ℕ)) (now : ℕ) (r : Response) → IsLegalAt node (h ++ entry_of who (Pass input first packets now) r ∷ []) → r ≡ Passed

@@ -1,14 +1,6 @@
 -- A row of 33 is a row of 32 and one more.
-use Rattle.std.proofs.Common.{◌≡◌, ℕ, List, [], ◌∷◌, ◌++◌, length, slice_get, set, Some, ap, sym, ◌∙◌}
-use Rattle.std.proofs.lemmas.List.{set-append_left}
-use Rattle.std.proofs.Math.Seq.{set-append_seam}
-use Rattle.std.proofs.lemmas.Option.{slice_get_within}
-use Rattle.atomic_table.specs.Seated.{TableId}
-use Rattle.node_lock.specs.declared.view.View.{View}
-use Rattle.adapter.specs.Rows.{Fits}
+use Rattle.adapter.proofs.Imports.{◌≡◌, ℕ, List, [], ◌∷◌, ◌++◌, length, slice_get, set, Some, ap, sym, ◌∙◌, set-append_left, set-append_seam, slice_get_within, TableId, View, Fits, Held, OneMore, OneCalls, OneMiss, OneMisses, OneLook, OneLooks}
 use Rattle.adapter.proofs.Lists.{at_last, at_before}
-use Rattle.node_lock.specs.declared.lock.Held.{Held}
-use Rattle.adapter.specs.Rows.{OneMore, OneCalls, OneMiss, OneMisses, OneLook, OneLooks}
 
 module _ {N : Type 0} where
   pub fits_left : (ls : List TableId) (l : TableId) (ps : List (TableId × View N)) (p : TableId × View N) → length ps ≡ length ls → Fits (ls ++ l ∷ []) (ps ++ p ∷ []) → Fits ls ps

@@ -1,14 +1,7 @@
 -- Rows of passes that are joined place by place, the last place first.
-use Rattle.std.proofs.Common.{◌≡◌, ⊎_elim, ℕ, ◌+◌, ◌<◌, ◌≤◌, List, [], ◌∷◌, ◌++◌, length, slice_get, set, Some, ap, sym, ◌∙◌, subst, arith, length-append}
-use Rattle.std.proofs.lemmas.Option.{slice_get_within}
-use mathlib.Core.Logic.{dite}
-use native.Mathlib.Decide.{ℕ_discrete}
-use Rattle.atomic_table.specs.Seated.{TableId}
-use Rattle.node_lock.specs.declared.view.View.{View}
-use Rattle.adapter.specs.Rows.{Fits}
+use Rattle.adapter.proofs.Imports.{◌≡◌, ⊎_elim, ℕ, ◌+◌, ◌<◌, ◌≤◌, List, [], ◌∷◌, ◌++◌, length, slice_get, set, Some, ap, sym, ◌∙◌, subst, arith, length-append, slice_get_within, dite, ℕ_discrete, TableId, View, Fits, OneJoins, AllJoin}
 use Rattle.adapter.proofs.Lists.{set_there, set_elsewhere, at_last, at_before, one_value, at_end}
 use Rattle.adapter.proofs.Fitting.{fits_set}
-use Rattle.adapter.specs.Rows.{OneJoins, AllJoin}
 
 module _ {N : Type 0} (locks : List TableId) (old other : List (TableId × View N)) where
   -- the places from the end of `rest` on are joined, and the others are as they were

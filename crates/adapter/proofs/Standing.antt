@@ -1,12 +1,6 @@
 -- Entries in order of place, each place named once, are woven so that each stands at its place.
-use Rattle.std.proofs.Common.{ℕ, suc, ◌+◌, ◌<◌, ◌≤◌, ◌≡◌, refl, subst, Bool, true, false, List, [], ◌∷◌, length, map, nat_eq, nat_lt, if◌then◌else◌, All, arith}
+use Rattle.adapter.proofs.Imports.{ℕ, suc, ◌+◌, ◌<◌, ◌≤◌, ◌≡◌, refl, subst, Bool, true, false, List, [], ◌∷◌, length, map, nat_eq, nat_lt, if◌then◌else◌, All, arith, IsNonDecreasingBy, nat_tests, ToldEntry, told_entry, Act, feeder_entry, feeder_entries, before_entry, woven_from, AreInPlace}
 use Rattle.std.specs.List.{IsDistinct}
-use Rattle.std.specs.List.Sorted.{IsNonDecreasingBy}
-use Rattle.std.proofs.lemmas.Bool.Decides.{nat_tests}
-use Rattle.dmx_calls.specs.declared.log.Entry.{Entry as ToldEntry}
-use Rattle.dmx_calls.specs.Calls.{told_entry}
-use Rattle.dmx_calls.specs.declared.log.Act.{Act}
-use Rattle.dmx_calls.specs.Histories.{feeder_entry, feeder_entries, before_entry, woven_from, AreInPlace}
 
 -- the places rise, from this one on
 abbrev pub Ascends : (place : ℕ) → List ToldEntry → Type 0

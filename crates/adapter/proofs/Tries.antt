@@ -1,16 +1,5 @@
 -- What a try at a lock says of its pass, in the two records.
-use Rattle.std.proofs.Common.{◌≡◌, ℕ, ◌+◌, ◌-◌, ◌<◌, ◌≤◌, ◌^◌, List, [], ◌∷◌, ◌++◌, length, Some, true, false, sym, subst, arith}
-use Rattle.std.specs.Prelude.{Result, Ok, Err, IfOk, IfErr}
-use Rattle.std.specs.Result.{is_ok}
-use mathlib.Core.List.{IsPrefix}
-use Rattle.atomic_table.specs.Seated.{TableId}
-use Rattle.node_lock.specs.declared.lock.Held.{Held}
-use Rattle.node_lock.specs.declared.view.View.{View}
-use Rattle.node_lock.specs.Passes.{KnowsItsCalls, IsSamePass}
-use Rattle.dmx_calls.specs.History.{Entry}
-use Rattle.dmx_calls.specs.Entries.{caller_of}
-use Rattle.adapter.specs.Rows.{AreSamePasses, OneMore, OneCalls, OneMiss, OneMisses}
-use Rattle.adapter.specs.Inside.Held.{AreMine}
+use Rattle.adapter.proofs.Imports.{◌≡◌, ℕ, ◌+◌, ◌-◌, ◌<◌, ◌≤◌, ◌^◌, List, [], ◌∷◌, ◌++◌, length, Some, true, false, sym, subst, arith, Result, Ok, Err, IfOk, IfErr, is_ok, IsPrefix, TableId, Held, View, KnowsItsCalls, IsSamePass, Entry, caller_of, AreSamePasses, OneMore, OneCalls, OneMiss, OneMisses, AreMine}
 use Rattle.adapter.proofs.Mine.{mine_after, mine_set, by_me, same_after}
 
 module _ {C A N : Type 0} (who_of : N → ℕ) (stood : List N → Type 0) (entry : (ℕ × A) → N) (cost : (ℕ × A) → List N → Type 0) where

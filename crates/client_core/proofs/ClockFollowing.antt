@@ -1,12 +1,5 @@
 -- One stretch more is followed.
-use Rattle.std.proofs.Common.{◌≡◌, ℕ, ◌+◌, List, [], ◌∷◌, ◌++◌, Option, Some, None, take, drop, length, refl, sym, ap, ◌∙◌, subst}
-use Rattle.std.proofs.lemmas.List.{append_assoc}
-use Rattle.std.proofs.Math.Seq.{take-add}
-use Rattle.std.specs.Option.{option_or}
-use Rattle.ts_packet.specs.Cutting.{Cutting, fresh, Cuts}
-use Rattle.ts_packet.specs.declared.size.PacketSize.{PacketSize}
-use Rattle.ts_packet.specs.declared.size.PacketSize.TheVariants.{Of188}
-use Rattle.client_core.specs.Clock.{Clock, HasFollowed, last_pcr, pcr_of}
+use Rattle.client_core.proofs.Imports.{◌≡◌, ℕ, ◌+◌, List, [], ◌∷◌, ◌++◌, Option, Some, None, take, drop, length, refl, sym, ap, ◌∙◌, subst, append_assoc, take-add, option_or, Cutting, fresh, Cuts, PacketSize, Of188, Clock, HasFollowed, last_pcr, pcr_of}
 
 -- of three the first that there is
 pub or_or : (a b c : Option ℕ) → option_or (option_or a b) c ≡ option_or a (option_or b c)

@@ -1,15 +1,6 @@
 -- Where a command has ended, what stands behind it has not begun: its client waits for nothing.
-use Rattle.std.proofs.Common.{◌≡◌, refl, sym, ap, ◌∙◌, ℕ, Bool, true, false, nat_eq, List, [], ◌∷◌, ◌++◌, Some, None, arith}
-use Rattle.std.specs.Prelude.{if◌then◌else◌}
-use Rattle.std.proofs.lemmas.Option.{none-some}
-use Rattle.dmx_calls.specs.Response.{Response}
-use Rattle.client_script.specs.Script.{Scripted}
-use Rattle.client_core.specs.declared.command.Command.{Command}
-use Rattle.client_core.specs.declared.event.Event.{Event}
-use Rattle.client_core.specs.declared.task.Ending.{Ending}
-use Rattle.client_core.specs.Commands.{Slots, Doing, stands, through, done, commands_of}
-use Rattle.client_core.specs.Events.{slots_after, progress_from, progress, no_slots, next_of_line, standing_at, waits_after, waits_on}
-use Rattle.client_core.specs.Repeats.{repeats_in}
+use Rattle.client_core.proofs.Imports.{◌≡◌, refl, sym, ap, ◌∙◌, ℕ, Bool, true, false, nat_eq, List, [], ◌∷◌, ◌++◌, Some, None, arith, if◌then◌else◌, none-some, Response, Scripted, Command, Event, Ending, Slots, Doing, stands, through, done, commands_of, slots_after, progress_from, no_slots, next_of_line, standing_at, waits_after, waits_on, repeats_in}
+use Rattle.client_core.specs.Events.{progress}
 use Rattle.client_core.proofs.GoesOn.{progress_of, last_counts, waits_not}
 use Rattle.client_core.proofs.More.{IsFirst, done_none, Onward, done_on_more}
 

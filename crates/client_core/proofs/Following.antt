@@ -1,29 +1,6 @@
 -- What the clocks of a client have followed, and the outcomes that are by them.
-use Rattle.std.proofs.Common.{◌≡◌, ◌≢◌, ◌<◌, ◌≤◌, ◌⊎◌, nat_eq, inl, inr, refl, sym, ap, subst, ◌∙◌, ℕ, Bool, true, false, List, [], ◌∷◌, ◌++◌, Some, None, length, map, take, replicate, arith}
-use Rattle.std.specs.Prelude.{slice_get, slice_set, slice_index_or, if◌then◌else◌}
-use Rattle.std.specs.List.{All}
-use Rattle.std.specs.Option.{option_and_then}
-use Rattle.std.proofs.lemmas.List.{append_assoc, append-nil, take-append-le, length-set, get_or-set_same, get_or-set_other}
-use Rattle.std.proofs.lemmas.Bool.Decides.{nat_tests}
-use Rattle.std.proofs.lemmas.List.Elements.{All-nil, All-cons, All-head, All-tail, All-replicate, All-get_or}
-use Rattle.std.proofs.lemmas.Option.{slice_get-get_or}
-use Rattle.std.proofs.Math.Seq.{take-length}
-use Rattle.dmx_calls.specs.Response.{Response}
+use Rattle.client_core.proofs.Imports.{◌≡◌, ◌≢◌, ◌<◌, ◌≤◌, ◌⊎◌, nat_eq, inl, inr, refl, sym, ap, subst, ◌∙◌, ℕ, Bool, true, false, List, [], ◌∷◌, ◌++◌, Some, None, length, map, take, replicate, arith, slice_get, slice_set, slice_index_or, if◌then◌else◌, All, option_and_then, append_assoc, append-nil, take-append-le, length-set, get_or-set_same, get_or-set_other, nat_tests, All-nil, All-cons, All-head, All-tail, All-replicate, All-get_or, slice_get-get_or, take-length, Response, bytes_counted, unset, last_pcr, HasFollowed, Scripted, Deed, GetStc, Command, Ending, Made, Bound, AllBusy, NoNode, Asked, Ended, next_event, Exchange, bytes_after, bytes_read, type_after, with_reply, exchanges_after, exchanges, filter_type, is_counter, stc, Counters, stc_kind, kind_by, outcome_by, counters_after, outcome_of, NodeClock, uncalled, counter_of, counter_in, HasFollowedNode, HaveFollowed, AreFew, IsCallEnding, CanAsk, HasClock, CanBegin, IsLate}
 use Rattle.ts_packet.specs.Cut.{cut, cut_after}
-use Rattle.ts_packet.specs.Cutting.{bytes_counted}
-use Rattle.client_core.specs.Clock.{unset, last_pcr, HasFollowed}
-use Rattle.client_script.specs.Script.{Scripted}
-use Rattle.client_core.specs.declared.deed.Deed.{Deed}
-use Rattle.client_core.specs.declared.deed.Deed.TheVariants.{GetStc}
-use Rattle.client_core.specs.declared.command.Command.{Command}
-use Rattle.client_core.specs.declared.task.Ending.{Ending}
-use Rattle.client_core.specs.declared.task.Ending.TheVariants.{Made, Bound, AllBusy, NoNode, Asked}
-use Rattle.client_core.specs.Events.{Ended, next_event}
-use Rattle.client_core.specs.Stc.{Exchange, bytes_after, bytes_read, type_after, with_reply, exchanges_after, exchanges, filter_type, is_counter, stc}
-use Rattle.client_core.specs.Outcomes.{Counters, stc_kind, kind_by, outcome_by, counters_after, outcome_of}
-use Rattle.client_core.specs.Inside.Clocks.{NodeClock, uncalled, counter_of, counter_in, HasFollowedNode, HaveFollowed, AreFew}
-use Rattle.client_core.specs.Inside.Tasks.{IsCallEnding, CanAsk, HasClock}
-use Rattle.client_core.specs.Inside.Core.{CanBegin, IsLate}
 
 -- ------ exchanges
 

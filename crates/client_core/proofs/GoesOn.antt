@@ -1,28 +1,8 @@
 -- What beginning and ending a command leave as it was.
-use Rattle.std.proofs.Common.{◌≡◌, refl, sym, ap, subst, ◌∙◌, ℕ, ◌+◌, List, [], ◌∷◌, ◌++◌, map, length, Some, None, arith, ◌<◌, ◌≤◌, Bool, true, false, Option}
-use Rattle.std.specs.Prelude.{nat_lt, option_map, if◌then◌else◌}
-use Rattle.std.specs.List.{All}
-use Rattle.std.proofs.lemmas.List.{append_assoc, append-nil, length-append, map-append}
-use Rattle.std.proofs.lemmas.List.Elements.{All-append, All-weaker}
-use Rattle.std.proofs.lemmas.Bool.Decides.{nat_tests}
-use Rattle.dmx_calls.specs.Response.{Response, Again}
-use Rattle.client_core.specs.declared.command.Command.{Command}
-use Rattle.client_core.specs.declared.task.Ending.{Ending}
-use Rattle.client_core.specs.declared.task.Task.{Task}
-use Rattle.client_core.specs.Commands.{Doing, stands, through, Slots, done}
-use Rattle.client_core.specs.Events.{Standing, Ended, Progress, with_ended, slots_after, progress_from, progress, next_event, reading_on, waits_after, standing_at}
-use Rattle.client_core.specs.Stc.{with_reply, exchanges}
-use Rattle.client_core.specs.Outcomes.{outcome_by, outcome_of}
-use Rattle.client_core.specs.Inside.Clocks.{counter_in, HaveFollowed}
-use Rattle.client_core.specs.Inside.Tasks.{resumed, reading_in, IsTaskInRange}
-use Rattle.client_script.specs.Script.{Scripted}
-use Rattle.std.specs.Option.{IfSome, IfNone}
-use Rattle.client_core.specs.declared.event.Event.{Event}
-use Rattle.client_core.specs.declared.current.Current.{Current}
-use Rattle.client_core.specs.declared.task.Task.TheVariants.{Call, ReadWait, Drain, OpenFrom, Attach, Detach, Write, Play}
-use Rattle.client_core.specs.Inside.Core.{ahead, behind, coming_from, coming, Core, IsLate, IsAfter, HasTaken, next_of, waits_with}
+use Rattle.client_core.proofs.Imports.{◌≡◌, refl, sym, ap, subst, ◌∙◌, ℕ, ◌+◌, List, [], ◌∷◌, ◌++◌, map, length, Some, None, arith, ◌<◌, ◌≤◌, Bool, true, false, Option, nat_lt, option_map, if◌then◌else◌, All, append_assoc, append-nil, map-append, All-append, All-weaker, nat_tests, Response, Again, Command, Ending, Task, Doing, stands, through, Slots, done, Standing, Ended, Progress, with_ended, slots_after, progress_from, progress, next_event, reading_on, waits_after, standing_at, with_reply, exchanges, outcome_by, outcome_of, counter_in, HaveFollowed, resumed, reading_in, IsTaskInRange, Scripted, IfSome, IfNone, Event, Current, Call, OpenFrom, Play, ahead, behind, coming_from, coming, Core, IsLate, IsAfter, HasTaken, next_of, waits_with, none-some}
+use Rattle.std.proofs.lemmas.List.{length-append}
+use Rattle.client_core.specs.declared.task.Task.TheVariants.{ReadWait, Drain, Attach, Detach, Write}
 use Rattle.client_core.proofs.Following.{exchanges_more, early_same, told_now}
-use Rattle.std.proofs.lemmas.Option.{none-some}
 
 -- how far a client is whose next command does this
 abbrev pub progress_of : (slots : Slots) (step : ℕ) (c : Command) (cs : List Command) → Doing → Progress

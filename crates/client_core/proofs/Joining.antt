@@ -1,23 +1,9 @@
 -- How the batches of writes come from the bytes of all.
-use Rattle.std.proofs.Common.{◌≡◌, refl, sym, ap, subst, ◌∙◌, ℕ, zero, suc, ◌+◌, ◌-◌, ◌*◌, ◌<◌, ◌≤◌, List, [], ◌∷◌, ◌++◌, Option, Some, length, take, drop, inl, inr, arith, length-append, append_assoc, append-nil}
-use Rattle.std.specs.Prelude.{slice_get, All}
-use Rattle.std.specs.List.{flat_map}
-use Rattle.std.specs.Option.{IfSome}
-use Rattle.std.proofs.lemmas.List.Elements.{All-nil, All-cons, All-head, All-tail}
-use Rattle.std.proofs.lemmas.Bool.{cases_lt}
-use Rattle.std.proofs.lemmas.Grind.{flat_map-append}
-use Rattle.std.proofs.lemmas.List.{drop-drop, length-drop, length-take-le, take-append-drop}
-use Rattle.std.proofs.Math.Seq.{drop-append_seam, drop-append-add, take-append_seam, take-length}
-use Rattle.ts_packet.specs.Cut.{Cut, cut, cut_after, in_bytes, only_rest, join}
-use Rattle.ts_packet.specs.Cutting.{Cutting, Cuts, IsRest, fresh}
-use Rattle.ts_packet.specs.Fields.{IsPacket}
-use Rattle.ts_packet.specs.Pieces.{Piece, packet, skipped, IsPiece, bytes_of, packets_of}
-use Rattle.ts_packet.specs.declared.size.PacketSize.TheVariants.{Of188}
-use Rattle.ts_packet.proofs.CutLemmas.{cut-append, cut-rest, cut_after-is_rest, cut_after-size}
-use Rattle.ts_packet.proofs.PieceLemmas.{has-pieces}
-use Rattle.ts_batch.specs.Batch.{Packets}
-use Rattle.client_core.specs.Plays.{batch_of, plays_from, plays, joined, cut_of, Playing, unplayed, with_write, HasPlayed, most_bytes}
-use Rattle.client_core.specs.PlayLaws.{AreJoined, AreCounted, AreCompleted, AreFew, ArePlaced, IsPlayed, StandsAmong, packets_in, whole_by}
+use Rattle.client_core.proofs.Imports.{◌≡◌, refl, sym, ap, subst, ◌∙◌, ℕ, zero, suc, ◌+◌, ◌-◌, ◌*◌, ◌<◌, ◌≤◌, List, [], ◌∷◌, ◌++◌, Option, Some, length, take, drop, inl, inr, arith, length-append, slice_get, flat_map, IfSome, All-nil, All-cons, All-head, All-tail, cases_lt, flat_map-append, drop-drop, length-drop, length-take-le, take-append-drop, drop-append_seam, drop-append-add, take-append_seam, take-length, Cut, only_rest, join, Cutting, Cuts, IsRest, fresh, IsPacket, Piece, packet, skipped, IsPiece, bytes_of, packets_of, Of188, cut-append, cut-rest, cut_after-is_rest, cut_after-size, has-pieces, Packets, batch_of, plays_from, plays, joined, cut_of, Playing, unplayed, with_write, HasPlayed, most_bytes, AreJoined, AreCounted, AreCompleted, ArePlaced, IsPlayed, StandsAmong, packets_in, whole_by}
+use Rattle.std.proofs.Common.{append_assoc, append-nil}
+use Rattle.std.specs.Prelude.{All}
+use Rattle.ts_packet.specs.Cut.{cut, cut_after, in_bytes}
+use Rattle.client_core.specs.PlayLaws.{AreFew}
 
 -- ------ the cutting
 

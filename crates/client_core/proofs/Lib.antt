@@ -8,3 +8,4 @@ pub mod Playing
 pub mod Passing
 pub mod ClockFollowing
 pub mod Joining
+pub mod Imports

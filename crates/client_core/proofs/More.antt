@@ -1,28 +1,7 @@
 -- One reply more repeats at most one read more.
-use Rattle.std.proofs.Common.{◌≡◌, refl, sym, ap, subst, ◌∙◌, ℕ, ◌+◌, ◌<◌, ◌≤◌, Bool, true, false, List, [], ◌∷◌, ◌++◌, Option, Some, None, arith}
-use Rattle.std.specs.Prelude.{nat_lt, if◌then◌else◌, slice_index_or, option_map}
-use Rattle.dmx_calls.specs.declared.limits.TheConstants.{DEMUX_NODES}
-use Rattle.dmx_calls.specs.declared.reply.Tap.TheVariants.{Keep as KeepTap, Attach as AttachTap, Detach as DetachTap}
-use Rattle.dmx_calls.specs.Response.{Response, Done, Busy, Again, Ready, TapChange}
-use Rattle.client_script.specs.declared.line.Target.{Target}
-use Rattle.client_script.specs.declared.line.Target.TheVariants.{Node, Slot, Dvr}
-use Rattle.client_core.specs.declared.deed.Deed.{Deed}
-use Rattle.client_core.specs.declared.deed.Deed.TheVariants.{Once, ReadWait, Drain, GetStc, Write}
-use Rattle.client_script.specs.declared.line.Want.{Want}
-use Rattle.client_script.specs.declared.line.Want.TheVariants.{Open}
-use Rattle.client_core.specs.declared.command.Command.{Command}
-use Rattle.client_core.specs.declared.event.Event.{Event}
-use Rattle.client_core.specs.declared.event.Request.{Request}
-use Rattle.client_core.specs.declared.event.Request.TheVariants.{Own}
-use Rattle.client_core.specs.declared.task.Ending.{Ending}
-use Rattle.client_core.specs.declared.task.Ending.TheVariants.{Made, Bound, AllBusy}
-use Rattle.client_core.specs.Commands.{Slots, Doing, stands, through, once, told, called, opened, passed, written, read_until, done_on, done_at, done_by_slot, done, ends_wait, ends_drain, commands_of}
-use Rattle.client_core.specs.Events.{Standing, slots_after, progress_from, progress, no_slots, reading_on, waits_after}
-use Rattle.client_core.specs.Repeats.{repeated, repeats_on, repeats_at, repeats_in, repeats_from, repeats}
-use Rattle.client_core.specs.Inside.Core.{waits_with}
-use Rattle.client_core.specs.Inside.More.{added_by, OneReplyMore}
-use Rattle.std.proofs.lemmas.Option.{none-some}
-use Rattle.lemmas.proofs.Options.{same_some}
+use Rattle.client_core.proofs.Imports.{◌≡◌, refl, sym, ap, subst, ◌∙◌, ℕ, ◌+◌, ◌<◌, ◌≤◌, Bool, true, false, List, [], ◌∷◌, ◌++◌, Option, Some, None, arith, nat_lt, if◌then◌else◌, slice_index_or, option_map, DEMUX_NODES, KeepTap, AttachTap, DetachTap, Response, Done, Busy, Again, Ready, TapChange, Target, Node, Slot, Dvr, Deed, Once, ReadWait, Drain, GetStc, Write, Want, Open, Command, Event, Request, Own, Ending, Made, Bound, AllBusy, Slots, Doing, stands, through, once, told, called, opened, passed, written, read_until, done_on, done_at, done_by_slot, done, ends_wait, ends_drain, commands_of, Standing, slots_after, progress_from, no_slots, reading_on, waits_after, repeated, repeats_on, repeats_at, repeats_in, repeats_from, waits_with, added_by, OneReplyMore, none-some, same_some}
+use Rattle.client_core.specs.Events.{progress}
+use Rattle.client_core.specs.Repeats.{repeats}
 use Rattle.client_core.proofs.GoesOn.{progress_of, last_counts, waits_still}
 
 -- A command with one reply more: where it was through, it leaves this reply too. Where it stood, it stands at a later step, or is through, and then no read is repeated, as where what stands there is no read. So many reads are repeated before and after.

@@ -1,35 +1,6 @@
 -- A client's calls are numbered, and are made on one of the 33 nodes; a command that is through stays through.
-use Rattle.std.proofs.Common.{◌≡◌, refl, sym, ap, subst, ◌∙◌, ℕ, zero, suc, ◌+◌, ◌<◌, ◌≤◌, Bool, true, false, nat_eq, List, [], ◌∷◌, ◌++◌, Option, Some, None, length, replicate, arith}
-use Rattle.std.specs.Prelude.{nat_lt, if◌then◌else◌, slice_index_or}
-use Rattle.std.specs.Option.{IfSome}
-use Rattle.std.specs.List.{All}
-use Rattle.std.proofs.lemmas.List.Elements.{All-nil, All-cons, All-head, All-tail, All-set}
-use Rattle.std.proofs.lemmas.Bool.Decides.{nat_tests}
-use Rattle.dmx_calls.specs.declared.limits.TheConstants.{DEMUX_NODES}
-use Rattle.dmx_calls.specs.declared.reply.Tap.TheVariants.{Keep as KeepTap, Attach as AttachTap, Detach as DetachTap}
-use Rattle.dmx_calls.specs.Response.{Response, Done, Busy, Ready, TapChange}
-use Rattle.client_script.specs.Grammar.{IsTargetInRange, IsInRange}
-use Rattle.client_script.specs.Script.{Scripted}
-use Rattle.client_script.specs.declared.line.Line.{Line}
-use Rattle.client_script.specs.declared.line.Line.TheVariants.{Feed, Tick, Command as CommandLine}
-use Rattle.client_script.specs.declared.line.Target.{Target}
-use Rattle.client_script.specs.declared.line.Target.TheVariants.{Node, Slot, Dvr}
-use Rattle.client_core.specs.declared.deed.Deed.{Deed}
-use Rattle.client_core.specs.declared.deed.Deed.TheVariants.{Once, ReadWait, Drain, GetStc, Write}
-use Rattle.client_script.specs.declared.line.Want.{Want}
-use Rattle.client_script.specs.declared.line.Want.TheVariants.{Open}
-use Rattle.client_core.specs.declared.command.Command.{Command}
-use Rattle.client_core.specs.declared.event.Event.{Event}
-use Rattle.client_core.specs.declared.event.Request.{Request}
-use Rattle.client_core.specs.declared.task.Ending.{Ending}
-use Rattle.client_core.specs.declared.task.Ending.TheVariants.{Made, Bound, AllBusy, NoNode, Asked}
-use Rattle.client_core.specs.Commands.{Slots, Doing, stands, through, once, told, called, opened, passed, written, read_until, done_on, done_at, done_by_slot, done, ends_wait, ends_drain, commands_in, commands_among, commands_of, plays_of}
-use Rattle.client_core.specs.Deeds.{Batches, deed_of}
-use Rattle.client_core.specs.Events.{Standing, slots_after, progress_from, progress, no_slots, next_event, standing_at}
-use Rattle.client_core.specs.Inside.Tasks.{IsEndingInRange, AreSlots}
-use Rattle.client_core.specs.Repeats.{repeats_in}
-use Rattle.std.proofs.lemmas.Option.{none-some}
-use Rattle.lemmas.proofs.Options.{same_some}
+use Rattle.client_core.proofs.Imports.{◌≡◌, refl, sym, ap, subst, ◌∙◌, ℕ, zero, suc, ◌+◌, ◌<◌, ◌≤◌, Bool, true, false, nat_eq, List, [], ◌∷◌, ◌++◌, Option, Some, None, length, replicate, arith, nat_lt, if◌then◌else◌, slice_index_or, IfSome, All, All-nil, All-cons, All-head, All-tail, All-set, nat_tests, DEMUX_NODES, KeepTap, AttachTap, DetachTap, Response, Done, Busy, Ready, TapChange, IsTargetInRange, IsInRange, Scripted, Line, Feed, Tick, CommandLine, Target, Node, Slot, Dvr, Deed, Once, ReadWait, Drain, GetStc, Write, Want, Open, Command, Event, Request, Ending, Made, Bound, AllBusy, NoNode, Asked, Slots, Doing, stands, through, once, told, called, opened, passed, written, read_until, done_on, done_at, done_by_slot, done, ends_wait, ends_drain, commands_in, commands_among, commands_of, plays_of, Batches, deed_of, Standing, slots_after, progress_from, no_slots, next_event, standing_at, IsEndingInRange, AreSlots, repeats_in, none-some, same_some}
+use Rattle.client_core.specs.Events.{progress}
 use Rattle.client_core.proofs.GoesOn.{progress_of}
 use Rattle.client_core.proofs.More.{Onward, done_on_more, some_of}
 

@@ -1,29 +1,8 @@
 -- The batches of writes pass each demux node once.
-use Rattle.std.proofs.Common.{◌≡◌, ◌⊎◌, inl, inr, refl, sym, ap, subst, ◌∙◌, ℕ, ◌+◌, ◌<◌, ◌≤◌, Bool, true, false, List, [], ◌∷◌, ◌++◌, Option, Some, None, arith}
-use Rattle.std.specs.Prelude.{nat_lt, nat_eq, option_map, slice_index_or, if◌then◌else◌}
-use Rattle.std.proofs.lemmas.List.{append_assoc, append-nil}
-use Rattle.std.proofs.lemmas.Bool.Decides.{nat_tests}
-use Rattle.std.proofs.lemmas.Option.{none-some}
-use Rattle.dmx_calls.specs.declared.limits.TheConstants.{DEMUX_NODES}
-use Rattle.dmx_calls.specs.declared.reply.Tap.TheVariants.{Keep as KeepTap, Attach as AttachTap, Detach as DetachTap}
-use Rattle.dmx_calls.specs.Response.{Response, Done, Busy, Ready, TapChange}
-use Rattle.client_script.specs.Script.{Scripted}
-use Rattle.client_script.specs.declared.line.Target.{Target}
-use Rattle.client_script.specs.declared.line.Target.TheVariants.{Node, Slot, Dvr}
-use Rattle.client_script.specs.declared.line.Want.{Want}
-use Rattle.client_script.specs.declared.line.Want.TheVariants.{Open}
-use Rattle.client_core.specs.declared.deed.Deed.{Deed}
-use Rattle.client_core.specs.declared.deed.Deed.TheVariants.{Once, ReadWait, Drain, GetStc, Write}
-use Rattle.client_core.specs.declared.command.Command.{Command}
-use Rattle.client_core.specs.declared.event.Event.{Event}
-use Rattle.client_core.specs.declared.event.Request.{Request}
-use Rattle.client_core.specs.declared.event.Request.TheVariants.{Attach, Detach, Pass}
-use Rattle.client_core.specs.declared.task.Ending.{Ending}
-use Rattle.client_core.specs.declared.task.Ending.TheVariants.{Made, Bound, AllBusy, NoNode, Asked}
-use Rattle.client_core.specs.Commands.{Slots, Doing, stands, through, once, told, called, opened, passed, written, read_until, done_on, done_at, done_by_slot, done, ends_wait, ends_drain, commands_of}
-use Rattle.client_core.specs.Events.{Standing, Progress, slots_after, progress_from, progress, no_slots, next_event}
-use Rattle.client_core.specs.Stc.{Exchange, with_reply, exchanges_after, exchanges}
-use Rattle.client_core.specs.Passes.{pass_in, pass_at, passes_on, played_on, played_at, played_in, played_from, played_writes, WritesPass}
+use Rattle.client_core.proofs.Imports.{◌≡◌, ◌⊎◌, inl, inr, refl, sym, ap, subst, ◌∙◌, ℕ, ◌+◌, ◌<◌, ◌≤◌, Bool, true, false, List, [], ◌∷◌, ◌++◌, Option, Some, None, arith, nat_lt, option_map, slice_index_or, if◌then◌else◌, append_assoc, append-nil, nat_tests, none-some, DEMUX_NODES, KeepTap, AttachTap, DetachTap, Response, Done, Busy, Ready, TapChange, Scripted, Target, Node, Slot, Dvr, Want, Open, Deed, Once, ReadWait, Drain, GetStc, Write, Command, Event, Request, Attach, Detach, Pass, Ending, Made, Bound, AllBusy, NoNode, Asked, Slots, Doing, stands, through, once, told, called, opened, passed, written, read_until, done_on, done_at, done_by_slot, done, ends_wait, ends_drain, commands_of, Standing, Progress, slots_after, progress_from, no_slots, next_event, Exchange, with_reply, exchanges_after, exchanges, pass_in, pass_at, passes_on, played_on, played_at, played_in, played_from, WritesPass}
+use Rattle.std.specs.Prelude.{nat_eq}
+use Rattle.client_core.specs.Events.{progress}
+use Rattle.client_core.specs.Passes.{played_writes}
 use Rattle.client_core.proofs.GoesOn.{progress_of}
 
 -- ------ the passes of one command

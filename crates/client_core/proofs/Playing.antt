@@ -1,7 +1,5 @@
 -- A write that has a batch is one of the client's.
-use Rattle.std.proofs.Common.{ℕ, zero, suc, ◌<◌, List, [], ◌∷◌, length, arith}
-use Rattle.std.specs.Prelude.{IsSome}
-use Rattle.client_core.specs.Deeds.{Batches, batch_at}
+use Rattle.client_core.proofs.Imports.{ℕ, zero, suc, ◌<◌, List, [], ◌∷◌, length, arith, IsSome, Batches, batch_at}
 
 pub has_write : (batches : Batches) (write : ℕ) → IsSome (batch_at batches write) → write < length batches
 has_write [] write is = absurd (cc is)

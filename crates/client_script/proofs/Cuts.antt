@@ -1,11 +1,6 @@
 -- The first piece of a list, and the pieces behind it.
-use Rattle.std.proofs.Common.{◌≡◌, ◌<◌, ◌≤◌, ◌+◌, refl, ap, ◌∙◌, ℕ, Bool, true, false, cond, List, [], ◌∷◌, length, take, drop, Some, None, arith}
-use Rattle.std.proofs.lemmas.Bool.Decides.{nat_tests}
-use Rattle.std.proofs.lemmas.List.Elements.{All-nil, All-cons}
-use Rattle.std.proofs.lemmas.List.Splits.{slice_split_first, slice_split-cons_no, length-slice_split}
-use Rattle.std.specs.Prelude.{nat_lt, ◌==◌}
-use Rattle.std.specs.List.{All, slice_split, onto_first, position, position_or_len, count_by}
-use Rattle.client_script.specs.Script.{without_last, whole_lines}
+use Rattle.client_script.proofs.Imports.{◌≡◌, ◌<◌, ◌≤◌, ◌+◌, refl, ap, ◌∙◌, ℕ, Bool, true, false, cond, List, [], ◌∷◌, length, take, drop, arith, nat_tests, All-nil, All-cons, slice_split_first, slice_split-cons_no, length-slice_split, nat_lt, ◌==◌, All, slice_split, onto_first, position, position_or_len, count_by, without_last, whole_lines}
+use Rattle.std.proofs.Common.{Some, None}
 
 cut_below : (p : ℕ → Bool) (xs : List ℕ) (i : ℕ) (b : Bool) → nat_lt (position_or_len p xs) (length xs) ≡ b → cond b (Some (position_or_len p xs)) None ≡ Some i
     → slice_split p xs ≡ take i xs ∷ slice_split p (drop (i + 1) xs)

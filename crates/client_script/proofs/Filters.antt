@@ -1,13 +1,6 @@
 -- What the words that are still to come make of a filter.
-use Rattle.std.proofs.Common.{◌≡◌, refl, ℕ, suc, ◌+◌, List, [], ◌∷◌, fold}
-use Rattle.std.specs.Prelude.{Some, None, Ok, Err}
-use Rattle.filter_match.specs.declared.filter.SectionFilter.{SectionFilter}
-use Rattle.filter_match.specs.declared.filter.Place.{Place}
-use Rattle.filter_match.specs.Places.{with_place}
-use Rattle.client_script.specs.Words.{Reading, and_then, mapped}
-use Rattle.text_forms.specs.Places.{place_named}
+use Rattle.client_script.proofs.Imports.{◌≡◌, refl, ℕ, suc, ◌+◌, List, [], ◌∷◌, fold, Some, None, Ok, Err, SectionFilter, Place, with_place, Reading, and_then, mapped, place_named, Bytes}
 use Rattle.client_script.specs.Places.{places_in}
-use Rattle.client_script.specs.declared.fault.FaultKind.TheVariants.{Bytes}
 
 -- the filter with the places that at most `left` words at the front spell, with numbers from `least` on
 unfoldable pub filter_by : SectionFilter → (left least : ℕ) → List (List ℕ) → Reading SectionFilter

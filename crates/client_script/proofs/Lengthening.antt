@@ -1,11 +1,5 @@
 -- The line `stream` ends behind all bytes that don't hold it.
-use Rattle.std.proofs.Common.{◌≡◌, ◌<◌, ◌≤◌, ◌+◌, refl, sym, ap, ◌∙◌, ℕ, suc, Bool, true, false, List, [], ◌∷◌, ◌++◌, length, take, drop, append_assoc, arith, length-append, inl, inr}
-use Rattle.std.proofs.lemmas.Bool.{cases_lt}
-use Rattle.std.proofs.lemmas.List.{take-append-drop, take-append-le}
-use Rattle.std.proofs.Math.Seq.{take-append-add}
-use Rattle.std.specs.Prelude.{Option, Some, None, if◌then◌else◌}
-use Rattle.std.specs.Option.{option_map}
-use Rattle.client_script.specs.Script.{whole_lines, is_stream, script_len}
+use Rattle.client_script.proofs.Imports.{◌≡◌, ◌<◌, ◌≤◌, ◌+◌, refl, sym, ap, ◌∙◌, ℕ, suc, Bool, true, false, List, [], ◌∷◌, ◌++◌, length, take, drop, append_assoc, arith, length-append, inl, inr, cases_lt, take-append-drop, take-append-le, take-append-add, Option, Some, None, if◌then◌else◌, option_map, whole_lines, is_stream, script_len}
 use Rattle.client_script.proofs.Parting.{First, first}
 
 by_test : (line : List ℕ) (n : ℕ) (b : Bool) (r : Option ℕ) → (if b then Some (length line + 1) else option_map (λ n. length line + 1 + n) r) ≡ Some n → length line < n

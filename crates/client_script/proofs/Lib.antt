@@ -12,3 +12,4 @@ pub mod Spelled
 pub mod Splitting
 pub mod Taking
 pub mod Writing
+pub mod Imports

@@ -1,32 +1,6 @@
 -- The words of a line's spelling.
-use Rattle.std.proofs.Common.{◌≡◌, ◌<◌, ◌≤◌, refl, ap, ◌∙◌, ℕ, List, [], ◌∷◌, ◌++◌, false, codes, arith, append-nil}
-use Rattle.std.proofs.lemmas.Bool.Decides.{nat_tests}
-use Rattle.std.proofs.lemmas.List.Elements.{All-nil, All-cons, All-head, All-tail, All-append, All-weaker}
-use Rattle.std.proofs.lemmas.List.Splits.{slice_split_none, slice_split_at}
-use Rattle.std.specs.Prelude.{◌==◌}
-use Rattle.std.specs.List.{All, flat_map}
-use Rattle.std.specs.Fmt.{decimal}
-use Rattle.byteorder.specs.Endian.{big_bytes}
-use Rattle.dmx_abi.specs.Written.{number_of, argument_of}
-use Rattle.dmx_abi.specs.declared.request.Request.TheVariants.{GetStc as StcRequest}
-use Rattle.dmx_calls.specs.Names.{input_text, output_text}
-use Rattle.text_forms.specs.Hex.{hex_text}
-use Rattle.text_forms.specs.Names.{client_text}
-use Rattle.filter_match.specs.Places.{place_at}
-use Rattle.text_forms.specs.Places.{filter_words}
-use Rattle.text_forms.proofs.FiltersRead.{filter_text-words, filter_words-each}
-use Rattle.text_forms.proofs.Visible.{IsVisible, AreVisible, decimal-visible, behind-visible, place_text-visible, hex_text-visible, visible_by_test, input_text-visible, output_text-visible}
-use Rattle.client_script.specs.Words.{words_of}
-use Rattle.client_script.specs.Script.{written_by}
-use Rattle.client_script.specs.Grammar.{IsTargetInRange, IsVerbInRange, IsInRange}
-use Rattle.client_script.specs.Spelling.{want_text, name_text, target_text, number_text, section_text, pes_text, want_arguments_text, request_text, bytes_text, arguments_text, command_text, line_text}
-use Rattle.client_script.specs.declared.line.Verb.{Verb}
-use Rattle.client_script.specs.declared.line.Verb.TheVariants.{Once, ReadWait, Drain, GetStc, Write}
-use Rattle.client_script.specs.declared.line.Want.TheVariants.{Open, Close, Section, Pes, Add, Remove, Start, Stop, Size, Read, Poll}
-use Rattle.client_script.specs.declared.line.Target.{Target}
-use Rattle.client_script.specs.declared.line.Target.TheVariants.{Node, Slot, Dvr}
-use Rattle.client_script.specs.declared.line.Line.{Line}
-use Rattle.client_script.specs.declared.line.Line.TheVariants.{Feed, Tick, Command}
+use Rattle.client_script.proofs.Imports.{◌≡◌, ◌<◌, ◌≤◌, refl, ap, ◌∙◌, ℕ, List, [], ◌∷◌, ◌++◌, false, codes, arith, append-nil, nat_tests, All-nil, All-cons, All-head, All-tail, All-append, All-weaker, slice_split_none, slice_split_at, ◌==◌, All, flat_map, decimal, big_bytes, number_of, argument_of, StcRequest, input_text, output_text, hex_text, client_text, place_at, filter_words, filter_text-words, filter_words-each, IsVisible, AreVisible, decimal-visible, behind-visible, place_text-visible, hex_text-visible, visible_by_test, input_text-visible, output_text-visible, words_of, written_by, IsTargetInRange, IsVerbInRange, IsInRange, number_text, Verb, Once, ReadWait, Drain, GetStc, Write, Open, Close, Section, Pes, Add, Remove, Start, Stop, Size, Read, Poll, Target, Node, Slot, Dvr, Line, Feed, Tick, Command}
+use Rattle.client_script.specs.Spelling.{want_text, name_text, target_text, section_text, pes_text, want_arguments_text, request_text, bytes_text, arguments_text, command_text, line_text}
 
 -- words behind a first one, each behind a space
 abbrev pub behind : List (List ℕ) → List ℕ

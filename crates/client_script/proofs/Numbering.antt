@@ -1,38 +1,9 @@
 -- The lines of a client name its writes in their order, each once.
-use Rattle.std.proofs.Common.{◌≡◌, ◌≢◌, ◌<◌, ◌≤◌, ◌+◌, ◌⊎◌, inl, inr, refl, sym, ap, subst, ◌∙◌, ℕ, Bool, true, false, nat_eq, List, [], ◌∷◌, ◌++◌, length, map, codes, arith, length-append, append-nil}
-use Rattle.std.proofs.lemmas.Bool.{cases_eq, cases_lt, eq-eqb}
-use Rattle.std.proofs.lemmas.Bool.Decides.{nat_tests}
-use Rattle.std.proofs.lemmas.Grind.{flat_map-append}
-use Rattle.std.proofs.lemmas.List.{map-id, length-set, get_or-set_same, get_or-set_other, get_or_past, get_or-replicate}
-use Rattle.std.proofs.lemmas.List.FromFn.{map-range_with_len_more}
-use Rattle.std.specs.Prelude.{Option, Some, None, Result, Ok, Err, if◌then◌else◌, slice_index_or, slice_set, replicate}
-use Rattle.std.specs.List.{flat_map, range_with_len}
-use Rattle.std.specs.Option.{option_map}
-use Rattle.dmx_calls.specs.declared.limits.TheConstants.{LARGEST_READ}
-use Rattle.dmx_abi.specs.declared.request.Request.{Request}
+use Rattle.client_script.proofs.Imports.{◌≡◌, ◌≢◌, ◌<◌, ◌≤◌, ◌+◌, ◌⊎◌, inl, inr, refl, sym, ap, subst, ◌∙◌, ℕ, Bool, true, false, nat_eq, List, [], ◌∷◌, ◌++◌, length, map, codes, arith, length-append, append-nil, cases_eq, cases_lt, eq-eqb, nat_tests, flat_map-append, map-id, length-set, get_or-set_same, get_or-set_other, get_or_past, get_or-replicate, map-range_with_len_more, Option, Some, None, Result, Ok, Err, if◌then◌else◌, slice_index_or, slice_set, replicate, flat_map, range_with_len, option_map, LARGEST_READ, Request, is_word, client_named, Reading, and_then, mapped, or_fault, next_as, word_in, words_of, want_of, verb_of, request_number_in, request_in, written_named, number_in, pid_in, count_in, target_of, name_of, section_in, pes_in, dvr_named, whole, alone, is_passed_over, some_said, IsPlainVerb, IsPlain, AreNumbered, Parsed, Scripted, plain, no_writes, with_said, with_write, writes_of, named_by, named_in, named_among, whole_lines, is_stream, FaultKind, Client, NoCommand, NoTarget, Name, Bytes, ScriptFault, CommandName, OpenName, CloseName, SectionName, PesName, AddName, RemoveName, StartName, StopName, SizeName, ReadName, ReadWaitName, DrainName, PollName, IoctlName, Said, Asks, Writes, Verb, Once, ReadWait, Drain, GetStc, Write, Want, Add, Remove, Size, Read, Target, Dvr, Line, Feed, Tick, Command}
 use Rattle.dmx_abi.specs.declared.request.Request.TheVariants as request
-use Rattle.text_forms.specs.Words.{is_word}
-use Rattle.text_forms.specs.Names.{client_named}
-use Rattle.client_script.specs.Words.{Reading, and_then, mapped, or_fault, next_as, word_in, words_of}
-use Rattle.client_script.specs.Requests.{want_of, verb_of, request_number_in, request_in, ioctl_in}
-use Rattle.client_script.specs.Writes.{written_named}
-use Rattle.client_script.specs.Grammar.{number_in, pid_in, count_in, target_of, name_of, section_in, pes_in, verb_in, command_in, dvr_named, write_in, asked_in, line_in, line_of, whole, alone, is_passed_over, some_said, meaning, IsPlainVerb, IsPlain}
-use Rattle.client_script.specs.Script.{AreNumbered, Parsed, Scripted, plain, no_writes, with_said, with_write, writes_of, named_by, named_in, named_among, whole_lines, is_stream, lines_from, grammar}
-use Rattle.client_script.specs.declared.fault.FaultKind.{FaultKind}
-use Rattle.client_script.specs.declared.fault.FaultKind.TheVariants.{Client, Command as NoCommand, Target as NoTarget, Name, Bytes}
-use Rattle.client_script.specs.declared.fault.ScriptFault.{ScriptFault}
-use Rattle.client_script.specs.declared.names.CommandName.{CommandName}
-use Rattle.client_script.specs.declared.names.CommandName.TheVariants.{Open as OpenName, Close as CloseName, Section as SectionName, Pes as PesName, Add as AddName, Remove as RemoveName, Start as StartName, Stop as StopName, Size as SizeName, Read as ReadName, ReadWait as ReadWaitName, Drain as DrainName, Poll as PollName, Ioctl as IoctlName}
-use Rattle.client_script.specs.declared.said.Said.{Said}
-use Rattle.client_script.specs.declared.said.Said.TheVariants.{Asks, Writes}
-use Rattle.client_script.specs.declared.line.Verb.{Verb}
-use Rattle.client_script.specs.declared.line.Verb.TheVariants.{Once, ReadWait, Drain, GetStc, Write}
-use Rattle.client_script.specs.declared.line.Want.{Want}
-use Rattle.client_script.specs.declared.line.Want.TheVariants.{Add, Remove, Size, Read}
-use Rattle.client_script.specs.declared.line.Target.{Target}
-use Rattle.client_script.specs.declared.line.Target.TheVariants.{Dvr}
-use Rattle.client_script.specs.declared.line.Line.{Line}
-use Rattle.client_script.specs.declared.line.Line.TheVariants.{Feed, Tick, Command}
+use Rattle.client_script.specs.Requests.{ioctl_in}
+use Rattle.client_script.specs.Grammar.{verb_in, command_in, write_in, asked_in, line_in, line_of, meaning}
+use Rattle.client_script.specs.Script.{lines_from, grammar}
 
 -- ------ another line than `write` has another verb
 

@@ -1,19 +1,7 @@
 -- What stands behind a script's line `stream` is never examined.
-use Rattle.std.proofs.Common.{◌≡◌, ◌<◌, ◌≤◌, ◌+◌, refl, sym, ap, ◌∙◌, ℕ, suc, Bool, true, false, List, [], ◌∷◌, ◌++◌, length, take, drop, get_or, Option, Some, None, arith, add-one, length-append}
-use Rattle.std.proofs.lemmas.Bool.Decides.{nat_tests}
-use Rattle.std.proofs.lemmas.List.{take-append-drop, get_or-take, length-take, length-take-le, take-take}
-use Rattle.std.proofs.lemmas.List.Elements.{All-from_get_or}
-use Rattle.std.proofs.lemmas.List.Quantifiers.{position-Some}
-use Rattle.std.proofs.lemmas.List.Splits.{slice_split_at}
-use Rattle.std.proofs.Math.Seq.{drop-cons, take-append-add}
-use Rattle.std.specs.Option.{option_map}
-use Rattle.std.specs.Prelude.{◌==◌, Result, Ok, Err, if◌then◌else◌}
-use Rattle.std.specs.List.{All, slice_split, position}
-use Rattle.client_script.specs.Script.{without_last, whole_lines, is_stream, Parsed, Scripted, plain, with_said, lines_from, grammar, script_len, parted, split, most_bytes}
-use Rattle.client_script.specs.Grammar.{meaning}
-use Rattle.client_script.specs.declared.fault.FaultKind.{FaultKind}
-use Rattle.client_script.specs.declared.fault.ScriptFault.{ScriptFault}
-use Rattle.client_script.specs.declared.said.Said.{Said}
+use Rattle.client_script.proofs.Imports.{◌≡◌, ◌<◌, ◌≤◌, ◌+◌, refl, sym, ap, ◌∙◌, ℕ, suc, Bool, true, false, List, [], ◌∷◌, ◌++◌, length, take, drop, get_or, arith, add-one, length-append, nat_tests, take-append-drop, get_or-take, length-take, length-take-le, take-take, All-from_get_or, position-Some, slice_split_at, drop-cons, take-append-add, option_map, ◌==◌, Result, Ok, Err, if◌then◌else◌, All, slice_split, position, without_last, whole_lines, is_stream, Parsed, Scripted, plain, with_said, script_len, parted, most_bytes, meaning, FaultKind, ScriptFault, Said}
+use Rattle.std.proofs.Common.{Option, Some, None}
+use Rattle.client_script.specs.Script.{lines_from, grammar, split}
 use Rattle.client_script.proofs.Cuts.{cut-some, cut-none, first-line}
 
 -- bytes with a first whole line: that line, its line feed, and the bytes behind it

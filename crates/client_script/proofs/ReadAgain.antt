@@ -1,41 +1,13 @@
 -- A line that is spelled is read again.
-use Rattle.std.proofs.Common.{◌≡◌, ◌<◌, ◌≤◌, ◌^◌, ◌+◌, ◌/◌, ◌%◌, ◌⊎◌, inl, inr, refl, ap, ◌∙◌, ℕ, zero, suc, List, [], ◌∷◌, ◌++◌, false, length, codes, arith, append_assoc, append-nil}
-use Rattle.std.proofs.lemmas.List.Elements.{All-nil, All-cons, All-head, All-tail}
-use Rattle.std.proofs.lemmas.List.Splits.{slice_split_at}
-use Rattle.std.specs.Prelude.{◌==◌, Option, Some, None, Ok, if◌then◌else◌}
-use Rattle.std.proofs.lemmas.Bool.{cases_lt}
-use Rattle.std.proofs.lemmas.List.{get_or_past}
-use Rattle.std.specs.List.{All, flat_map}
-use Rattle.std.specs.Fmt.{decimal}
-use Rattle.filter_match.specs.declared.filter.SectionFilter.{SectionFilter}
-use Rattle.filter_match.specs.declared.filter.Place.{Place}
-use Rattle.dmx_calls.specs.Names.{input_text, output_text}
-use Rattle.text_forms.specs.Hex.{hex_bytes, hex_text, digit_text}
-use Rattle.text_forms.specs.Words.{is_word}
+use Rattle.client_script.proofs.Imports.{◌≡◌, ◌<◌, ◌≤◌, ◌^◌, ◌+◌, ◌/◌, ◌%◌, ◌⊎◌, inl, inr, refl, ap, ◌∙◌, ℕ, zero, suc, List, [], ◌∷◌, ◌++◌, false, length, codes, arith, append_assoc, append-nil, All-nil, All-cons, All-head, All-tail, slice_split_at, ◌==◌, Option, Some, None, Ok, if◌then◌else◌, cases_lt, get_or_past, All, flat_map, decimal, SectionFilter, Place, input_text, output_text, hex_bytes, hex_text, digit_text, is_word, hex_bytes-hex_text, place_named, filter_places, filter_words, IsFilter, number_between-decimal, client_named-client_text, input_named-input_text, output_named-output_text, places_named-filter_words, filter_with-filter_places, length-filter_words, Reading, mapped, words_of, is_passed_over, IsTargetInRange, IsVerbInRange, IsPlainVerb, IsInRange, IsWritten, spelling, said_again, with_all, Scripted, AreWritten, HasWrite, IsOnDvr, whole_lines, writes_of, written_by, with_said, is_stream, plain, ScriptFault, Asks, Writes, CommandName, OpenName, CloseName, SectionName, PesName, AddName, RemoveName, StartName, StopName, SizeName, ReadName, ReadWaitName, DrainName, PollName, IoctlName, Verb, Once, ReadWait, Drain, GetStc, Write, Open, Close, Section, Pes, Add, Remove, Start, Stop, Size, Read, Poll, Target, Node, Slot, Dvr, Line, Feed, Tick, Command}
 use Rattle.text_forms.specs.Names.{numbered}
-use Rattle.text_forms.proofs.HexWords.{hex_bytes-hex_text}
-use Rattle.text_forms.specs.Places.{place_named, places_named, filter_places, filter_words, IsFilter}
-use Rattle.text_forms.proofs.Decimals.{number_between-decimal}
-use Rattle.text_forms.proofs.NamesRead.{client_named-client_text}
-use Rattle.text_forms.proofs.WordsRead.{input_named-input_text, output_named-output_text}
-use Rattle.text_forms.proofs.FiltersRead.{places_named-filter_words, filter_with-filter_places, length-filter_words}
-use Rattle.client_script.specs.Words.{Reading, mapped, words_of, word_in}
+use Rattle.text_forms.specs.Places.{places_named}
+use Rattle.client_script.specs.Words.{word_in}
 use Rattle.client_script.specs.Places.{places_in, filter_in}
-use Rattle.client_script.specs.Grammar.{number_in, numbered_target, target_of, name_of, section_in, pes_in, verb_in, command_in, dvr_named, write_in, asked_in, line_in, line_of, is_passed_over, meaning, IsTargetInRange, IsVerbInRange, IsPlainVerb, IsInRange}
-use Rattle.client_script.specs.Writes.{written_named, IsWritten}
-use Rattle.client_script.specs.Spelling.{want_text, name_text, target_text, line_text, command_text, spelling, said_again, with_all}
-use Rattle.client_script.specs.Script.{Scripted, AreWritten, HasWrite, IsOnDvr, whole_lines, writes_of, written_by, with_said, is_stream, lines_from, grammar, plain}
-use Rattle.client_script.specs.declared.fault.ScriptFault.{ScriptFault}
-use Rattle.client_script.specs.declared.said.Said.TheVariants.{Asks, Writes}
-use Rattle.client_script.specs.declared.names.CommandName.{CommandName}
-use Rattle.client_script.specs.declared.names.CommandName.TheVariants.{Open as OpenName, Close as CloseName, Section as SectionName, Pes as PesName, Add as AddName, Remove as RemoveName, Start as StartName, Stop as StopName, Size as SizeName, Read as ReadName, ReadWait as ReadWaitName, Drain as DrainName, Poll as PollName, Ioctl as IoctlName}
-use Rattle.client_script.specs.declared.line.Verb.{Verb}
-use Rattle.client_script.specs.declared.line.Verb.TheVariants.{Once, ReadWait, Drain, GetStc, Write}
-use Rattle.client_script.specs.declared.line.Want.TheVariants.{Open, Close, Section, Pes, Add, Remove, Start, Stop, Size, Read, Poll}
-use Rattle.client_script.specs.declared.line.Target.{Target}
-use Rattle.client_script.specs.declared.line.Target.TheVariants.{Node, Slot, Dvr}
-use Rattle.client_script.specs.declared.line.Line.{Line}
-use Rattle.client_script.specs.declared.line.Line.TheVariants.{Feed, Tick, Command}
+use Rattle.client_script.specs.Grammar.{number_in, numbered_target, target_of, name_of, section_in, pes_in, verb_in, command_in, dvr_named, write_in, asked_in, line_in, line_of, meaning}
+use Rattle.client_script.specs.Writes.{written_named}
+use Rattle.client_script.specs.Spelling.{want_text, name_text, target_text, line_text, command_text}
+use Rattle.client_script.specs.Script.{lines_from, grammar}
 use Rattle.client_script.proofs.Cuts.{first-line}
 use Rattle.client_script.proofs.RequestsAgain.{ioctl_in-words, some_digits}
 use Rattle.client_script.proofs.LineWords.{Written, behind, argument_words, first_word, more_words, line_text-words, words_of-behind, line_feed_nowhere, first-visible, more-visible}

@@ -1,22 +1,9 @@
 -- The question for a system time counter that is spelled is read again.
-use Rattle.std.proofs.Common.{◌≡◌, ◌<◌, ◌≤◌, ◌/◌, ◌%◌, ◌^◌, refl, ap, ◌∙◌, ℕ, zero, suc, List, [], ◌∷◌, ◌++◌, Bool, true, false, length, replicate, codes, arith}
-use Rattle.std.proofs.lemmas.Bool.Decides.{nat_tests}
-use Rattle.std.proofs.lemmas.List.Elements.{All-nil, All-cons, All-append, All-replicate}
-use Rattle.std.proofs.Math.Nat.{mod-lt}
-use Rattle.std.specs.Prelude.{◌==◌, Some, None, Ok, if◌then◌else◌}
-use Rattle.std.specs.List.{All}
-use Rattle.std.specs.Int.{byte_at, bytes_low_first}
-use Rattle.byteorder.specs.Endian.{big_bytes, little_bytes}
-use Rattle.byteorder.specs.Numbers.{little_number-reads_back}
-use Rattle.dmx_abi.specs.declared.numbers.TheConstants.{GET_STC}
-use Rattle.dmx_abi.specs.declared.request.Request.TheVariants.{GetStc as StcRequest}
-use Rattle.dmx_abi.specs.Written.{number_of, argument_of}
-use Rattle.text_forms.specs.Hex.{hex_digit, hex_byte, hex_bytes, digit_text, hex_text}
-use Rattle.text_forms.specs.Words.{is_word}
-use Rattle.text_forms.proofs.HexWords.{hex_bytes-hex_text}
+use Rattle.client_script.proofs.Imports.{◌≡◌, ◌<◌, ◌≤◌, ◌/◌, ◌%◌, ◌^◌, refl, ap, ◌∙◌, ℕ, zero, suc, List, [], ◌∷◌, ◌++◌, Bool, true, false, length, codes, arith, nat_tests, All-nil, All-cons, All-append, All-replicate, mod-lt, ◌==◌, Some, None, Ok, if◌then◌else◌, All, byte_at, bytes_low_first, big_bytes, little_bytes, little_number-reads_back, GET_STC, StcRequest, number_of, argument_of, digit_text, hex_text, is_word, hex_bytes-hex_text, GetStc}
+use Rattle.std.proofs.Common.{replicate}
+use Rattle.text_forms.specs.Hex.{hex_digit, hex_byte, hex_bytes}
 use Rattle.client_script.specs.Words.{word_in}
 use Rattle.client_script.specs.Requests.{request_number, argument_named, request_number_in, request_in, ioctl_in}
-use Rattle.client_script.specs.declared.line.Verb.TheVariants.{GetStc}
 
 -- the number's eight digits
 number_again : request_number (hex_text (big_bytes 4 GET_STC)) ≡ Some GET_STC

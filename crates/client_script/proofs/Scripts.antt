@@ -1,13 +1,6 @@
 -- What the lines that were read and the bytes behind them make of a script.
-use Rattle.std.proofs.Common.{◌≡◌, refl, true, false, ℕ, List, [], ◌∷◌, ◌+◌}
-use Rattle.std.specs.List.{count_by}
-use Rattle.std.specs.Prelude.{◌==◌, Option, Ok, Err}
-use Rattle.client_script.specs.Grammar.{meaning}
-use Rattle.client_script.specs.Script.{Parsed, Scripted, plain, with_said, lines_from, whole_lines, is_stream, grammar}
-use Rattle.client_script.specs.declared.fault.ScriptFault.{ScriptFault}
-use Rattle.client_script.specs.declared.fault.FaultKind.{FaultKind}
-use Rattle.client_script.specs.declared.fault.FaultKind.TheVariants.{NoStream}
-use Rattle.client_script.specs.declared.said.Said.{Said}
+use Rattle.client_script.proofs.Imports.{◌≡◌, refl, true, false, ℕ, List, [], ◌∷◌, ◌+◌, count_by, ◌==◌, Option, Ok, Err, meaning, Parsed, Scripted, plain, with_said, whole_lines, is_stream, ScriptFault, FaultKind, NoStream, Said}
+use Rattle.client_script.specs.Script.{lines_from, grammar}
 
 -- a script of which this was read; the next line has this number
 unfoldable pub script_by : ScriptFault → Scripted → (number : ℕ) → List ℕ → Parsed

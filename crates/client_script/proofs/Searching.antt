@@ -1,15 +1,5 @@
 -- A search for the line `stream`, line by line.
-use Rattle.std.proofs.Common.{◌≡◌, ◌<◌, ◌≤◌, ◌+◌, ◌-◌, refl, sym, ap, ◌∙◌, ℕ, suc, true, false, List, [], ◌∷◌, ◌++◌, length, take, drop, get_or, append_assoc, append-nil, arith, length-append, take-add}
-use Rattle.std.proofs.lemmas.List.{take-append-drop, get_or-drop, length-drop, drop-drop, drop-append-le}
-use Rattle.std.proofs.lemmas.List.Elements.{All-nil, All-append}
-use Rattle.std.proofs.lemmas.List.Quantifiers.{position-Some}
-use Rattle.std.proofs.lemmas.List.Splits.{slice_split_at, slice_split_none}
-use Rattle.std.proofs.Math.Seq.{drop-append-add, take-append_seam}
-use Rattle.std.specs.Prelude.{◌==◌, Option, Some, None, IfSome, is_none}
-use Rattle.std.specs.Option.{option_map}
-use Rattle.std.specs.List.{position}
-use Rattle.client_script.specs.Script.{without_last, whole_lines, is_stream, script_len}
-use Rattle.client_script.specs.Inside.Part.{FallsInto, HasNoFeed, IsSearched, Passes}
+use Rattle.client_script.proofs.Imports.{◌≡◌, ◌<◌, ◌≤◌, ◌+◌, ◌-◌, refl, sym, ap, ◌∙◌, ℕ, suc, true, false, List, [], ◌∷◌, ◌++◌, length, take, drop, get_or, append_assoc, append-nil, arith, length-append, take-add, take-append-drop, get_or-drop, length-drop, drop-drop, drop-append-le, All-nil, All-append, position-Some, slice_split_at, slice_split_none, drop-append-add, take-append_seam, ◌==◌, Option, Some, None, IfSome, is_none, option_map, position, without_last, whole_lines, is_stream, script_len, FallsInto, HasNoFeed, IsSearched, Passes}
 use Rattle.client_script.proofs.Parting.{lacks, parts}
 use Rattle.client_script.proofs.Splitting.{script_len-more, script_len-within}
 use Rattle.client_script.proofs.Cuts.{first-line, position-None}

@@ -1,23 +1,8 @@
 -- All writes of a script have no more bytes than the script.
-use Rattle.std.proofs.Common.{◌≡◌, ◌≤◌, ◌+◌, refl, ap, ◌∙◌, subst, ℕ, zero, suc, Bool, true, false, List, [], ◌∷◌, ◌++◌, length, map, codes, arith, length-append}
-use Rattle.std.proofs.lemmas.List.Splits.{slice_split-cons_yes, slice_split-cons_no}
-use Rattle.std.proofs.lemmas.List.Sums.{sum_by-cons}
-use Rattle.std.specs.Prelude.{◌==◌, Option, Some, None, Result, Ok, Err, if◌then◌else◌, slice_index_or, slice_set, sum}
-use Rattle.std.specs.List.{slice_split, onto_first}
-use Rattle.text_forms.specs.Words.{is_word}
-use Rattle.text_forms.specs.Names.{client_named}
-use Rattle.client_script.specs.Words.{Reading, and_then, mapped, or_fault, next_as, word_in, words_of}
-use Rattle.client_script.specs.Writes.{written_named}
-use Rattle.client_script.specs.Grammar.{number_in, count_in, name_of, command_in, dvr_named, write_in, asked_in, line_in, line_of, whole, is_passed_over, some_said, meaning}
-use Rattle.client_script.specs.Script.{Parsed, Scripted, plain, with_said, writes_of, whole_lines, without_last, is_stream, lines_from, grammar}
-use Rattle.client_script.specs.declared.fault.FaultKind.{FaultKind}
-use Rattle.client_script.specs.declared.fault.FaultKind.TheVariants.{Client, Target as NoTarget, Bytes}
-use Rattle.client_script.specs.declared.fault.ScriptFault.{ScriptFault}
-use Rattle.client_script.specs.declared.said.Said.{Said}
-use Rattle.client_script.specs.declared.said.Said.TheVariants.{Asks, Writes}
-use Rattle.client_script.specs.declared.line.Target.{Target}
-use Rattle.client_script.specs.declared.line.Line.{Line}
-use Rattle.client_script.specs.declared.line.Line.TheVariants.{Feed, Tick}
+use Rattle.client_script.proofs.Imports.{◌≡◌, ◌≤◌, ◌+◌, refl, ap, ◌∙◌, subst, ℕ, zero, suc, Bool, true, false, List, [], ◌∷◌, ◌++◌, length, map, codes, arith, length-append, slice_split-cons_yes, slice_split-cons_no, sum_by-cons, ◌==◌, Option, Some, None, Result, Ok, Err, if◌then◌else◌, slice_index_or, slice_set, sum, slice_split, onto_first, is_word, client_named, Reading, and_then, mapped, or_fault, next_as, words_of, written_named, number_in, count_in, name_of, command_in, dvr_named, whole, is_passed_over, some_said, Parsed, Scripted, plain, with_said, writes_of, whole_lines, without_last, is_stream, FaultKind, Client, NoTarget, Bytes, ScriptFault, Said, Asks, Writes, Target, Line, Feed, Tick}
+use Rattle.client_script.specs.Words.{word_in}
+use Rattle.client_script.specs.Grammar.{write_in, asked_in, line_in, line_of, meaning}
+use Rattle.client_script.specs.Script.{lines_from, grammar}
 use Rattle.client_script.proofs.Numbering.{Gives, if_gives, under_a_name}
 use Rattle.client_script.proofs.Writing.{named_short}
 

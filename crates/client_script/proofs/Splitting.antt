@@ -1,10 +1,7 @@
 -- How an input falls into its parts, by its first bytes.
-use Rattle.std.proofs.Common.{◌≡◌, ◌≤◌, ◌+◌, ◌-◌, refl, sym, ap, ◌∙◌, ℕ, Bool, true, false, List, [], ◌∷◌, ◌++◌, length, take, drop, append_assoc, append-nil, arith, inl, inr}
-use Rattle.std.proofs.lemmas.List.{take-append-le, drop-append-le, take_all}
-use Rattle.std.proofs.Math.Seq.{take-append_seam, take-append-add}
-use Rattle.std.specs.Prelude.{Option, Some, None, if◌then◌else◌, ◌⊎◌}
-use Rattle.std.specs.Option.{option_map}
-use Rattle.client_script.specs.Script.{whole_lines, is_stream, script_len, split, most_bytes}
+use Rattle.client_script.proofs.Imports.{◌≡◌, ◌≤◌, ◌+◌, ◌-◌, refl, sym, ap, ◌∙◌, ℕ, Bool, true, false, List, [], ◌∷◌, ◌++◌, length, take, drop, append_assoc, append-nil, arith, inl, inr, take-append-le, drop-append-le, take_all, take-append_seam, take-append-add, Option, Some, None, if◌then◌else◌, option_map, whole_lines, is_stream, script_len, most_bytes}
+use Rattle.std.specs.Prelude.{◌⊎◌}
+use Rattle.client_script.specs.Script.{split}
 use Rattle.client_script.proofs.Parting.{First, first, front_of}
 
 -- ------ the script ends in the same place, whatever follows

@@ -1,20 +1,6 @@
 -- How many lines and writes a script has with what one line more says.
-use Rattle.std.proofs.Common.{◌≡◌, ◌≢◌, ◌<◌, ◌≤◌, ◌+◌, ◌⊎◌, inl, inr, refl, sym, subst, ap, ◌∙◌, ℕ, List, [], ◌∷◌, ◌++◌, length, arith, length-append}
-use Rattle.std.specs.Prelude.{Option, Some, None, slice_index_or, slice_set, replicate}
-use Rattle.std.specs.List.{All}
-use Rattle.std.proofs.lemmas.Bool.{cases_eq, cases_lt}
-use Rattle.std.proofs.lemmas.List.Elements.{All-nil, All-push, All-weaker}
-use Rattle.std.proofs.lemmas.List.{length-set, get_or-set_same, get_or-set_other, get_or_past, get_or-replicate}
-use Rattle.client_script.specs.Grammar.{IsInRange, IsPlain}
-use Rattle.client_script.specs.Writes.{IsWritten}
-use Rattle.client_script.specs.Script.{Scripted, plain, no_writes, most_bytes, writes_of, with_said, with_write, IsScript, AreWritten, HasWrite, IsOnDvr}
+use Rattle.client_script.proofs.Imports.{◌≡◌, ◌≢◌, ◌<◌, ◌≤◌, ◌+◌, ◌⊎◌, inl, inr, refl, sym, subst, ap, ◌∙◌, ℕ, List, [], ◌∷◌, ◌++◌, length, arith, length-append, Option, Some, None, slice_index_or, slice_set, replicate, All, cases_eq, cases_lt, All-nil, All-push, All-weaker, length-set, get_or-set_same, get_or-set_other, get_or_past, get_or-replicate, IsInRange, IsPlain, IsWritten, Scripted, plain, no_writes, most_bytes, writes_of, with_said, with_write, IsScript, AreWritten, HasWrite, IsOnDvr, Dvr, Line, Feed, Tick, Command, Once, ReadWait, Drain, GetStc, Write, Said, Asks, Writes}
 use Rattle.client_script.proofs.Numbering.{numbered_line, numbered_none, numbered_write}
-use Rattle.client_script.specs.declared.line.Target.TheVariants.{Dvr}
-use Rattle.client_script.specs.declared.line.Line.{Line}
-use Rattle.client_script.specs.declared.line.Line.TheVariants.{Feed, Tick, Command}
-use Rattle.client_script.specs.declared.line.Verb.TheVariants.{Once, ReadWait, Drain, GetStc, Write}
-use Rattle.client_script.specs.declared.said.Said.{Said}
-use Rattle.client_script.specs.declared.said.Said.TheVariants.{Asks, Writes}
 
 -- so many writes of each client are fewer than this number
 abbrev pub Below : (number : ℕ) → List (List (List ℕ)) → Type 0

@@ -1,12 +1,7 @@
 -- The bytes that a word spells are those of a write.
-use Rattle.std.proofs.Common.{◌≡◌, ◌<◌, ◌≤◌, ◌+◌, ◌*◌, refl, ap, ◌∙◌, ℕ, zero, suc, Bool, true, false, List, [], ◌∷◌, length, arith}
-use Rattle.std.proofs.lemmas.Bool.Decides.{nat_tests}
-use Rattle.std.proofs.lemmas.List.Elements.{All-nil, All-cons}
-use Rattle.std.specs.Prelude.{◌==◌, Option, Some, None, IsSome, if◌then◌else◌}
-use Rattle.std.specs.List.{All}
-use Rattle.std.specs.Option.{option_map, option_and_then}
+use Rattle.client_script.proofs.Imports.{◌≡◌, ◌<◌, ◌≤◌, ◌+◌, ◌*◌, refl, ap, ◌∙◌, ℕ, zero, suc, Bool, true, false, List, [], ◌∷◌, length, arith, nat_tests, All-nil, All-cons, ◌==◌, Option, Some, None, IsSome, if◌then◌else◌, All, option_map, option_and_then, IsWritten}
 use Rattle.text_forms.specs.Hex.{hex_digit, hex_byte, hex_bytes}
-use Rattle.client_script.specs.Writes.{written_named, IsWritten}
+use Rattle.client_script.specs.Writes.{written_named}
 
 digit_small : (byte digit : ℕ) → hex_digit byte ≡ Some digit → digit < 16
 unfolding hex_digit

@@ -1,14 +1,7 @@
 -- What a history says, one entry later: tenure, what was set, the capture.
-use Rattle.std.proofs.Common.{ℕ, ◌≡◌, refl, sym, ◌∙◌, ap, true, false, not, ◌||◌, List, [], ◌∷◌, Option, Some, None}
-use Rattle.std.specs.Prelude.{nat_eq, unwrap_or}
-use Rattle.std.specs.Option.{option_or}
-use Rattle.std.proofs.lemmas.Bool.{eqb-true, not-false, or_from}
-use Rattle.dmx_calls.specs.declared.limits.TheConstants.{DEMUX_SIZE}
-use Rattle.dmx_calls.specs.Invocation.{Invocation, Open, Close, SetFilter, SetPes, AddPid, RemovePid, Start, Stop, SetSize, Read, Poll, Pass, End, Attach, Detach}
-use Rattle.dmx_calls.specs.Response.{is_accepted}
-use Rattle.dmx_calls.specs.History.{Entry, Event, History, event, Since, also, after_of, newest}
-use Rattle.dmx_calls.specs.Tenure.{opens, closes, tenure, owner, size_in, size_or, size, params_in, params_of, sets, setting, params, first_pids, pids_with, pids_after, pids, is_end, has_ended}
-use Rattle.dmx_calls.specs.Capture.{resizes, begins, capture}
+use Rattle.dmx_calls.proofs.Imports.{ℕ, ◌≡◌, refl, sym, ◌∙◌, ap, true, false, not, ◌||◌, List, [], ◌∷◌, Option, Some, None, nat_eq, unwrap_or, option_or, eqb-true, not-false, or_from, DEMUX_SIZE, Invocation, Open, Close, SetFilter, SetPes, AddPid, RemovePid, Start, Stop, SetSize, Read, Poll, Pass, End, Attach, Detach, is_accepted, Entry, Event, History, event, Since, also, after_of, newest, opens, closes, size_in, params_in, params_of, sets, first_pids, pids_with, pids_after, is_end, resizes, begins}
+use Rattle.dmx_calls.specs.Tenure.{tenure, owner, size_or, size, setting, params, pids, has_ended}
+use Rattle.dmx_calls.specs.Capture.{capture}
 
 -- with one event more
 abbrev pub more : Event → Since → Since

@@ -1,24 +1,11 @@
 -- A capture of a demux node's filter, one entry later: what is live, the expiry, the items.
-use Rattle.std.proofs.Common.{ℕ, ◌+◌, ◌≡◌, refl, sym, ◌∙◌, ap, Bool, true, false, ◌||◌, List, [], ◌∷◌, ◌++◌, Option, Some, None, length, take, arith}
-use Rattle.std.specs.Prelude.{if◌then◌else◌, nat_eq, nat_le, filter, option_map}
-use Rattle.std.specs.Option.{option_or}
-use Rattle.std.specs.List.{list_any}
-use Rattle.std.proofs.lemmas.List.{append-nil}
-use Rattle.std.proofs.lemmas.List.Elements.{filter-append}
-use Rattle.std.proofs.lemmas.Bool.{or_parts}
-use Rattle.std.proofs.lemmas.Bool.Decides.{nat_tests}
+use Rattle.dmx_calls.proofs.Imports.{ℕ, ◌+◌, ◌≡◌, refl, sym, ◌∙◌, ap, Bool, true, false, ◌||◌, List, [], ◌∷◌, ◌++◌, Option, Some, None, length, take, arith, if◌then◌else◌, nat_eq, nat_le, filter, option_map, option_or, list_any, append-nil, filter-append, or_parts, nat_tests, stay, Input, Frontend, SectionParams, Entry, Event, History, is_empty, event, Since, also, Params, Empty, Section, Pes, tenure, params, pids, capture, stops, unstopped, packets_in, packets_of, selects, is_oneshot, picked, selected, timeout_of, clock_of, Expiry, expiry_at, offered_of, tells_timeout}
 use Rattle.ts_packet.specs.Clean.{clean, without_repeats_after}
 use Rattle.section_parse.specs.Segments.{runs}
 use Rattle.section_parse.specs.Sections.{sections}
-use Rattle.section_parse.proofs.WholeLists.{stay}
-use Rattle.dmx_calls.specs.declared.params.Input.{Input}
-use Rattle.dmx_calls.specs.declared.params.Input.TheVariants.{Frontend}
-use Rattle.dmx_calls.specs.declared.params.SectionParams.{SectionParams}
-use Rattle.dmx_calls.specs.History.{Entry, Event, History, is_empty, event, Since, also}
-use Rattle.dmx_calls.specs.Tenure.{Params, Empty, Section, Pes, tenure, params, pids}
-use Rattle.dmx_calls.specs.Capture.{capture, stops, unstopped, live, started, is_stopped}
-use Rattle.dmx_calls.specs.Items.{packets_in, packets_of, selects, is_oneshot, section_items, picked, selected, timeout_of, clock_of, Expiry, expiry_at, expiry, offered_of, offered, items}
-use Rattle.dmx_calls.specs.Rules.{tells_timeout, is_told, expired}
+use Rattle.dmx_calls.specs.Capture.{live, started, is_stopped}
+use Rattle.dmx_calls.specs.Items.{section_items, expiry, offered, items}
+use Rattle.dmx_calls.specs.Rules.{is_told, expired}
 use Rattle.dmx_calls.proofs.Going.{more, Stays, params_stays, capture_stays}
 
 -- ------ the expiry with one event more

@@ -1,9 +1,5 @@
 -- The last entry of a legal history whose oldest entry stands first.
-use Rattle.std.proofs.Common.{List, [], ◌∷◌, ◌++◌, reverse, subst}
-use Rattle.std.proofs.lemmas.List.{reverse-append}
-use Rattle.dmx_calls.specs.History.{Entry}
-use Rattle.dmx_calls.specs.Rules.{Rules}
-use Rattle.dmx_calls.specs.Legal.{IsLegalFor, May}
+use Rattle.dmx_calls.proofs.Imports.{List, [], ◌∷◌, ◌++◌, reverse, subst, reverse-append, Entry, Rules, IsLegalFor, May}
 
 -- the entries before it allow its response, and are themselves legal
 pub last_may : (node : Rules) (h : List Entry) (e : Entry) → IsLegalFor node (reverse (h ++ e ∷ [])) → IsLegalFor node (reverse h) × May node (reverse h) e.who e.invocation e.response

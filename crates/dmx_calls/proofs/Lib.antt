@@ -11,3 +11,4 @@ pub mod Weaving
 pub mod Numbered
 pub mod Telling
 pub mod Lasts
+pub mod Imports

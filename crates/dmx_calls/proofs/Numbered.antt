@@ -1,9 +1,6 @@
 -- The rules of a node, by its number.
-use Rattle.std.proofs.Common.{◌≡◌, ℕ, ◌<◌, ap, refl}
-use Rattle.std.specs.Prelude.{if◌then◌else◌}
-use Rattle.std.proofs.lemmas.Bool.{lt-ltb}
-use Rattle.dmx_calls.specs.declared.limits.TheConstants.{DEMUX_NODES}
-use Rattle.dmx_calls.specs.Rules.{demux, dvr, rules_at}
+use Rattle.dmx_calls.proofs.Imports.{◌≡◌, ℕ, ◌<◌, ap, refl, if◌then◌else◌, lt-ltb, DEMUX_NODES, demux, dvr}
+use Rattle.dmx_calls.specs.Rules.{rules_at}
 
 pub demux_rules : (node : ℕ) → node < DEMUX_NODES → rules_at node ≡ demux
 unfolding rules_at

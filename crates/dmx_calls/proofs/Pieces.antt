@@ -1,12 +1,6 @@
 -- The items that are left at a place, the first one cut there: their bytes are what is unread, and the first one's length is
 -- the rest of the section in which the place stands.
-use Rattle.std.proofs.Common.{ℕ, zero, suc, ◌-◌, ◌<◌, ◌≤◌, ◌≡◌, refl, sym, ◌∙◌, ap, Bool, true, false, List, [], ◌∷◌, ◌++◌, length, drop, arith, length-drop, length-append}
-use Rattle.std.specs.Prelude.{if◌then◌else◌, nat_lt}
-use Rattle.std.specs.List.{concat}
-use Rattle.std.proofs.lemmas.Bool.Decides.{nat_tests}
-use Rattle.std.proofs.lemmas.List.{drop-append-le}
-use Rattle.std.proofs.Math.Seq.{drop-nil}
-use Rattle.dmx_calls.specs.Facts.{rest_of_item}
+use Rattle.dmx_calls.proofs.Imports.{ℕ, zero, suc, ◌-◌, ◌<◌, ◌≤◌, ◌≡◌, refl, sym, ◌∙◌, ap, Bool, true, false, List, [], ◌∷◌, ◌++◌, length, drop, arith, length-drop, length-append, if◌then◌else◌, nat_lt, concat, nat_tests, drop-append-le, drop-nil, rest_of_item}
 
 abbrev pub pieces : List (List ℕ) → ℕ → List (List ℕ)
 pieces [] n = []

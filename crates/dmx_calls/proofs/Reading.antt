@@ -1,11 +1,5 @@
 -- A Read in a capture is answered by one of five responses.
-use Rattle.std.proofs.Common.{ℕ, ◌≡◌, refl, Bool, true, false, List, [], ◌∷◌, Option, Some, None, take}
-use Rattle.std.specs.Prelude.{if◌then◌else◌, nat_eq, option_map}
-use Rattle.dmx_calls.specs.Response.{Response, Data, Again, Overflow, TimedOut}
-use Rattle.dmx_calls.specs.Ledger.{Misfit}
-use Rattle.dmx_calls.specs.Facts.{Ledger}
-use Rattle.dmx_calls.specs.History.{is_empty}
-use Rattle.dmx_calls.specs.Answer.{ReadTerms, most_bytes, first_of, timed_out_of, response_of_read}
+use Rattle.dmx_calls.proofs.Imports.{ℕ, ◌≡◌, refl, Bool, true, false, List, [], ◌∷◌, Option, Some, None, take, if◌then◌else◌, nat_eq, option_map, Response, Data, Again, Overflow, TimedOut, Misfit, Ledger, is_empty, ReadTerms, most_bytes, first_of, timed_out_of, response_of_read}
 
 -- what holds of each of them holds of the answer
 module _ (P : Response → Type 0) (t : ReadTerms) (l : Ledger) (expired : Option ℕ) (count : ℕ)

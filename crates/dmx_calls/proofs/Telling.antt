@@ -1,14 +1,6 @@
 -- What the feeder's calls are answered, and what a report keeps of a call.
-use Rattle.std.proofs.Common.{◌≡◌, ℕ, List, ap, sym, refl, ⊎_elim}
-use Rattle.dmx_calls.specs.declared.params.Input.{Input}
-use Rattle.dmx_calls.specs.Invocation.{Invocation, Open, Close, SetFilter, SetPes, AddPid, RemovePid, Start, Stop, SetSize, Read, Poll, Pass, End, Attach, Detach}
-use Rattle.dmx_calls.specs.Response.{Response, Passed}
-use Rattle.dmx_calls.specs.History.{History}
-use Rattle.dmx_calls.specs.Rules.{Rules}
+use Rattle.dmx_calls.proofs.Imports.{◌≡◌, ℕ, List, ap, sym, refl, ⊎_elim, Input, Invocation, Open, Close, SetFilter, SetPes, AddPid, RemovePid, Start, Stop, SetSize, Read, Poll, Pass, End, Attach, Detach, Response, Passed, History, Rules, May, IsFrom, filled_act, act_of, PassesGoBy}
 use Rattle.dmx_calls.specs.Answer.{answer}
-use Rattle.dmx_calls.specs.Legal.{May}
-use Rattle.dmx_calls.specs.Log.{IsFrom, filled_act, act_of}
-use Rattle.dmx_calls.specs.Laws.{PassesGoBy}
 
 passes : (node : Rules) (h : History) (who : ℕ) (input : Input) (first : ℕ) (packets : List (List ℕ)) (now : ℕ) (r : Response) → May node h who (Pass input first packets now) r → r ≡ Passed
 unfolding answer

@@ -1,10 +1,7 @@
 -- The histories that are woven of the feeder's calls and the clients' entries: how long they are, how they grow by one call,
 -- and what stands where.
-use Rattle.std.proofs.Common.{ℕ, zero, suc, ◌+◌, ◌<◌, ◌≤◌, ◌≡◌, refl, sym, ◌∙◌, ap, Bool, true, false, List, [], ◌∷◌, ◌++◌, length, Some, slice_get, arith, nat_lt, if◌then◌else◌}
-use Rattle.std.proofs.lemmas.Bool.Decides.{nat_tests}
-use Rattle.dmx_calls.specs.declared.log.Act.{Act}
-use Rattle.dmx_calls.specs.Log.{LogEntry}
-use Rattle.dmx_calls.specs.Histories.{feeder_entry, feeder_entries, before_entry, woven_from, woven, woven_nodes, AreInPlace}
+use Rattle.dmx_calls.proofs.Imports.{ℕ, zero, suc, ◌+◌, ◌<◌, ◌≤◌, ◌≡◌, refl, sym, ◌∙◌, ap, Bool, true, false, List, [], ◌∷◌, ◌++◌, length, Some, slice_get, arith, nat_tests, Act, LogEntry, feeder_entry, feeder_entries, before_entry, woven_from, woven, woven_nodes, AreInPlace}
+use Rattle.std.proofs.Common.{nat_lt, if◌then◌else◌}
 
 -- ------ lists whose entries are in place
 

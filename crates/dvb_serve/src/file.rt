@@ -25,11 +25,15 @@ impl Model for FileSink {
 }
 
 impl FileSink {
-    /// The file of this path, which is made.
+    /// The file of this path, which is made, or emptied where it is there.
     pub fn create(rt: &HostRuntime, path: &str) -> io::Result<FileSink>
         ensures { IfOk result (λ s. s ≡ 0) }
     {
-        let file = OpenOptions::new().write(true).create(true).open(rt, path)?;
+        let file = OpenOptions::new()
+            .write(true)
+            .create(true)
+            .truncate(true)
+            .open(rt, path)?;
         Ok(FileSink { file, faults: 0 })
     }
 }

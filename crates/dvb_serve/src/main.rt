@@ -10,7 +10,7 @@
 //! end, where all these are whole, what is known of the stream into `head`. `tools/merge` makes the report of them.
 //!
 //! What is proved: that it is safe. What it does over any source, any lines and any journals is a clause of `serve_top`.
-//! Standard input, the pipes and the files tell no content, so over them nothing is said of bytes.
+//! Standard input, the pipes and the files tell no content, so over them nothing at all is said.
 //!
 //! What is only tested, by the program's run and by `serve/check`: the words, the pipes and the exit status.
 #![tactic(auto)]
@@ -218,9 +218,10 @@ fn serve_writing<R: Threads + Wait + Sync>(
 fn status_of(rt: &HostRuntime, served: io::Result<Result<(), NoReport>>) -> ExitCode {
     match served {
         Ok(Ok(())) => ExitCode::SUCCESS,
-        Ok(Err(NoReport::Failed)) => failed(rt, "what was called can't be written"),
-        Ok(Err(NoReport::NoMemory)) => failed(rt, "there is no memory"),
-        Ok(Err(NoReport::TooLong)) => failed(rt, "the stream was read too often"),
+        Ok(Err(why)) => {
+            let _ = eprintln!(rt; "dvb_serve: {why}");
+            ExitCode::from(1)
+        }
         Err(_) => failed(rt, "the folder's files can't be opened"),
     }
 }

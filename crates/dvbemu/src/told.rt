@@ -68,14 +68,8 @@ fn explain(rt: &HostRuntime, script: Option<&[u8]>, fault: ScriptFault) {
 }
 
 // Tells what is wrong with a report.
-fn tell_wrong(rt: &HostRuntime, name: &str, fault: Fault) {
-    let kind = fault.kind;
-    if fault.line == 0 {
-        let _ = eprintln!(rt; "dvbemu: {name}: {kind}");
-    } else {
-        let line = fault.line;
-        let _ = eprintln!(rt; "dvbemu: {name} line {line}: {kind}");
-    }
+fn tell_wrong(rt: &HostRuntime, fault: Fault) {
+    let _ = eprintln!(rt; "dvbemu: {fault}");
 }
 
 // The line of a status, and what stands behind it.
@@ -84,10 +78,11 @@ fn lines(rt: &HostRuntime, status: Status, script: Option<&[u8]>) {
     match status {
         Status::Ok => {}
         Status::Script { line, kind } => {
-            let _ = eprintln!(rt; "dvbemu: {name} line {line}: {kind}");
-            explain(rt, script, ScriptFault { line, kind });
+            let fault = ScriptFault { line, kind };
+            let _ = eprintln!(rt; "dvbemu: {fault}");
+            explain(rt, script, fault);
         }
-        Status::Wrong(fault) => tell_wrong(rt, name, fault),
+        Status::Wrong(fault) => tell_wrong(rt, fault),
         Status::Usage => {
             let _ = eprintln!(rt; "dvbemu: {name}");
             let _ = rt.eprintln(USAGE);

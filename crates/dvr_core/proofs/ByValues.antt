@@ -1,15 +1,5 @@
 -- A Read, by what is known before it.
-use Rattle.std.proofs.Common.{ℕ, ◌≡◌, refl, sym, ◌∙◌, ap, true, false, Option, Some, None}
-use Rattle.std.specs.Prelude.{option_map}
-use Rattle.dmx_calls.specs.Invocation.{Read}
-use Rattle.dmx_calls.specs.Response.{Response, Passed, is_accepted}
-use Rattle.dmx_calls.specs.Facts.{Ledger}
-use Rattle.dmx_calls.specs.Answer.{read_response, expired_of}
-use Rattle.node_buffer.specs.Inside.Capturing.{terms_of, read_by, with_response}
-use Rattle.node_buffer.proofs.Accepted.{read_accepted}
-use Rattle.node_buffer.proofs.Answering.{read_now}
-use Rattle.dvr_core.specs.Inside.Step.{Knows, next}
-use Rattle.dvr_core.specs.Inside.KeptView.{reply_to}
+use Rattle.dvr_core.proofs.Imports.{ℕ, ◌≡◌, refl, sym, ◌∙◌, ap, true, false, Option, Some, None, option_map, Read, Response, Passed, is_accepted, Ledger, read_response, expired_of, terms_of, read_by, with_response, read_accepted, read_now, Knows, next, reply_to}
 
 as_before : (o : Option Ledger) → option_map (with_response false Passed) o ≡ o
 as_before None = refl

@@ -1,23 +1,6 @@
 -- Each call: its answer by what is known before it, and what is known after it.
-use Rattle.std.proofs.Common.{ℕ, ◌≡◌, refl, sym, ap, Bool, true, false, ◌||◌, List, ◌∷◌, Option, Some, None}
-use Rattle.std.specs.Prelude.{if◌then◌else◌, not, nat_eq}
-use Rattle.dmx_calls.specs.declared.node.NodeKind.TheVariants.{Dvr}
-use Rattle.dmx_calls.specs.declared.params.Input.{Input}
-use Rattle.dmx_calls.specs.declared.reply.Errno.{Errno}
-use Rattle.dmx_calls.specs.declared.reply.Errno.TheVariants.{Ebadf, Einval}
-use Rattle.dmx_calls.specs.Invocation.{Invocation, Open, Close, SetFilter, SetPes, AddPid, RemovePid, Start, Stop, SetSize, Read, Poll, Pass, End, Attach, Detach}
-use Rattle.dmx_calls.specs.declared.reply.Tap.TheVariants.{Keep as KeepTap}
-use Rattle.dmx_calls.specs.Response.{Response, Done, Busy, Refused, Passed, is_accepted}
-use Rattle.dmx_calls.specs.History.{History, entry_of}
-use Rattle.dmx_calls.specs.Rules.{dvr}
-use Rattle.dmx_calls.specs.Facts.{Facts, facts}
-use Rattle.dmx_calls.specs.Refusal.{is_bad_argument, is_for_filters}
-use Rattle.dmx_calls.specs.Answer.{is_for_anybody, is_owned_by, is_same_size, refusal_to, response_to, answer}
-use Rattle.node_buffer.specs.Inside.Coherent.{CoherentIn}
-use Rattle.node_buffer.proofs.Owners.{holds}
-use Rattle.node_buffer.proofs.Silences.{Silent, as_done, as_ready, as_passed, accepted_of, dropping, dropping_unless}
-use Rattle.dvr_core.specs.Inside.Step.{moved, next}
-use Rattle.dvr_core.specs.Inside.Gives.{settled}
+use Rattle.dvr_core.proofs.Imports.{ℕ, ◌≡◌, refl, sym, ap, Bool, true, false, ◌||◌, List, ◌∷◌, Option, Some, None, if◌then◌else◌, not, nat_eq, Dvr, Input, Errno, Ebadf, Einval, Invocation, Open, Close, SetFilter, SetPes, AddPid, RemovePid, Start, Stop, SetSize, Read, Poll, Pass, End, Attach, Detach, KeepTap, Response, Done, Busy, Refused, Passed, is_accepted, History, entry_of, dvr, Facts, facts, is_bad_argument, is_for_filters, is_for_anybody, is_owned_by, is_same_size, refusal_to, response_to, CoherentIn, holds, Silent, as_done, as_ready, as_passed, accepted_of, dropping, dropping_unless, moved, next, settled}
+use Rattle.dmx_calls.specs.Answer.{answer}
 use Rattle.dvr_core.proofs.Moves.{known, Moves, known_refused, open_moves, close_moves, attach_moves, detach_moves, poll_moves, size_moves, end_moves, pass_moves}
 use Rattle.dvr_core.proofs.Reading.{read_moves, answer_fine, gives_nothing}
 

@@ -1,20 +1,6 @@
 -- When each answer of the dvr node comes, from what the node gives.
-use Rattle.std.proofs.Common.{ℕ, ◌≡◌, refl, sym, ◌∙◌, ap, subst, true, false, Option, Some, None}
-use Rattle.dmx_calls.specs.declared.node.NodeKind.TheVariants.{Dvr}
-use Rattle.dmx_calls.specs.Invocation.{Invocation, Read}
-use Rattle.dmx_calls.specs.Response.{Response, Passed, is_accepted}
-use Rattle.dmx_calls.specs.History.{History}
-use Rattle.dmx_calls.specs.Tenure.{Params, Empty}
-use Rattle.dmx_calls.specs.Rules.{dvr}
-use Rattle.dmx_calls.specs.Facts.{Ledger, facts}
-use Rattle.dmx_calls.specs.Answer.{expired_of}
-use Rattle.node_buffer.specs.Inside.Coherent.{CoherentIn}
-use Rattle.node_buffer.specs.Causes.{Causes}
-use Rattle.node_buffer.proofs.ReadCausing.{Readable, expired_either}
-use Rattle.node_buffer.proofs.Causing.{causes_for}
-use Rattle.dvr_core.specs.Inside.Step.{Knows, moved, next}
-use Rattle.dvr_core.specs.Inside.Gives.{Gives}
-use Rattle.dvr_core.specs.Stands.{CoreValue, StandsFor}
+use Rattle.dvr_core.proofs.Imports.{ℕ, ◌≡◌, refl, sym, ◌∙◌, ap, subst, true, false, Option, Some, None, Dvr, Invocation, Read, Response, Passed, is_accepted, History, Params, Empty, dvr, Ledger, expired_of, CoherentIn, Causes, Readable, expired_either, causes_for, Knows, moved, next, Gives, CoreValue, StandsFor}
+use Rattle.dmx_calls.specs.Facts.{facts}
 use Rattle.dvr_core.proofs.Standing.{knows}
 
 readable : (o : Option Ledger) → CoherentIn o → Readable Empty o

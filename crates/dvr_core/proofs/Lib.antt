@@ -9,3 +9,4 @@ pub mod Reading
 pub mod Cases
 pub mod Standing
 pub mod Causing
+pub mod Imports

@@ -1,27 +1,7 @@
 -- What is known of the history with one entry more, as the step of what was known before.
-use Rattle.std.proofs.Common.{ℕ, ◌≡◌, refl, ◌∙◌, ap, Bool, true, false, ◌||◌, List, [], ◌∷◌, Option, Some, map}
-use Rattle.std.specs.Prelude.{nat_eq}
-use Rattle.std.specs.List.{range_with_len}
-use Rattle.std.proofs.lemmas.Iterator.Adapters.{option_map_id}
-use Rattle.std.proofs.lemmas.Bool.{eqb-true}
-use Rattle.dmx_calls.specs.declared.params.Input.{Input}
-use Rattle.dmx_calls.specs.declared.params.Input.TheVariants.{Frontend}
-use Rattle.dmx_calls.specs.declared.limits.TheConstants.{DEMUX_NODES}
-use Rattle.dmx_calls.specs.Invocation.{Invocation, Open, Close, SetSize, Poll, Pass, End, Attach, Detach}
-use Rattle.dmx_calls.specs.Response.{Response, Passed, is_accepted}
-use Rattle.dmx_calls.specs.History.{Entry, History, entry_of, event, accepted, Since}
-use Rattle.dmx_calls.specs.Tenure.{tenure, dvr_size, is_end, has_ended}
-use Rattle.dmx_calls.specs.Capture.{dvr_capture}
-use Rattle.dmx_calls.specs.Items.{packets_in}
-use Rattle.dmx_calls.specs.Taps.{Tap, tap_after, tap_of}
-use Rattle.dmx_calls.specs.Rules.{dvr}
-use Rattle.dmx_calls.specs.Ledger.{answered_in, is_overflow}
-use Rattle.dmx_calls.specs.Facts.{Facts, ledger_at, facts}
-use Rattle.dmx_calls.proofs.Unaccepted.{dvr_same}
-use Rattle.node_buffer.specs.Inside.Coherent.{Coherent, CoherentIn}
-use Rattle.node_buffer.proofs.Silences.{Silent, accepted_of, quiet_of, nothing_of}
-use Rattle.dvr_core.specs.Tapped.{taps_of}
-use Rattle.dvr_core.specs.Inside.Step.{Knows, moved}
+use Rattle.dvr_core.proofs.Imports.{ℕ, ◌≡◌, refl, ◌∙◌, ap, Bool, true, false, ◌||◌, List, [], ◌∷◌, Option, Some, map, nat_eq, range_with_len, option_map_id, eqb-true, Input, Frontend, DEMUX_NODES, Invocation, Open, Close, SetSize, Poll, Pass, End, Attach, Detach, Response, Passed, is_accepted, Entry, History, entry_of, event, accepted, Since, tenure, dvr_size, is_end, has_ended, dvr_capture, packets_in, Tap, tap_after, dvr, answered_in, is_overflow, Facts, ledger_at, dvr_same, Coherent, CoherentIn, Silent, accepted_of, quiet_of, nothing_of, taps_of, Knows, moved}
+use Rattle.dmx_calls.specs.Taps.{tap_of}
+use Rattle.dmx_calls.specs.Facts.{facts}
 use Rattle.dvr_core.proofs.Tapping.{taps_same, taps_refused, taps_attached, taps_detached}
 use Rattle.dvr_core.proofs.Going.{facts_opened, facts_closed, facts_resized, Stays, facts_goes}
 use Rattle.dvr_core.proofs.Ledgers.{ledger_recorded}

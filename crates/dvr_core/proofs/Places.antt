@@ -1,6 +1,5 @@
 -- A change at one place of a list.
-use Rattle.std.proofs.Common.{ℕ, zero, suc, ◌<◌, ◌≤◌, ◌≡◌, refl, ap, List, [], ◌∷◌, set, get_or, replicate, length, arith}
-use Rattle.dvr_core.specs.Tapped.{changed_at}
+use Rattle.dvr_core.proofs.Imports.{ℕ, zero, suc, ◌<◌, ◌≤◌, ◌≡◌, refl, ap, List, [], ◌∷◌, set, get_or, replicate, length, arith, changed_at}
 
 module _ {X : Type 0} (change : X → X) where
   -- a place behind the end

@@ -1,18 +1,6 @@
 -- The same for a Read.
-use Rattle.std.proofs.Common.{ℕ, ◌≡◌, refl, sym, ◌∙◌, Bool, true, false, List, [], ◌∷◌, Option, Some, None, take, zero-add}
-use Rattle.std.proofs.Math.Nat.{sub-add_cancel}
-use Rattle.std.specs.Prelude.{option_map}
-use Rattle.dmx_calls.specs.Invocation.{Read}
-use Rattle.dmx_calls.specs.Response.{Response, Data, Again, Overflow, Passed, is_accepted}
-use Rattle.dmx_calls.specs.History.{Entry, History, entry_of, Since}
-use Rattle.dmx_calls.specs.Capture.{dvr_capture}
-use Rattle.dmx_calls.specs.Rules.{dvr}
-use Rattle.dmx_calls.specs.Ledger.{total, answered}
-use Rattle.dmx_calls.specs.Facts.{Ledger, ledger_at, ledger_of, facts}
-use Rattle.dmx_calls.specs.Answer.{ReadTerms, read_terms, most_bytes, read_response, expired_of}
-use Rattle.node_buffer.specs.Inside.Capturing.{with_response}
-use Rattle.node_buffer.specs.Inside.Coherent.{Coherent, CoherentIn}
-use Rattle.dmx_calls.proofs.Reading.{read_each}
+use Rattle.dvr_core.proofs.Imports.{ℕ, ◌≡◌, refl, sym, ◌∙◌, Bool, true, false, List, [], ◌∷◌, Option, Some, None, take, zero-add, sub-add_cancel, option_map, Read, Response, Data, Again, Overflow, Passed, is_accepted, Entry, History, entry_of, Since, dvr_capture, dvr, total, answered, Ledger, ledger_at, ledger_of, ReadTerms, read_terms, most_bytes, read_response, expired_of, with_response, Coherent, CoherentIn, read_each}
+use Rattle.dmx_calls.specs.Facts.{facts}
 use Rattle.dvr_core.proofs.Going.{Stays, facts_goes}
 use Rattle.dvr_core.proofs.Ledgers.{ledger_read, ledger_told}
 use Rattle.dvr_core.proofs.Moves.{Moves, known_by, taps_stay, coherent}

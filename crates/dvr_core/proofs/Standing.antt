@@ -1,15 +1,5 @@
 -- The dvr node that makes a call goes on to stand for the history with that entry.
-use Rattle.std.proofs.Common.{ℕ, ◌+◌, ◌≡◌, refl, sym, ◌∙◌, ap, subst, ◌∷◌, length, inl, inr, add-one}
-use Rattle.dmx_calls.specs.Invocation.{Invocation}
-use Rattle.dmx_calls.specs.Response.{Response, NoMemory}
-use Rattle.dmx_calls.specs.History.{History, entry_of}
-use Rattle.dmx_calls.specs.Rules.{dvr}
-use Rattle.dmx_calls.specs.Facts.{facts}
-use Rattle.dmx_calls.specs.Legal.{May}
-use Rattle.node_buffer.specs.Inside.Coherent.{CoherentIn}
-use Rattle.dvr_core.specs.Inside.Step.{Knows, next}
-use Rattle.dvr_core.specs.Inside.Gives.{Gives}
-use Rattle.dvr_core.specs.Stands.{CoreValue, StandsFor}
+use Rattle.dvr_core.proofs.Imports.{ℕ, ◌+◌, ◌≡◌, refl, sym, ◌∙◌, ap, subst, ◌∷◌, length, inl, inr, add-one, Invocation, Response, NoMemory, History, entry_of, dvr, facts, May, CoherentIn, Knows, next, Gives, CoreValue, StandsFor}
 use Rattle.dvr_core.proofs.Moves.{known, known_refused}
 use Rattle.dvr_core.proofs.Cases.{agrees}
 

@@ -1,16 +1,8 @@
 -- The taps that a history says, one entry later, and the packets that they name.
-use Rattle.std.proofs.Common.{ℕ, zero, suc, ◌+◌, ◌<◌, ◌≡◌, refl, sym, ap, Bool, true, false, List, [], ◌∷◌, Some, map, arith, zero-add}
-use Rattle.std.specs.Prelude.{if◌then◌else◌, ◌||◌, filter, nat_eq}
-use Rattle.std.specs.List.{list_any, range_with_len}
-use Rattle.std.proofs.lemmas.Bool.Decides.{nat_tests}
-use Rattle.lemmas.proofs.Lists.{any_of_map}
-use Rattle.dmx_calls.specs.declared.limits.TheConstants.{DEMUX_NODES}
-use Rattle.dmx_calls.specs.Invocation.{Attach, Detach}
-use Rattle.dmx_calls.specs.Response.{Response, is_accepted}
-use Rattle.dmx_calls.specs.History.{Entry, History, entry_of}
-use Rattle.dmx_calls.specs.Taps.{detached_by, tap_of, tap_names, is_tapped}
-use Rattle.dmx_calls.proofs.Unaccepted.{dvr_same}
-use Rattle.dvr_core.specs.Tapped.{taps_of, changed_at, attached, detached, some_names}
+use Rattle.dvr_core.proofs.Imports.{ℕ, zero, suc, ◌+◌, ◌<◌, ◌≡◌, refl, sym, ap, Bool, true, false, List, [], ◌∷◌, Some, map, arith, zero-add, if◌then◌else◌, filter, nat_eq, list_any, range_with_len, nat_tests, any_of_map, DEMUX_NODES, Attach, Detach, Response, is_accepted, Entry, History, entry_of, detached_by, tap_names, dvr_same, changed_at, attached, detached, some_names}
+use Rattle.std.specs.Prelude.{◌||◌}
+use Rattle.dmx_calls.specs.Taps.{tap_of, is_tapped}
+use Rattle.dvr_core.specs.Tapped.{taps_of}
 
 -- ------ a function's values at the places of a list, with another value at one place
 

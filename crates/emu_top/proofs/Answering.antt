@@ -1,30 +1,6 @@
 -- What a status says, and that the input determines it.
-use Rattle.std.proofs.Common.{◌≡◌, ◌<◌, ◌≤◌, ◌+◌, ◌-◌, ◌*◌, ◌^◌, ◌⊎◌, refl, sym, ap, subst, ◌∙◌, ℕ, Bool, true, false, List, [], ◌∷◌, ◌++◌, length, map, take, drop, append_assoc, arith, length-append, inl, inr}
-use Rattle.std.proofs.lemmas.List.{take-append-drop, length-drop, length-take}
-use Rattle.std.specs.Prelude.{Option, Some, None, IfSome, Result, Ok, Err, IfOk, IfErr}
-use Rattle.std.specs.Io.KnownBytes.{Appends, Consumes, Keeps}
-use Rattle.emu_io.specs.Causes.{raised, Rose}
-use Rattle.emu_io.specs.Ends.{SourceEnd, SinkEnd}
-use Rattle.client_script.specs.declared.line.Line.{Line}
-use Rattle.client_script.specs.declared.line.Line.TheVariants.{Feed, Tick, Command as CommandLine}
-use Rattle.client_script.proofs.Spelled.{are_spelled}
-use Rattle.client_script.specs.Script.{split, parted, grammar, most_bytes, script_len, whole_lines, IsScript, Scripted}
-use Rattle.client_script.proofs.Splitting.{split-found}
-use Rattle.script_run.specs.Budget.{most_calls, all_commands, bytes_written}
-use Rattle.command_words.specs.declared.Command.{Command}
-use Rattle.command_words.specs.declared.Command.TheVariants.{Steps, Run, Make, SelfTest, Check}
-use Rattle.command_words.specs.Meant.{meant}
-use Rattle.ts_make.specs.Made.{made}
-use Rattle.dmx_calls.specs.declared.outcome.Outcome.{Outcome}
-use Rattle.ts_watch.specs.Head.{told_head}
-use Rattle.serial_core.specs.declared.run.Left.{Left}
-use Rattle.report_text.specs.Report.{report_of}
-use Rattle.report_text.specs.Inside.Pieces.{AddsPart}
-use Rattle.emu_top.specs.Session.{Output, IsSerialOutput, IsThreadOutput, IsSums, Makes, Refuses}
-use Rattle.emu_top.specs.Inside.Reporting.{report_over, HasReported}
-use Rattle.emu_top.specs.Serves.{Answers, Outside, outside, NoWriteFails, HasWritten, Says, Determines, Does, Tells, Gives, Obeys, Serves}
-use Rattle.emu_top.specs.declared.status.Status.{Status}
-use Rattle.emu_top.specs.declared.status.Status.TheVariants.{Usage, Script, TooLong, ReadFault, WriteFault, NoMemory, Ok as Done, Wrong}
+use Rattle.emu_top.proofs.Imports.{◌≡◌, ◌<◌, ◌≤◌, ◌+◌, ◌-◌, ◌*◌, ◌^◌, ◌⊎◌, refl, sym, ap, subst, ◌∙◌, ℕ, Bool, true, false, List, [], ◌∷◌, ◌++◌, length, map, take, drop, append_assoc, arith, length-append, inl, inr, take-append-drop, length-drop, length-take, Option, Some, None, IfSome, Result, Ok, Err, IfOk, IfErr, Appends, Consumes, Keeps, raised, Rose, SourceEnd, SinkEnd, Line, Feed, Tick, CommandLine, are_spelled, parted, grammar, most_bytes, script_len, whole_lines, IsScript, Scripted, split-found, most_calls, all_commands, bytes_written, Command, Steps, Run, Make, SelfTest, Check, meant, made, Outcome, told_head, Left, report_of, AddsPart, Output, IsSerialOutput, IsThreadOutput, IsSums, Makes, Refuses, report_over, HasReported, Answers, Outside, outside, NoWriteFails, HasWritten, Says, Determines, Does, Tells, Gives, Obeys, Serves, Status, Usage, Script, TooLong, ReadFault, WriteFault, NoMemory, Done, Wrong}
+use Rattle.client_script.specs.Script.{split}
 
 pub keeps : (w : Option (List ℕ)) → Keeps w w
 keeps None = tt

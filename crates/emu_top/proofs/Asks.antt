@@ -1,20 +1,6 @@
 -- What an input asks, by the bytes that were taken of it.
-use Rattle.std.proofs.Common.{◌≡◌, ◌<◌, ◌≤◌, ◌+◌, ◌⊎◌, refl, sym, ap, subst, ◌∙◌, ℕ, zero, suc, Bool, true, false, List, [], ◌∷◌, ◌++◌, length, take, drop, get_or, append-nil, append_assoc, inl, inr, arith, length-append}
-use Rattle.std.proofs.lemmas.Bool.Decides.{nat_tests}
-use Rattle.std.proofs.lemmas.List.{take_all, take-append-le, take-append-drop, drop-append-le, length-take}
-use Rattle.std.proofs.KnownBytes.{Consumes-trans}
-use Rattle.std.specs.Prelude.{Option, Some, None, Ok, Err, IfSome, IfNone, nat_le}
-use Rattle.std.specs.Io.KnownBytes.{Consumes, IsAtEnd}
-use Rattle.emu_io.specs.Causes.{raised}
-use Rattle.emu_io.specs.Ends.{SourceEnd}
-use Rattle.client_script.specs.declared.fault.FaultKind.TheVariants.{Number, NoStream}
-use Rattle.client_script.specs.declared.fault.ScriptFault.{ScriptFault}
-use Rattle.client_script.specs.Script.{whole_lines}
-use Rattle.client_script.specs.Inside.Part.{HasNoFeed}
-use Rattle.client_script.proofs.Parting.{first}
-use Rattle.client_script.proofs.Searching.{whole_lines-line, whole_lines-none}
-use Rattle.emu_top.specs.Checking.{Asked, asked, asked_in, asked_behind, in_front, script_asked, size_of, EndsInLine, FailsToRead, HasFirstFault}
-use Rattle.emu_top.specs.Inside.Asking.{AsksFor, Begins}
+use Rattle.emu_top.proofs.Imports.{◌≡◌, ◌<◌, ◌≤◌, ◌+◌, ◌⊎◌, refl, sym, ap, subst, ◌∙◌, ℕ, zero, suc, Bool, true, false, List, [], ◌∷◌, ◌++◌, length, take, drop, get_or, append-nil, append_assoc, inl, inr, arith, length-append, nat_tests, take_all, take-append-le, take-append-drop, drop-append-le, length-take, Consumes-trans, Option, Some, None, Ok, Err, IfSome, IfNone, nat_le, Consumes, IsAtEnd, raised, SourceEnd, Number, NoStream, ScriptFault, whole_lines, HasNoFeed, first, whole_lines-line, whole_lines-none, Asked, asked_in, asked_behind, in_front, script_asked, size_of, EndsInLine, FailsToRead, HasFirstFault, AsksFor, Begins}
+use Rattle.emu_top.specs.Checking.{asked}
 
 -- ------ the first line
 

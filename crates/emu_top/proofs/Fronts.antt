@@ -1,22 +1,7 @@
 -- The first bytes of an input, up to and with the line `stream`.
-use Rattle.std.proofs.Common.{◌≡◌, ◌<◌, ◌≤◌, ◌+◌, ◌-◌, refl, sym, ap, ◌∙◌, ℕ, Bool, true, false, List, [], ◌∷◌, ◌++◌, length, take, drop, arith, length-append}
-use Rattle.std.proofs.lemmas.List.{take_all, length-drop}
-use Rattle.std.specs.Prelude.{Option, Some, None, IfSome, Result, Ok, Err, unwrap_or, if◌then◌else◌}
-use Rattle.std.specs.Option.{option_map}
-use Rattle.client_script.specs.Grammar.{meaning}
-use Rattle.client_script.specs.Script.{whole_lines, is_stream, script_len, grammar, lines_from, plain, with_said, Parsed, most_bytes, IsScript, Scripted}
-use Rattle.client_script.specs.declared.said.Said.{Said}
-use Rattle.client_script.specs.declared.fault.FaultKind.{FaultKind}
-use Rattle.client_script.specs.declared.fault.ScriptFault.{ScriptFault}
-use Rattle.client_script.proofs.Lengthening.{stream_ends_later}
-use Rattle.client_script.proofs.Parting.{front_of}
-use Rattle.client_script.proofs.Splitting.{split-found}
-use Rattle.ts_packet.specs.declared.size.PacketSize.{PacketSize}
-use Rattle.feed_pull.specs.Pulling.{Pulling, Pulls}
-use Rattle.client_script.specs.declared.fault.ScriptError.{ScriptError}
-use Rattle.client_script.specs.declared.fault.ScriptError.TheVariants.{Fault, NoMemory}
-use Rattle.client_script.specs.Script.{IsRead}
-use Rattle.emu_top.specs.Session.{Holds, IsFaultIn, status_of_error}
+use Rattle.emu_top.proofs.Imports.{◌≡◌, ◌<◌, ◌≤◌, ◌+◌, ◌-◌, refl, sym, ap, ◌∙◌, ℕ, Bool, true, false, List, [], ◌∷◌, ◌++◌, length, take, drop, arith, length-append, take_all, length-drop, Option, Some, None, IfSome, Result, Ok, Err, unwrap_or, if◌then◌else◌, option_map, meaning, whole_lines, is_stream, script_len, plain, with_said, Parsed, most_bytes, IsScript, Scripted, Said, FaultKind, ScriptFault, stream_ends_later, front_of, split-found, PacketSize, Pulling, Pulls, ScriptError, Fault, IsRead, Holds, IsFaultIn, status_of_error}
+use Rattle.client_script.specs.Script.{grammar, lines_from}
+use Rattle.client_script.specs.declared.fault.ScriptError.TheVariants.{NoMemory}
 
 -- ------ how many bytes may stand ahead
 

@@ -1,29 +1,9 @@
 -- The answer to what an input asks, and that the input determines it.
-use Rattle.std.proofs.Common.{◌≡◌, ◌<◌, ◌≤◌, ◌-◌, ◌^◌, ◌⊎◌, refl, sym, ap, subst, ◌∙◌, ℕ, Bool, true, false, List, ◌++◌, length, codes, inl, inr, arith, length-append}
-use Rattle.std.proofs.KnownBytes.{Consumes-trans}
-use Rattle.std.specs.Prelude.{All, Option, Some, None, IfSome, MatchOption, Result, Ok, Err, IfErr, IsErrAnd}
-use Rattle.std.specs.Io.KnownBytes.{Consumes}
-use Rattle.emu_io.specs.Causes.{Rose}
-use Rattle.emu_io.specs.Ends.{SourceEnd, SinkEnd}
-use Rattle.ts_packet.specs.Cut.{cut}
-use Rattle.ts_packet.specs.declared.size.PacketSize.{PacketSize}
-use Rattle.ts_packet.specs.Fields.{IsPacket}
-use Rattle.ts_watch.specs.Head.{told_head, head_of}
-use Rattle.client_script.specs.declared.fault.ScriptFault.{ScriptFault}
-use Rattle.client_script.specs.Script.{split, grammar, Scripted}
-use Rattle.feed_pull.specs.Pulling.{Pulling}
-use Rattle.feed_pull.specs.Streams.{OfStream}
-use Rattle.feed_pull.proofs.CutPackets.{are_packets}
-use Rattle.report_check.specs.Right.{IsRightReport}
-use Rattle.report_check.proofs.Right.{right_are_of_runs}
+use Rattle.emu_top.proofs.Imports.{◌≡◌, ◌<◌, ◌≤◌, ◌-◌, ◌^◌, ◌⊎◌, refl, sym, ap, subst, ◌∙◌, ℕ, Bool, true, false, List, ◌++◌, length, codes, inl, inr, arith, length-append, Consumes-trans, Option, Some, None, IfSome, MatchOption, Result, Ok, Err, IfErr, IsErrAnd, Consumes, Rose, SourceEnd, SinkEnd, cut, PacketSize, IsPacket, told_head, ScriptFault, split, grammar, Scripted, Pulling, OfStream, are_packets, IsRightReport, right_are_of_runs, IsSession, Holds, Takes, Refuses, ReadsTo, Asks, IsAnswer, Judges, Declines, SettlesAnswer, asked, script_asked, Begins, IsCutOff, IsWholeOf, wrong_as, Answers, Checks, Tells, WritesFront, WritesWhole, outside, Stream, Status, Usage, Script, TooLong, ReadFault, WriteFault, NoMemory, Done, Wrong}
+use Rattle.std.specs.Prelude.{All}
+use Rattle.ts_watch.specs.Head.{head_of}
 use Rattle.report_check.specs.declared.fault.Fault.{Fault}
-use Rattle.emu_top.specs.Session.{IsSession, Holds, Takes, Refuses, ReadsTo}
-use Rattle.emu_top.specs.Checking.{Asks, IsAnswer, Judges, Declines, SettlesAnswer, asked, answer_text, script_asked}
-use Rattle.emu_top.specs.Inside.Asking.{Begins, IsCutOff, IsWholeOf, wrong_as}
-use Rattle.emu_top.specs.Serves.{Answers, Checks, Tells, WritesFront, WritesWhole, outside}
-use Rattle.emu_top.specs.declared.stream.Stream.{Stream}
-use Rattle.emu_top.specs.declared.status.Status.{Status}
-use Rattle.emu_top.specs.declared.status.Status.TheVariants.{Usage, Script, TooLong, ReadFault, WriteFault, NoMemory, Ok as Done, Wrong}
+use Rattle.emu_top.specs.Checking.{answer_text}
 use Rattle.emu_top.proofs.Answering.{by_taken, keeps, split_more, steady}
 use Rattle.emu_top.proofs.Asks.{asked_more, of_input}
 use Rattle.emu_top.proofs.Rows.{head_rows}

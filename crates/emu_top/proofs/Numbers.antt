@@ -1,13 +1,5 @@
 -- The session of a number: its script has no fault, and it is short.
-use Rattle.std.proofs.Common.{◌≡◌, ◌<◌, ◌≤◌, ◌+◌, ◌*◌, ◌%◌, refl, sym, ap, subst, ◌∙◌, ℕ, suc, zero, Bool, true, false, List, [], ◌∷◌, ◌++◌, length, take, drop, append-nil, arith, length-append}
-use Rattle.std.proofs.lemmas.List.{take_all, length-replicate}
-use Rattle.std.specs.Prelude.{Option, Some, None, Ok, Err, is_ok, replicate}
-use Rattle.std.specs.Io.KnownBytes.{Consumes, IsAtEnd}
-use Rattle.std.specs.Int.{w16, w32, w64, to_be_bytes}
-use Rattle.emu_io.specs.Ends.{SourceEnd}
-use Rattle.section_crc.specs.Crc.{crc}
-use Rattle.ts_packet.specs.declared.size.PacketSize.TheVariants.{Of188}
-use Rattle.ts_watch.specs.Head.{told_head, head_of}
+use Rattle.emu_top.proofs.Imports.{◌≡◌, ◌<◌, ◌≤◌, ◌+◌, ◌*◌, ◌%◌, refl, sym, ap, subst, ◌∙◌, ℕ, suc, zero, Bool, true, false, List, [], ◌∷◌, ◌++◌, length, take, drop, append-nil, arith, length-append, take_all, length-replicate, Option, Some, None, Ok, Err, is_ok, replicate, Consumes, IsAtEnd, w16, w32, w64, to_be_bytes, SourceEnd, crc, Of188, told_head, head_of, split, script_len, whole_lines, Parsed, Scripted, are_spelled, split-found, summary_of, Left, Kind, packet_at, carrying, section, section_front, bytes_written, Runs, Refuses, ReadsTo, IsSession, IsSums, Status, Usage, Script, TooLong, ReadFault, WriteFault, NoMemory, Done, Wrong}
 use Rattle.text_forms.specs.Numbers.{value_after}
 use Rattle.text_forms.specs.Hex.{hex_digit, hex_byte}
 use Rattle.text_forms.specs.Words.{input_named, output_named}
@@ -17,18 +9,9 @@ use Rattle.text_forms.specs.Places.{place_with, place_named}
 use Rattle.client_script.specs.Words.{word_in}
 use Rattle.client_script.specs.Places.{places_in, filter_in}
 use Rattle.client_script.specs.Grammar.{number_in, numbered_target, target_of, name_of, section_in, pes_in, verb_in, command_in, asked_in, line_in, line_of, meaning}
-use Rattle.client_script.specs.Script.{split, grammar, script_len, whole_lines, lines_from, Parsed, Scripted}
-use Rattle.client_script.proofs.Spelled.{are_spelled}
-use Rattle.client_script.proofs.Splitting.{split-found}
-use Rattle.report_text.specs.Summary.{summary_of}
-use Rattle.serial_core.specs.declared.run.Left.{Left}
-use Rattle.ts_make.specs.declared.kind.Kind.{Kind}
-use Rattle.ts_make.specs.Made.{made, packets, packet_at, payload, carrying, section, section_front}
+use Rattle.client_script.specs.Script.{grammar, lines_from}
+use Rattle.ts_make.specs.Made.{made, packets, payload}
 use Rattle.ts_make.specs.Script.{script}
-use Rattle.script_run.specs.Budget.{bytes_written}
-use Rattle.emu_top.specs.Session.{Runs, Refuses, ReadsTo, IsSession, IsSums}
-use Rattle.emu_top.specs.declared.status.Status.{Status}
-use Rattle.emu_top.specs.declared.status.Status.TheVariants.{Usage, Script, TooLong, ReadFault, WriteFault, NoMemory, Ok as Done, Wrong}
 use Rattle.emu_top.proofs.Answering.{by_taken, not_too_long, split_more, steady}
 
 -- ------ its script

@@ -1,32 +1,6 @@
 -- What is to be written for a session, and why there is nothing.
-use Rattle.std.proofs.Common.{◌≡◌, ◌<◌, ◌≤◌, ◌+◌, ◌^◌, ◌⊎◌, refl, sym, ap, subst, ◌∙◌, ℕ, Bool, true, false, List, [], ◌++◌, length, map, append-nil, arith, length-append, inl, inr, IsTrue}
-use Rattle.std.proofs.lemmas.Bool.{cases_lt}
-use Rattle.std.proofs.KnownBytes.{Consumes-trans}
-use Rattle.std.specs.Prelude.{◌↔◌, Option, Some, None, IfSome, Ok, Err}
-use Rattle.std.specs.Io.KnownBytes.{Consumes, IsAtEnd}
-use Rattle.emu_io.specs.Causes.{raised, Rose}
-use Rattle.emu_io.specs.Ends.{SourceEnd}
-use Rattle.ts_packet.specs.Cut.{cut}
-use Rattle.ts_packet.specs.declared.size.PacketSize.{PacketSize}
-use Rattle.client_script.specs.declared.fault.ScriptFault.{ScriptFault}
-use Rattle.client_script.specs.Script.{split, grammar, most_bytes, script_len, whole_lines, Scripted}
-use Rattle.client_script.proofs.Parting.{front_of}
-use Rattle.client_script.proofs.Splitting.{split-found, split-missing}
-use Rattle.client_core.specs.declared.stop.Stop.{Stop}
-use Rattle.client_core.specs.declared.stop.Stop.TheVariants.{NoMemory as NoMemoryToRun, TooLong as RunTooLong}
-use Rattle.script_run.specs.Budget.{most_calls, all_commands, bytes_written, IsTooLong}
-use Rattle.feed_pull.specs.Pulling.{Pulling}
-use Rattle.feed_pull.specs.Streams.{OfStream}
-use Rattle.serial_core.specs.declared.run.Left.{Left}
-use Rattle.script_run.proofs.Passing.{writes_pass}
-use Rattle.serial_core.specs.Left.{histories_in, IsLeftBy}
-use Rattle.serial_core.specs.Runs.{IsAccountedRun}
-use Rattle.serial_core.proofs.Runs.{are_runs}
-use Rattle.emu_top.specs.Inside.Part.{IsUnended}
-use Rattle.emu_top.specs.Inside.Reporting.{report_over}
-use Rattle.emu_top.specs.Session.{Output, IsSession, IsSerialOutput, Holds, IsFaultIn, Takes, Makes, Runs, FailsEarly, Refuses, ReadsTo, status_of_stop}
-use Rattle.emu_top.specs.declared.status.Status.{Status}
-use Rattle.emu_top.specs.declared.status.Status.TheVariants.{Usage, Script, TooLong, ReadFault, WriteFault, NoMemory, Ok as Done, Wrong}
+use Rattle.emu_top.proofs.Imports.{◌≡◌, ◌<◌, ◌≤◌, ◌+◌, ◌^◌, ◌⊎◌, refl, sym, ap, subst, ◌∙◌, ℕ, Bool, true, false, List, [], ◌++◌, length, map, append-nil, arith, length-append, inl, inr, IsTrue, cases_lt, Consumes-trans, ◌↔◌, Option, Some, None, IfSome, Ok, Err, Consumes, IsAtEnd, raised, Rose, SourceEnd, cut, PacketSize, told_head, ScriptFault, split, grammar, most_bytes, script_len, whole_lines, Scripted, front_of, split-found, split-missing, Stop, NoMemoryToRun, RunTooLong, most_calls, all_commands, bytes_written, IsTooLong, Pulling, OfStream, Left, writes_pass, histories_in, IsLeftBy, IsAccountedRun, are_runs, AreFitting, IsUnended, report_over, Output, IsSession, IsSerialOutput, Holds, IsFaultIn, Takes, Makes, Runs, FailsEarly, Refuses, ReadsTo, status_of_stop, Status, Usage, Script, TooLong, ReadFault, WriteFault, NoMemory, Done, Wrong}
+use Rattle.emu_top.proofs.Ranged.{ranged, few_told}
 
 -- ------ the output
 
@@ -53,8 +27,9 @@ pub run_of : (batch : ℕ) (size : PacketSize) (script : Scripted) (puller : Pul
     → 1 ≤ batch → Takes x y first → Holds first size script puller
     → OfStream y z puller (λ ahead taken. IsLeftBy script batch puller.cutting.size (ahead ++ taken) ran)
     → (IsTrue ran.head.read_fault ↔ (y.faults < z.faults)) → y.faults ≤ z.faults → (ran.head.read_fault ≡ false → IsAtEnd z.left)
+    → AreFitting (told_head ran.head) (map (λ those. those.items) ran.outcomes.items) ran.histories
     → Runs batch size x z ran
-run_of batch size script puller x y z first ran one takes h of rose later end =
+run_of batch size script puller x y z first ran one takes h of rose later end fit =
     let taken = of.0 in
     let r : IsLeftBy script batch size (h.ahead ++ taken) ran = subst (λ s. IsLeftBy script batch s (h.ahead ++ taken) ran) h.takes_up (of.2 h.ahead h.pulls) in
     let s = h.splits taken in
@@ -72,6 +47,7 @@ run_of batch size script puller x y z first ran one takes h of rose later end =
       histories = r.histories;
       outcomes = r.outcomes;
       head = r.head;
+      range = ranged script batch packets _ _ _ _ _ _ r.head r.outcomes r.histories whole.run (few_told script r.run h.known.ranges) fit;
     }
 
 -- its report
@@ -86,6 +62,7 @@ reported batch size x y ran r = record {
   output = record {
     run = r.run;
     ran = r.ran;
+    range = r.range;
     report = rw (← r.head, ← r.outcomes, ← r.histories) refl;
   };
 }

@@ -1,15 +1,6 @@
 -- The rows of a stream's head stand in their order.
-use Rattle.std.proofs.Common.{◌≡◌, ◌<◌, ◌≤◌, ◌+◌, refl, sym, ap, subst, ◌∙◌, ℕ, zero, suc, add-one, Bool, true, false, List, [], ◌∷◌, ◌++◌, inl, inr, arith}
-use Rattle.std.proofs.lemmas.Bool.{cases_lt}
-use Rattle.std.proofs.lemmas.Bool.Decides.{nat_tests}
-use Rattle.std.specs.Prelude.{⊤, nat_le, nat_lt, ◌&&◌}
-use Rattle.ts_packet.specs.Counts.{counts}
-use Rattle.ts_packet.specs.Cut.{cut}
-use Rattle.ts_packet.specs.declared.size.PacketSize.{PacketSize}
-use Rattle.ts_watch.specs.declared.seen.PidRow.{PidRow}
-use Rattle.ts_watch.specs.Watching.{row_of}
-use Rattle.ts_watch.specs.Head.{head_of, rows_below}
-use Rattle.ts_watch.proofs.HeadLemmas.{rows-more, rows-same, rows-none}
+use Rattle.emu_top.proofs.Imports.{◌≡◌, ◌<◌, ◌≤◌, ◌+◌, refl, sym, ap, subst, ◌∙◌, ℕ, zero, suc, add-one, Bool, true, false, List, [], ◌∷◌, ◌++◌, inl, inr, arith, cases_lt, nat_tests, ⊤, nat_le, nat_lt, ◌&&◌, counts, cut, PacketSize, PidRow, row_of, rows_below, rows-more, rows-same, rows-none}
+use Rattle.ts_watch.specs.Head.{head_of}
 use Rattle.report_read.specs.Report.{are_rows}
 
 both : (a b : Bool) → (a && b) ≡ true → (a ≡ true) × (b ≡ true)

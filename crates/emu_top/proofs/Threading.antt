@@ -1,24 +1,9 @@
 -- The report of a run by threads.
-use Rattle.std.proofs.Common.{◌≡◌, ◌<◌, ◌≤◌, ℕ, Bool, false, List, ◌++◌, map, subst, IsTrue}
-use Rattle.std.specs.Prelude.{◌↔◌}
-use Rattle.std.specs.Io.KnownBytes.{IsAtEnd}
-use Rattle.emu_io.specs.Ends.{SourceEnd}
-use Rattle.ts_packet.specs.Cut.{cut}
-use Rattle.ts_packet.specs.declared.size.PacketSize.{PacketSize}
-use Rattle.dmx_calls.specs.declared.outcome.Outcome.{Outcome}
-use Rattle.ts_watch.specs.Head.{told_head}
-use Rattle.dmx_calls.specs.Calls.{told_entry}
-use Rattle.dmx_calls.specs.Log.{LogEntry}
-use Rattle.client_script.specs.Script.{Scripted}
-use Rattle.script_run.specs.WholeRun.{IsWholeRun}
-use Rattle.script_run.proofs.Passing.{writes_pass}
-use Rattle.feed_pull.specs.Pulling.{Pulling}
-use Rattle.feed_pull.specs.Streams.{OfStream}
+use Rattle.emu_top.proofs.Imports.{◌≡◌, ◌<◌, ◌≤◌, ℕ, Bool, false, List, ◌++◌, map, refl, subst, IsTrue, arith, ◌↔◌, IsAtEnd, SourceEnd, cut, PacketSize, Outcome, told_head, told_entry, LogEntry, clients_in, Scripted, IsWholeRun, few_in_all, writes_pass, Pulling, OfStream, AreWorked, report_of, AreFitting, Holds, IsThreadOutput, Takes, Makes}
 use Rattle.workers.specs.declared.left.Left.{Left}
-use Rattle.workers.specs.Left.{AreWorked, IsLeftBy}
-use Rattle.report_text.specs.Report.{report_of}
-use Rattle.emu_top.specs.Session.{Holds, IsThreadOutput, Takes, Makes}
+use Rattle.workers.specs.Left.{IsLeftBy}
 use Rattle.emu_top.proofs.Outputs.{made_of}
+use Rattle.emu_top.proofs.Ranged.{ranged}
 
 module _ (batch : ℕ) (size : PacketSize) (may : ℕ → Bool) (script : Scripted) (left : Left) where
   -- what became of the commands of each client
@@ -32,9 +17,9 @@ module _ (batch : ℕ) (size : PacketSize) (may : ℕ → Bool) (script : Script
 
   pub thread_output : (y z : SourceEnd) (puller : Pulling) (histories : List (List LogEntry)) (text : List ℕ)
       → puller.cutting.size ≡ size → OfStream y z puller (λ ahead taken. IsLeftBy script batch may puller.cutting.size (ahead ++ taken) left) → AreWhole histories
-      → text ≡ report_of (told_head left.head) became histories
+      → AreFitting (told_head left.head) became histories → clients_in script ≤ 8 → text ≡ report_of (told_head left.head) became histories
       → OfStream y z puller (λ ahead taken. IsThreadOutput batch size may script (ahead ++ taken) left.head.read_fault text)
-  thread_output y z puller histories text takes_up of whole e = (
+  thread_output y z puller histories text takes_up of whole fit few e = (
     of.0,
     of.1,
     λ ahead pulls.
@@ -46,6 +31,7 @@ module _ (batch : ℕ) (size : PacketSize) (may : ℕ → Bool) (script : Script
           outcomes = became;
           whole = all;
           played = writes_pass script batch packets histories all.run;
+          range = ranged script batch packets _ _ became became histories histories is.head refl refl all.run (omega (arith, all.clients, few)) fit;
           report = rw (← is.head) e;
         },
   )
@@ -55,8 +41,8 @@ module _ (batch : ℕ) (size : PacketSize) (may : ℕ → Bool) (script : Script
       → Takes x y first → Holds first size script puller
       → OfStream y z puller (λ ahead taken. IsLeftBy script batch may puller.cutting.size (ahead ++ taken) left) → AreWhole histories
       → (IsTrue left.head.read_fault ↔ (y.faults < z.faults)) → y.faults ≤ z.faults → (left.head.read_fault ≡ false → IsAtEnd z.left)
-      → failed ≡ left.head.read_fault → told ≡ became → text ≡ report_of (told_head left.head) told histories
+      → AreFitting (told_head left.head) became histories → failed ≡ left.head.read_fault → told ≡ became → text ≡ report_of (told_head left.head) told histories
       → Makes (IsThreadOutput batch size may) x z failed text
-  threads_made x y z first puller histories failed told text takes h of whole rose later end fault same e =
+  threads_made x y z first puller histories failed told text takes h of whole rose later end fit fault same e =
       let report : text ≡ report_of (told_head left.head) became histories = rw (← same) e in
-      rw fault (made_of (IsThreadOutput batch size may) size script puller x y z first left.head.read_fault text takes h (thread_output y z puller histories text h.takes_up of whole report) rose later end)
+      rw fault (made_of (IsThreadOutput batch size may) size script puller x y z first left.head.read_fault text takes h (thread_output y z puller histories text h.takes_up of whole fit (few_in_all script h.known.ranges) report) rose later end)

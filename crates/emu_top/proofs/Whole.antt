@@ -1,20 +1,6 @@
 -- A stream that is read to its end, or isn't.
-use Rattle.std.proofs.Common.{◌≡◌, ◌≢◌, ◌≤◌, ◌+◌, refl, sym, ap, subst, ◌∙◌, ℕ, zero, suc, false, List, [], ◌∷◌, ◌++◌, take, inl, inr, arith}
-use Rattle.std.proofs.lemmas.Bool.{cases_lt}
-use Rattle.std.specs.Prelude.{Some, None, slice_get}
-use Rattle.emu_io.specs.Ends.{SourceEnd}
-use Rattle.ts_watch.specs.Head.{told_head, head_of}
-use Rattle.feed_pull.specs.declared.fault.Reading.{Reading}
-use Rattle.feed_pull.specs.declared.fault.Reading.TheVariants.{Going, Ended, Failed, TooMany}
+use Rattle.emu_top.proofs.Imports.{◌≡◌, ◌≢◌, ◌≤◌, ◌+◌, refl, sym, ap, subst, ◌∙◌, ℕ, zero, suc, false, List, [], ◌∷◌, ◌++◌, take, inl, inr, arith, cases_lt, Some, None, slice_get, SourceEnd, told_head, head_of, Reading, Going, Ended, Failed, TooMany, Pulling, Pulls, HasGivenAll, fault_of, has_failed, Follows, Draws, OfStream, many_reads, ReadsTo, IsCutOff, IsWholeOf, Stream, TooLong, ReadFault}
 use Rattle.feed_pull.specs.declared.fault.PullFault.TheVariants as pull
-use Rattle.feed_pull.specs.Pulling.{Pulling, Pulls, HasGivenAll, fault_of, has_failed}
-use Rattle.feed_pull.specs.Steps.{Follows}
-use Rattle.feed_pull.specs.Streams.{Draws, OfStream}
-use Rattle.feed_pull.proofs.Stopping.{many_reads}
-use Rattle.emu_top.specs.Session.{ReadsTo}
-use Rattle.emu_top.specs.Inside.Asking.{IsCutOff, IsWholeOf}
-use Rattle.emu_top.specs.declared.stream.Stream.{Stream}
-use Rattle.emu_top.specs.declared.status.Status.TheVariants.{TooLong, ReadFault}
 use Rattle.emu_top.proofs.Outputs.{rose_of}
 
 -- one more from the front

@@ -1,17 +1,6 @@
 -- What is written for a session is the report of a run of it.
-use Rattle.std.proofs.Common.{◌≡◌, ◌<◌, ◌≤◌, ◌+◌, refl, sym, ap, ◌∙◌, ℕ, zero, suc, List, length, map, arith}
-use Rattle.std.proofs.lemmas.List.{length-map}
-use Rattle.std.specs.Prelude.{Some, slice_get}
-use Rattle.std.specs.List.{range_with_len}
-use Rattle.dmx_calls.specs.Log.{LogEntry}
-use Rattle.client_script.specs.Script.{clients_in, Scripted}
-use Rattle.client_core.specs.Outcomes.{outcomes}
-use Rattle.script_run.specs.IsRun.{IsRun}
-use Rattle.serial_core.specs.SerialRun.{Run, replies_of}
-use Rattle.serial_core.specs.Runs.{IsAccountedRun}
-use Rattle.serial_core.specs.Left.{histories_in, outcomes_in}
-use Rattle.report_check.specs.Right.{IsRunOf}
-use Rattle.emu_top.specs.Laws.{SerialOutputsAreOfRuns, ThreadOutputsAreOfRuns}
+use Rattle.emu_top.proofs.Imports.{◌≡◌, ◌<◌, ◌≤◌, ◌+◌, refl, sym, ap, ◌∙◌, ℕ, zero, suc, List, length, map, arith, length-map, Some, slice_get, range_with_len, LogEntry, clients_in, Scripted, outcomes, IsRun, replies_of, IsAccountedRun, histories_in, outcomes_in, IsRunOf, SerialOutputsAreOfRuns, ThreadOutputsAreOfRuns}
+use Rattle.serial_core.specs.SerialRun.{Run}
 
 -- a run in smaller batches
 wider : (script : Scripted) (most : ℕ) (packets : List (List ℕ)) (hs : List (List LogEntry)) → most ≤ 64 → IsRun script most packets hs → IsRun script 64 packets hs
@@ -29,7 +18,7 @@ wider script most packets hs few run = record {
 }
 
 -- the numbers from one on
-length_range : (from n : ℕ) → length (range_with_len from n) ≡ n
+pub length_range : (from n : ℕ) → length (range_with_len from n) ≡ n
 length_range from zero = refl
 length_range from (suc n) = ap suc (length_range (from + 1) n)
 
@@ -49,20 +38,20 @@ serial_run script batch packets r few a = record {
 }
 
 pub serial_outputs : SerialOutputsAreOfRuns
-serial_outputs batch size script stream text few o range = record {
+serial_outputs batch size script stream text few o = record {
   histories = histories_in o.run;
   outcomes = outcomes_in script o.run;
   run = serial_run script batch _ o.run few o.ran.whole;
-  range = range;
+  range = o.range;
   text = o.report;
 }
 
 pub thread_outputs : ThreadOutputsAreOfRuns
 unfolding wider
-thread_outputs batch size may script stream text few o range = record {
+thread_outputs batch size may script stream text few o = record {
   histories = o.histories;
   outcomes = o.outcomes;
   run = record { run = wider script batch _ o.histories few o.whole.run; clients = o.whole.clients; outcomes = o.whole.outcomes };
-  range = range;
+  range = o.range;
   text = o.report;
 }

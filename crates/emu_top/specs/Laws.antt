@@ -4,25 +4,19 @@ use Rattle.ts_packet.specs.Cut.{cut}
 use Rattle.ts_packet.specs.declared.size.PacketSize.{PacketSize}
 use Rattle.ts_watch.specs.Head.{head_of}
 use Rattle.client_script.specs.Script.{Scripted}
-use Rattle.serial_core.specs.Left.{histories_in, outcomes_in}
-use Rattle.report_read.specs.Ranges.{IsInRange}
-use Rattle.report_check.specs.Completed.{told_by}
 use Rattle.report_check.specs.Right.{IsReportOfRun}
 use Rattle.emu_top.specs.Session.{IsSerialOutput, IsThreadOutput}
 
--- What is written for a session on one thread, all of which was read, is the report of a run of it, where the numbers that it
--- tells fit their types: `check` answers `yes` to it.
+-- What is written for a session on one thread, all of which was read, is the report of a run of it: `check` answers `yes` to it.
 abbrev pub SerialOutputsAreOfRuns : Type 0
 SerialOutputsAreOfRuns =
     (batch : ℕ) (size : PacketSize) (script : Scripted) (stream text : List ℕ) → batch ≤ 64
-    → (o : IsSerialOutput batch size script stream false text)
-    → IsInRange (told_by (head_of size stream false) (outcomes_in script o.run) (histories_in o.run))
+    → IsSerialOutput batch size script stream false text
     → IsReportOfRun script (cut size stream).packets (head_of size stream false) text
 
 -- the same by threads
 abbrev pub ThreadOutputsAreOfRuns : Type 0
 ThreadOutputsAreOfRuns =
     (batch : ℕ) (size : PacketSize) (may : ℕ → Bool) (script : Scripted) (stream text : List ℕ) → batch ≤ 64
-    → (o : IsThreadOutput batch size may script stream false text)
-    → IsInRange (told_by (head_of size stream false) o.outcomes o.histories)
+    → IsThreadOutput batch size may script stream false text
     → IsReportOfRun script (cut size stream).packets (head_of size stream false) text

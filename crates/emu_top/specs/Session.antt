@@ -30,6 +30,8 @@ use Rattle.serial_core.specs.Left.{histories_in, outcomes_in}
 use Rattle.serial_core.specs.Runs.{IsAccountedRun}
 use Rattle.report_text.specs.Report.{report_of}
 use Rattle.report_text.specs.Summary.{summary_of}
+use Rattle.report_read.specs.Ranges.{IsInRange}
+use Rattle.report_check.specs.Completed.{told_by}
 use Rattle.ts_make.specs.Made.{made}
 use Rattle.emu_top.specs.declared.status.Status.{Status}
 use Rattle.emu_top.specs.declared.status.Status.TheVariants.{Script, TooLong, ReadFault, NoMemory}
@@ -63,22 +65,25 @@ pub record IsRunOf (batch : ℕ) (size : PacketSize) (script : Scripted) (stream
 abbrev pub Output : Type 1
 Output = (script : Scripted) → (stream : List ℕ) → (failed : Bool) → (text : List ℕ) → Type 0
 
--- on one thread: the report of the serial run
+-- on one thread: the report of the serial run, in which each number is one of its type
 pub record IsSerialOutput (batch : ℕ) (size : PacketSize) (script : Scripted) (stream : List ℕ) (failed : Bool)
     (text : List ℕ) : Type 0 where
   pub run : Run
   pub ran : IsRunOf batch size script stream run
+  pub range : IsInRange (told_by (head_of size stream failed) (outcomes_in script run) (histories_in run))
   pub report : text ≡ report_of (head_of size stream failed) (outcomes_in script run) (histories_in run)
 
 -- By threads: the report of 33 histories that are those of a run of the script over the packets of the stream, in full
 -- batches of this size but for the last, at moments that the clock may give. Each history is accounted, the outcomes are
--- those of the clients' commands by the replies in the histories, and clients play what they write.
+-- those of the clients' commands by the replies in the histories, clients play what they write, and each number that the report
+-- tells is one of its type.
 pub record IsThreadOutput (batch : ℕ) (size : PacketSize) (may : ℕ → Bool) (script : Scripted) (stream : List ℕ)
     (failed : Bool) (text : List ℕ) : Type 0 where
   pub histories : List (List LogEntry)
   pub outcomes : List (List Outcome)
   pub whole : IsWholeRun script batch may (cut size stream).packets outcomes histories
   pub played : PlayWhatTheyWrite script batch (cut size stream).packets histories whole.run
+  pub range : IsInRange (told_by (head_of size stream failed) outcomes histories)
   pub report : text ≡ report_of (head_of size stream failed) outcomes histories
 
 -- the text is the line of sums over the run of the session of a number, whose packets take up their own 188 bytes
@@ -117,6 +122,7 @@ pub record Runs (batch : ℕ) (size : PacketSize) (before after : SourceEnd) (an
   pub histories : answer.histories ≡ histories_in run
   pub outcomes : map (λ those. those.items) answer.outcomes.items ≡ outcomes_in script run
   pub head : told_head answer.head ≡ head_of size stream answer.head.read_fault
+  pub range : IsInRange (told_by (head_of size stream answer.head.read_fault) (outcomes_in script run) (histories_in run))
 
 -- the bytes that were taken are those of a session, and have this output
 pub record Makes (is_output : Output) (before after : SourceEnd) (failed : Bool) (text : List ℕ) : Type 0 where

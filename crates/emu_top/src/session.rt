@@ -6,6 +6,7 @@ ghost use Rattle.feed_pull.specs.declared.fault.Reading.TheVariants.{Going};
 ghost use Rattle.emu_top.specs.Session.{Holds, IsFaultIn, Refuses, Runs, Takes, status_of_error, status_of_stop};
 
 use crate::Status;
+use crate::fitting::look_at;
 use crate::part::{Front, PartError, read_front};
 use client_core::Stop;
 use client_script::{Script, ScriptError};
@@ -109,7 +110,10 @@ fn run_session<S: Source>(
 {
     let Session { script, puller } = session;
     match run_steps(alloc, &script, source, puller, batch) {
-        Ok(ran) => Ok(ran),
+        Ok(ran) => {
+            look_at(&ran);
+            Ok(ran)
+        }
         Err(stop) => Err(status_of_run(stop)),
     }
 }

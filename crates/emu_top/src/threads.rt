@@ -6,6 +6,7 @@ ghost use Rattle.emu_top.specs.Session.{Holds, IsThreadOutput, Makes, Refuses, T
 ghost use Rattle.emu_top.specs.Inside.Reporting.{report_over};
 
 use crate::Status;
+use crate::fitting::look_at;
 use crate::session::{Session, read_session, status_of_run};
 use adapter::Adapter;
 use emu_io::{Clock, Gate, Source};
@@ -56,11 +57,15 @@ fn run_threads<R: Threads + Wait + Sync, S: Source + Send, C: Clock + Sync, G: G
         clients,
     } = left;
     match histories_of_run(alloc, adapter, feeder, clients, feeding, logs) {
-        Ok(histories) => Ok(Left {
-            histories,
-            outcomes,
-            head,
-        }),
+        Ok(histories) => {
+            let ran = Left {
+                histories,
+                outcomes,
+                head,
+            };
+            look_at(&ran);
+            Ok(ran)
+        }
         Err(_) => Err(Status::NoMemory),
     }
 }

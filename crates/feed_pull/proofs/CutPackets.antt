@@ -1,13 +1,6 @@
 -- What is cut of a stream are packets.
-use Rattle.std.proofs.Common.{take, nat_le, if◌then◌else◌, ◌==◌, ◌-◌, ◌≡◌, ◌≤◌, refl, ℕ, zero, suc, Bool, true, false, List, [], ◌∷◌, length, arith}
-use Rattle.std.specs.Prelude.{All}
-use Rattle.std.proofs.lemmas.Bool.Decides.{nat_tests}
-use Rattle.std.proofs.lemmas.List.{length-take-le}
-use Rattle.std.proofs.lemmas.List.Elements.{All-nil, All-cons}
-use Rattle.ts_packet.specs.Fields.{IsPacket}
-use Rattle.ts_packet.specs.Cut.{cut, cut_after, in_bytes, packet_before, only_rest, skip_before}
-use Rattle.ts_packet.specs.declared.size.PacketSize.{PacketSize}
-use Rattle.ts_packet.proofs.CutLemmas.{at_least}
+use Rattle.feed_pull.proofs.Imports.{take, nat_le, if◌then◌else◌, ◌==◌, ◌-◌, ◌≡◌, ◌≤◌, refl, ℕ, zero, suc, Bool, true, false, List, [], ◌∷◌, length, arith, All, nat_tests, length-take-le, All-nil, All-cons, IsPacket, in_bytes, packet_before, only_rest, skip_before, PacketSize, at_least}
+use Rattle.ts_packet.specs.Cut.{cut, cut_after}
 
 cut_packets : (size : PacketSize) (inside : ℕ) (bytes : List ℕ) → All IsPacket (cut_after size inside bytes).packets
 unfolding cut_after

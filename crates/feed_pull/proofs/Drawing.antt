@@ -1,13 +1,5 @@
 -- Pulls one after another.
-use Rattle.std.proofs.Common.{◌≡◌, ◌≢◌, refl, sym, ap, subst, ◌∙◌, ℕ, List, [], ◌++◌, length, length-append, append_assoc, append-nil, arith}
-use Rattle.std.proofs.lemmas.List.{nil_from_length}
-use Rattle.std.proofs.KnownBytes.{Consumes-trans, Consumes-nil}
-use Rattle.emu_io.specs.Ends.{SourceEnd}
-use Rattle.ts_packet.specs.Cut.{cut}
-use Rattle.feed_pull.specs.Pulling.{Pulling, Pulls, IsDone}
-use Rattle.feed_pull.specs.declared.fault.Reading.TheVariants.{Going}
-use Rattle.feed_pull.specs.Steps.{Carries, ReadsNothing}
-use Rattle.feed_pull.specs.Streams.{Draws}
+use Rattle.feed_pull.proofs.Imports.{◌≡◌, ◌≢◌, refl, sym, ap, subst, ◌∙◌, ℕ, List, [], ◌++◌, length, length-append, append_assoc, append-nil, arith, nil_from_length, Consumes-trans, Consumes-nil, SourceEnd, cut, Pulling, Pulls, IsDone, Going, Carries, ReadsNothing, Draws}
 use Rattle.feed_pull.proofs.PullLemmas.{Follows-none, Follows-then, Pulls-front, Pulls-done}
 
 pub Carries-none : (x : SourceEnd) (p : Pulling) → Carries x x p [] p

@@ -1,22 +1,7 @@
 -- Laws of the steps of a pull, and of what a puller stands for.
-use Rattle.std.proofs.Common.{◌≡◌, ◌≢◌, ◌⊎◌, ℕ, ◌+◌, ◌*◌, ◌<◌, ◌≤◌, List, [], ◌++◌, length, take, drop, refl, sym, ap, subst, inl, inr, ◌∙◌, arith, length-append, append_assoc, Result, Ok, Err, None, Some, IfOk, IfSome}
-use Rattle.std.proofs.lemmas.List.{append-nil, take-append-le, take-append-drop, length-drop}
-use Rattle.std.proofs.Math.Seq.{take-append_seam}
-use Rattle.std.proofs.lemmas.Bool.{cases_lt}
-use Rattle.std.proofs.KnownBytes.{Consumes-trans, Consumes-nil}
-use Rattle.std.specs.declared.option.Option.{Option}
-use Rattle.std.specs.Io.KnownBytes.{IsAtEnd}
-use Rattle.emu_io.specs.Ends.{SourceEnd}
+use Rattle.feed_pull.proofs.Imports.{◌≡◌, ◌≢◌, ◌⊎◌, ℕ, ◌+◌, ◌*◌, ◌<◌, ◌≤◌, List, [], ◌++◌, length, take, drop, refl, sym, ap, subst, inl, inr, ◌∙◌, arith, length-append, append_assoc, Result, Ok, Err, None, Some, IfOk, IfSome, take-append-le, take-append-drop, length-drop, take-append_seam, cases_lt, Consumes-trans, Consumes-nil, Option, IsAtEnd, SourceEnd, Cutting, fresh, bytes_counted, IsRest, Cuts, IsTally, PacketSize, Tally, cut-append, cut-rest, cut_after-is_rest, cut_after-size, Cuts-none, Cuts-then, length-grown, packets-then, Watching, Watched, Reading, Going, Ended, Failed, TooMany, Pulling, IsPulling, Pulls, IsDone, IsNear, found_with, Reads, Goes, Gathers, Follows, HasGiven, ReadsNothing, Carries, with_room}
+use Rattle.std.proofs.lemmas.List.{append-nil}
 use Rattle.ts_packet.specs.Cut.{cut}
-use Rattle.ts_packet.specs.Cutting.{Cutting, fresh, bytes_counted, IsRest, Cuts, IsTally}
-use Rattle.ts_packet.specs.declared.size.PacketSize.{PacketSize}
-use Rattle.ts_packet.specs.declared.cutter.Tally.{Tally}
-use Rattle.ts_packet.proofs.CutLemmas.{cut-append, cut-rest, cut_after-is_rest, cut_after-size, Cuts-none, Cuts-then, length-grown, packets-then}
-use Rattle.ts_watch.specs.Watching.{Watching, Watched}
-use Rattle.feed_pull.specs.declared.fault.Reading.{Reading}
-use Rattle.feed_pull.specs.declared.fault.Reading.TheVariants.{Going, Ended, Failed, TooMany}
-use Rattle.feed_pull.specs.Pulling.{Pulling, IsPulling, Pulls, IsDone, IsNear}
-use Rattle.feed_pull.specs.Steps.{found_with, Reads, Goes, Gathers, Follows, HasGiven, ReadsNothing, Carries, with_room}
 
 pub cut-is_rest : (size : PacketSize) (xs : List ℕ) → IsRest size (cut size xs).rest
 unfolding cut

@@ -1,13 +1,5 @@
 -- How reading stops, and what is then so of the source and of its stream.
-use Rattle.std.proofs.Common.{◌≡◌, ◌≢◌, refl, sym, ap, ◌∙◌, ℕ, ◌+◌, ◌-◌, ◌^◌, ◌<◌, ◌≤◌, Bool, true, false, List, [], ◌++◌, length, Result, Ok, Err, OnErr, IsTrue, arith}
-use Rattle.std.specs.Prelude.{◌↔◌}
-use Rattle.std.specs.Io.KnownBytes.{IsAtEnd}
-use Rattle.emu_io.specs.Ends.{SourceEnd}
-use Rattle.feed_pull.specs.declared.fault.Reading.{Reading}
-use Rattle.feed_pull.specs.declared.fault.Reading.TheVariants.{Going, Ended, Failed, TooMany}
-use Rattle.feed_pull.specs.Pulling.{Pulling, Pulls, has_failed}
-use Rattle.feed_pull.specs.Steps.{Follows}
-use Rattle.feed_pull.specs.Streams.{Draws, OfStream}
+use Rattle.feed_pull.proofs.Imports.{◌≡◌, ◌≢◌, refl, sym, ap, ◌∙◌, ℕ, ◌+◌, ◌-◌, ◌^◌, ◌<◌, ◌≤◌, Bool, true, false, List, [], ◌++◌, length, Result, Ok, Err, OnErr, IsTrue, arith, ◌↔◌, IsAtEnd, SourceEnd, Reading, Going, Ended, Failed, TooMany, Pulling, Pulls, has_failed, Follows, Draws, OfStream}
 
 -- the source's count may rise once more while reading goes on
 pub still_counts : (old new : Reading) (x y : SourceEnd) → Follows old new x y → (old ≡ Going → x.faults < 2 ^ 64 - 1) → new ≡ Going → y.faults < 2 ^ 64 - 1

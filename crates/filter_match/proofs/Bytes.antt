@@ -1,13 +1,6 @@
 -- Tests over the bytes of a filter, one byte more at a time.
-use Rattle.std.proofs.Common.{rules, ◌≡◌, ◌≢◌, ℕ, zero, suc, ◌+◌, ◌-◌, ◌<◌, ◌≤◌, Bool, true, false, not, ◌&&◌, ◌||◌, nat_eq, nat_le, nat_lt, List, [], ◌∷◌, length, slice_index, bit_and, bit_xor, refl, sym, ap, ◌∙◌, inl, inr, arith}
-use Rattle.std.specs.List.{list_all, list_any}
-use Rattle.std.proofs.Math.Bool.{and-true, and-false, or-true, or-false}
-use Rattle.std.proofs.lemmas.List.Folds.{list_all-append, list_any-append}
-use Rattle.std.proofs.lemmas.Bool.{cases_lt}
-use Rattle.std.proofs.lemmas.Bool.Decides.{nat_tests}
-use Rattle.filter_match.specs.declared.filter.SectionFilter.{SectionFilter}
-use Rattle.filter_match.specs.Match.{place_of, numbers_below, reaches_at, differences, equals_at, differs_at, negates_at, matches}
-use Rattle.filter_match.specs.Inside.Compiling.{IsCompiled}
+use Rattle.filter_match.proofs.Imports.{rules, ◌≡◌, ◌≢◌, ℕ, zero, suc, ◌+◌, ◌-◌, ◌<◌, ◌≤◌, Bool, true, false, not, ◌&&◌, ◌||◌, nat_eq, nat_le, nat_lt, List, [], ◌∷◌, length, slice_index, bit_and, bit_xor, refl, sym, ap, ◌∙◌, inl, inr, arith, list_all, list_any, and-true, and-false, or-true, or-false, list_all-append, list_any-append, cases_lt, nat_tests, SectionFilter, place_of, IsCompiled}
+use Rattle.filter_match.specs.Match.{numbers_below, reaches_at, differences, equals_at, differs_at, negates_at, matches}
 
 pub all-more : (p : ℕ → Bool) (n : ℕ) → list_all p (numbers_below (n + 1)) ≡ (list_all p (numbers_below n) && p n)
 unfolding numbers_below

@@ -1,16 +1,7 @@
 -- `matches` says what a filter means bit by bit.
-use Rattle.std.proofs.Common.{rules, ◌≡◌, ◌≢◌, ℕ, zero, suc, ◌+◌, ◌-◌, ◌/◌, ◌%◌, ◌^◌, ◌<◌, min, Bool, true, false, not, ◌||◌, nat_eq, nat_lt, List, length, slice_index, bit_and, bit_xor, refl, sym, ap, ◌∙◌, inl, inr, arith, ◌↔◌, IsTrue}
-use Rattle.std.specs.List.{list_all, list_any}
+use Rattle.filter_match.proofs.Imports.{rules, ◌≡◌, ◌≢◌, ℕ, zero, suc, ◌+◌, ◌-◌, ◌/◌, ◌%◌, ◌^◌, ◌<◌, min, Bool, true, false, not, ◌||◌, nat_eq, nat_lt, List, length, slice_index, bit_and, bit_xor, refl, sym, ap, ◌∙◌, inl, inr, arith, ◌↔◌, IsTrue, list_all, list_any, cases_eq, cases_lt, and_parts, nat_tests, or-true, or-false, and_le_r, bit_at_and, bit_at_xor, bit_at_not, bit_at-zero, bit_at-trailing_zeros, by_bool, SectionFilter, place_of, numbers_below, bit_of, HasMode, IsMatch}
 use Rattle.std.specs.Int.{w8}
-use Rattle.std.proofs.lemmas.Bool.{cases_eq, cases_lt, and_parts}
-use Rattle.std.proofs.lemmas.Bool.Decides.{nat_tests}
-use Rattle.std.proofs.Math.Bool.{or-true, or-false}
-use Rattle.std.proofs.lemmas.Nat.{and_le_r}
-use Rattle.std.proofs.lemmas.Nat.Bits.{bit_at_and, bit_at_xor, bit_at_not, bit_at-zero, bit_at-trailing_zeros}
-use Rattle.lemmas.proofs.Tests.{by_bool}
-use Rattle.filter_match.specs.declared.filter.SectionFilter.{SectionFilter}
-use Rattle.filter_match.specs.Match.{place_of, numbers_below, reaches_at, differences, equals_at, differs_at, negates_at, matches}
-use Rattle.filter_match.specs.Meaning.{bit_of, HasMode, IsMatch}
+use Rattle.filter_match.specs.Match.{reaches_at, differences, equals_at, differs_at, negates_at, matches}
 use Rattle.filter_match.proofs.Bytes.{all-none, all-next, all-stops, any-none, any-more}
 
 -- ---- tests over the bytes, as facts on each

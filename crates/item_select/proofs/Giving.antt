@@ -1,11 +1,5 @@
 -- What giving an item leaves.
-use Rattle.std.specs.Prelude.{slice_get, ◌↔◌, IsNone}
-use Rattle.std.proofs.Common.{◌≡◌, List, [], ◌∷◌, ℕ, length, Option, Some, None, refl, sym, ◌∙◌, arith}
-use Rattle.std.proofs.lemmas.List.{append-nil}
-use Rattle.std.proofs.lemmas.List.Sums.{sum_by-cons}
-use Rattle.lemmas.proofs.Lists.{not_all}
-use Rattle.item_select.specs.Items.{items_of}
-use Rattle.item_select.specs.Selecting.{Selecting, Selects, Gave, without_first}
+use Rattle.item_select.proofs.Imports.{slice_get, ◌↔◌, IsNone, ◌≡◌, List, [], ◌∷◌, ℕ, length, Option, Some, None, refl, sym, ◌∙◌, arith, append-nil, sum_by-cons, not_all, items_of, Selecting, Selects, Gave, without_first}
 use Rattle.item_select.proofs.Selected.{Selects-next, without_first-none}
 
 -- what an answer says, an item or none

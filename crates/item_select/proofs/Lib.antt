@@ -1,3 +1,4 @@
 pub mod Giving
 pub mod Selected
 pub mod Viewed
+pub mod Imports

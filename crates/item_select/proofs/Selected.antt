@@ -1,22 +1,12 @@
 -- What a selector keeps stands for the packets offered, packet by packet and item by item.
-use Rattle.std.proofs.Common.{◌≡◌, ◌≢◌, ℕ, ◌≤◌, ◌&&◌, ◌||◌, subst, Bool, true, false, List, [], ◌∷◌, ◌++◌, length, take, drop, Option, Some, None, refl, sym, ap, ◌∙◌, arith, append_assoc, length-drop, suc, ◌+◌}
-use Rattle.std.proofs.lemmas.List.{append-nil}
-use Rattle.std.proofs.lemmas.List.Elements.{filter-append, filter_map-append}
-use Rattle.std.proofs.lemmas.List.Sums.{sum_by-cons, sum_by-take-le, sum_by-append}
-use Rattle.std.specs.List.{filter, filter_map, sum_by}
-use Rattle.filter_match.specs.declared.filter.SectionFilter.{SectionFilter}
-use Rattle.ts_packet.specs.Fields.{payload_of, payload_start, has_payload}
+use Rattle.item_select.proofs.Imports.{◌≡◌, ◌≢◌, ℕ, ◌≤◌, ◌&&◌, ◌||◌, subst, Bool, true, false, List, [], ◌∷◌, ◌++◌, length, take, drop, Option, Some, None, refl, sym, ap, ◌∙◌, arith, append_assoc, length-drop, suc, ◌+◌, append-nil, filter-append, filter_map-append, sum_by-cons, sum_by-take-le, sum_by-append, filter_map, sum_by, SectionFilter, payload_of, payload_start, has_payload, Assembly, after_packet, all_taken, length_of, goes, kept-stands, kept-append, Assembled-push, carried-few, stay, Give, Payload, Whole, Choice, Nothing, Sections, Packets, is_selected, first_if, given_by, Selecting, Selects, Follows, begun, is_once, listed, is_ready, without_first, bytes_held, OneIsAll, OneIsGiven, AllAreGiven}
+use Rattle.std.specs.List.{filter}
 use Rattle.ts_packet.specs.Clean.{clean, without_repeats_after}
 use Rattle.section_parse.specs.Segments.{runs}
 use Rattle.section_parse.specs.Sections.{sections}
-use Rattle.section_parse.specs.Inside.Keeping.{Assembly, after_packet, all_given as all_taken, kept as kept_after_all, length_of}
-use Rattle.section_parse.proofs.Assembled.{goes, kept-stands, kept-append, Assembled-push}
-use Rattle.section_parse.proofs.WholeLists.{carried-few, stay}
-use Rattle.item_select.specs.declared.selector.Give.{Give}
-use Rattle.item_select.specs.declared.selector.Give.TheVariants.{Payload, Whole}
-use Rattle.item_select.specs.Items.{Choice, Nothing, Sections, Packets, is_selected, first_if, given_by, items_of}
-use Rattle.item_select.specs.Selecting.{Selecting, Selects, Follows, begun, is_once, listed, after_offer, is_ready, without_first, all_given, bytes_held, items_found, kept_after}
-use Rattle.item_select.specs.Laws.{OneIsAll, OneIsGiven, AllAreGiven}
+use Rattle.section_parse.specs.Inside.Keeping.{kept as kept_after_all}
+use Rattle.item_select.specs.Items.{items_of}
+use Rattle.item_select.specs.Selecting.{after_offer, all_given, items_found, kept_after}
 
 abbrev pub of : Choice → Assembly → Bool → List (List ℕ) → Selecting
 of choice kept is_spent ready = record { choice = choice; kept = kept; is_spent = is_spent; ready = ready }

@@ -1,16 +1,6 @@
 -- What the fields of a selector say after a step.
-use Rattle.std.proofs.Common.{◌≡◌, ℕ, ◌+◌, ◌≤◌, Bool, true, false, List, [], ◌∷◌, length, filter, Option, Some, None, refl, arith}
-use Rattle.std.proofs.Math.Bool.{or-false}
-use Rattle.ts_packet.specs.Fields.{payload_of}
-use Rattle.section_parse.specs.Inside.Keeping.{Assembly, cleared, after_packet, all_given as all_taken, bytes_kept}
-use Rattle.filter_match.specs.declared.filter.SectionFilter.{SectionFilter}
-use Rattle.item_select.specs.declared.selector.Wanted.{Wanted}
-use Rattle.item_select.specs.declared.selector.Wanted.TheVariants.{Nothing as NothingWanted, Sections as SectionsWanted, Packets as PacketsWanted}
-use Rattle.item_select.specs.declared.selector.Give.{Give}
-use Rattle.item_select.specs.declared.selector.Give.TheVariants.{Payload}
-use Rattle.item_select.specs.Items.{Nothing, Sections, Packets, is_selected}
-use Rattle.item_select.specs.Selecting.{Selects, section_pid, after_offer, bytes_held}
-use Rattle.item_select.specs.Inside.SelectorView.{choice_of, selecting_of}
+use Rattle.item_select.proofs.Imports.{◌≡◌, ℕ, ◌+◌, ◌≤◌, Bool, true, false, List, [], ◌∷◌, length, filter, Option, Some, None, refl, arith, or-false, payload_of, Assembly, cleared, after_packet, all_taken, bytes_kept, SectionFilter, Wanted, NothingWanted, SectionsWanted, PacketsWanted, Give, Payload, Nothing, Sections, Packets, is_selected, Selects, section_pid, bytes_held, choice_of, selecting_of}
+use Rattle.item_select.specs.Selecting.{after_offer}
 use Rattle.item_select.proofs.Giving.{Answers, answers-some, answers-none}
 use Rattle.item_select.proofs.Selected.{Selects-begun, sum-selected, sum-packet}
 

@@ -1,11 +1,5 @@
 -- A call that is not refused is accepted, unless it opens a node that has an owner.
-use Rattle.std.proofs.Common.{ℕ, ◌≡◌, refl, sym, ◌∙◌, ap, Bool, true, false, Option, Some, None, inl, inr}
-use Rattle.std.specs.Prelude.{◌⊎◌, if◌then◌else◌, nat_eq}
-use Rattle.dmx_calls.specs.Invocation.{Invocation, Open, Close, SetFilter, SetPes, AddPid, RemovePid, Start, Stop, SetSize, Read, Poll, Pass, End, Attach, Detach}
-use Rattle.dmx_calls.specs.Response.{Response, Busy, is_accepted, TapChange}
-use Rattle.dmx_calls.specs.Facts.{Ledger, Facts}
-use Rattle.dmx_calls.specs.Answer.{read_terms, read_response, expired_of, open_response, done_dropping, response_to}
-use Rattle.dmx_calls.proofs.Reading.{read_each}
+use Rattle.node_buffer.proofs.Imports.{ℕ, ◌≡◌, refl, sym, ◌∙◌, ap, Bool, true, false, Option, Some, None, inl, inr, ◌⊎◌, if◌then◌else◌, nat_eq, Invocation, Open, Close, SetFilter, SetPes, AddPid, RemovePid, Start, Stop, SetSize, Read, Poll, Pass, End, Attach, Detach, Response, Busy, is_accepted, TapChange, Ledger, Facts, read_terms, read_response, expired_of, open_response, done_dropping, response_to, read_each}
 use Rattle.node_buffer.proofs.Silences.{accepted_of, dropping}
 
 pub dropping_accepted : (o : Option Ledger) (tap : TapChange) → is_accepted (done_dropping o tap) ≡ true

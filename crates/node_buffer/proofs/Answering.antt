@@ -1,11 +1,5 @@
 -- What a Read gives by the ledger is what the facts of a history answer.
-use Rattle.std.proofs.Common.{ℕ, ◌≡◌, refl, Bool, true, false, ◌||◌, Option, Some, None}
-use Rattle.std.specs.Prelude.{if◌then◌else◌, not, is_some, option_map}
-use Rattle.dmx_calls.specs.Response.{Passed}
-use Rattle.dmx_calls.specs.Items.{timeout_of}
-use Rattle.dmx_calls.specs.Facts.{Ledger, Facts}
-use Rattle.dmx_calls.specs.Answer.{is_section, read_terms, response_of_read, read_response, expired_of}
-use Rattle.node_buffer.specs.Inside.Capturing.{terms_of, is_due, expiring, read_by, with_response}
+use Rattle.node_buffer.proofs.Imports.{ℕ, ◌≡◌, refl, Bool, true, false, ◌||◌, Option, Some, None, if◌then◌else◌, not, is_some, option_map, Passed, timeout_of, Ledger, Facts, is_section, read_terms, response_of_read, read_response, expired_of, terms_of, is_due, expiring, read_by, with_response}
 
 module _ (f : Facts) where
   -- the expiry alone is another in the ledger after the entry

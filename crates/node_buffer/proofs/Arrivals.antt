@@ -1,20 +1,6 @@
 -- Items that arrive one by one, and the same items at once.
-use Rattle.std.proofs.Common.{ℕ, zero, suc, take, drop, add-one, ◌+◌, ◌-◌, ◌<◌, ◌≤◌, ◌≡◌, refl, sym, ◌∙◌, ap, subst, Bool, true, false, List, [], ◌∷◌, ◌++◌, Option, Some, None, length, arith, append_assoc, length-append, length-take, length-drop, add-zero, zero-add, add_assoc, one-add}
-use Rattle.std.specs.Prelude.{nat_eq, nat_lt, if◌then◌else◌, slice_get}
-use Rattle.std.specs.List.{concat}
-use Rattle.std.proofs.lemmas.List.Folds.{concat-append}
-use Rattle.std.proofs.lemmas.Bool.Decides.{nat_tests}
-use Rattle.std.proofs.lemmas.List.{append-nil, take-append-le, take_all}
-use Rattle.dmx_calls.specs.History.{History}
-use Rattle.dmx_calls.specs.Tenure.{Params, Empty, Section, Pes}
-use Rattle.dmx_calls.specs.Rules.{Rules}
-use Rattle.dmx_calls.specs.Ledger.{Misfit, keeps, edge_of, joined, total, answered, over, edge}
-use Rattle.dmx_calls.specs.Facts.{Ledger, rest_of_item, rest_of, ledger_at}
-use Rattle.dmx_calls.proofs.Ledgers.{PlacedIn, rest_of-end, over_none, ledger_next}
-use Rattle.dmx_calls.specs.Answer.{is_section}
-use Rattle.node_buffer.specs.Inside.Capturing.{terms_of, rest_with, with_lost, with_misfit, with_kept, with_item_by, with_item, with_items}
-use Rattle.node_buffer.specs.Inside.Coherent.{UnreadFits, Coherent}
-use Rattle.node_buffer.specs.declared.filter.Terms.{Terms}
+use Rattle.node_buffer.proofs.Imports.{ℕ, zero, suc, take, drop, add-one, ◌+◌, ◌-◌, ◌<◌, ◌≤◌, ◌≡◌, refl, sym, ◌∙◌, ap, subst, Bool, true, false, List, [], ◌∷◌, ◌++◌, Option, Some, None, length, arith, append_assoc, length-append, length-take, length-drop, add-zero, zero-add, add_assoc, one-add, nat_eq, nat_lt, if◌then◌else◌, slice_get, concat, concat-append, nat_tests, append-nil, take-append-le, take_all, History, Params, Empty, Section, Pes, Rules, Misfit, keeps, edge_of, answered, over, Ledger, rest_of_item, rest_of, ledger_at, PlacedIn, rest_of-end, over_none, ledger_next, is_section, terms_of, rest_with, with_lost, with_misfit, with_kept, with_item_by, with_item, with_items, UnreadFits, Coherent, Terms}
+use Rattle.dmx_calls.specs.Ledger.{joined, total, edge}
 use Rattle.node_buffer.proofs.Rests.{rest_some, rest_before, rest_behind_all}
 
 -- ------ lists

@@ -1,8 +1,5 @@
 -- Bytes that lie in two pieces.
-use Rattle.std.proofs.Common.{ℕ, min, ◌+◌, ◌-◌, ◌≡◌, ap, sym, ◌∙◌, inl, inr, List, ◌++◌, length, take, arith}
-use Rattle.std.proofs.lemmas.Bool.{cases_lt}
-use Rattle.std.proofs.lemmas.List.{take-append-le, take_all, append-nil}
-use Rattle.std.proofs.Math.Seq.{take-append-add}
+use Rattle.node_buffer.proofs.Imports.{ℕ, min, ◌+◌, ◌-◌, ◌≡◌, ap, sym, ◌∙◌, inl, inr, List, ◌++◌, length, take, arith, cases_lt, take-append-le, take_all, append-nil, take-append-add}
 
 -- the first bytes of two pieces: as many of the front as there are, then the others of the back
 pub take-two : (n split : ℕ) (front back : List ℕ) → split ≡ min n (length front) → take split front ++ take (n - split) back ≡ take n (front ++ back)

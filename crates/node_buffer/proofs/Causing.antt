@@ -1,16 +1,5 @@
 -- When each answer of a node comes, from what it gives.
-use Rattle.std.proofs.Common.{ℕ, ◌≡◌, refl, sym, ◌∙◌, ap, subst, true, false, Option, Some, None, arith, inl, inr}
-use Rattle.std.specs.Prelude.{not, nat_eq}
-use Rattle.std.proofs.lemmas.Bool.Decides.{nat_tests}
-use Rattle.dmx_calls.specs.declared.node.NodeKind.{NodeKind}
-use Rattle.dmx_calls.specs.declared.reply.Errno.{Errno}
-use Rattle.dmx_calls.specs.Invocation.{Invocation, Open, Close, SetFilter, SetPes, AddPid, RemovePid, Start, Stop, SetSize, Read, Poll, Pass, End, Attach, Detach}
-use Rattle.dmx_calls.specs.Response.{Response, Busy, Refused, NoMemory, is_accepted}
-use Rattle.dmx_calls.specs.Facts.{Facts}
-use Rattle.dmx_calls.specs.Legal.{is_done, takes_memory}
-use Rattle.dmx_calls.specs.Answer.{refusal_to, read_response, expired_of, open_response, response_to, response_unless, answer_by}
-use Rattle.node_buffer.specs.Inside.Gives.{GivesBy}
-use Rattle.node_buffer.specs.Causes.{ReadCauses, TakesMemory, Causes}
+use Rattle.node_buffer.proofs.Imports.{ℕ, ◌≡◌, refl, sym, ◌∙◌, ap, subst, true, false, Option, Some, None, arith, inl, inr, not, nat_eq, nat_tests, NodeKind, Errno, Invocation, Open, Close, SetFilter, SetPes, AddPid, RemovePid, Start, Stop, SetSize, Read, Poll, Pass, End, Attach, Detach, Response, Busy, Refused, NoMemory, is_accepted, Facts, is_done, takes_memory, refusal_to, read_response, expired_of, open_response, response_to, response_unless, answer_by, GivesBy, ReadCauses, TakesMemory, Causes}
 use Rattle.node_buffer.proofs.Accepted.{read_accepted, opened}
 use Rattle.node_buffer.proofs.ReadCausing.{Readable, read_cause}
 

@@ -1,10 +1,5 @@
 -- The ledger after bytes are read, by what the ring holds before.
-use Rattle.std.proofs.Common.{ℕ, ◌+◌, ◌≤◌, ◌≡◌, ap, Bool, true, false, List, Option, Some, None, length, drop, arith, length-drop}
-use Rattle.std.specs.Prelude.{option_map}
-use Rattle.node_buffer.specs.declared.buffer.Lost.{Lost}
-use Rattle.node_buffer.specs.declared.buffer.Capture.{Capture}
-use Rattle.node_buffer.specs.Inside.BufferView.{misfit_of, ledger_of, RingFits, CaptureHolds}
-use Rattle.node_buffer.specs.Inside.Coherent.{UnreadFits, Coherent}
+use Rattle.node_buffer.proofs.Imports.{ℕ, ◌+◌, ◌≤◌, ◌≡◌, ap, Bool, true, false, List, Option, Some, None, length, drop, arith, length-drop, option_map, Lost, Capture, misfit_of, ledger_of, RingFits, CaptureHolds, UnreadFits, Coherent}
 
 fits_read : (keeps : Bool) (o : Option Lost) (unread : List ℕ) (answered total most : ℕ) → answered ≤ total → RingFits keeps o unread answered total → most ≤ length unread
     → (answered + most ≤ total) × UnreadFits (option_map misfit_of o) (drop most unread) (answered + most) total

@@ -10,3 +10,4 @@ pub mod Accepted
 pub mod Owners
 pub mod ReadCausing
 pub mod Causing
+pub mod Imports

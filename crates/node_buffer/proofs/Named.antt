@@ -1,7 +1,5 @@
 -- Of packets those that are named: a packet that isn't is passed over.
-use Rattle.std.proofs.Common.{◌≡◌, ◌∙◌, ℕ, suc, ◌+◌, ◌<◌, Bool, true, false, List, [], ◌∷◌, Some, length, get_or, drop, refl, sym, ap, arith}
-use Rattle.std.specs.Prelude.{filter, slice_get}
-use Rattle.std.proofs.lemmas.List.{drop_more}
+use Rattle.node_buffer.proofs.Imports.{◌≡◌, ◌∙◌, ℕ, suc, ◌+◌, ◌<◌, Bool, true, false, List, [], ◌∷◌, Some, length, get_or, drop, refl, sym, ap, arith, filter, slice_get, drop_more}
 use Rattle.node_buffer.proofs.Arrivals.{drop-one}
 
 module _ (test : List ℕ → Bool) where

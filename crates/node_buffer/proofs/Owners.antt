@@ -1,18 +1,7 @@
 -- The owner of a node, of whichever kind, and the calls that only it may make.
-use Rattle.std.proofs.Common.{ℕ, ◌≡◌, refl, sym, ◌∙◌, ap, subst, Bool, true, false, Option, Some, None, arith}
-use Rattle.std.specs.Prelude.{nat_eq, not, if◌then◌else◌}
-use Rattle.std.proofs.lemmas.Bool.Decides.{nat_tests}
-use Rattle.dmx_calls.specs.declared.node.NodeKind.{NodeKind}
-use Rattle.dmx_calls.specs.declared.reply.Errno.{Errno}
-use Rattle.dmx_calls.specs.declared.reply.Errno.TheVariants.{Ebadf}
-use Rattle.dmx_calls.specs.Invocation.{Invocation}
-use Rattle.dmx_calls.specs.Response.{Response}
-use Rattle.dmx_calls.specs.History.{History, Since}
-use Rattle.dmx_calls.specs.Tenure.{tenure, owner}
-use Rattle.dmx_calls.specs.Rules.{Rules}
-use Rattle.dmx_calls.specs.Facts.{Facts, facts}
-use Rattle.dmx_calls.specs.Answer.{is_for_anybody, is_owned_by, refusal_to, response_to, response_unless}
-use Rattle.node_buffer.specs.Inside.Gives.{OrNoMemory, GivesBy, owner_refusal}
+use Rattle.node_buffer.proofs.Imports.{ℕ, ◌≡◌, refl, sym, ◌∙◌, ap, subst, Bool, true, false, Option, Some, None, arith, nat_eq, not, if◌then◌else◌, nat_tests, NodeKind, Errno, Ebadf, Invocation, Response, History, Since, tenure, Rules, Facts, is_for_anybody, is_owned_by, refusal_to, response_to, response_unless, OrNoMemory, GivesBy, owner_refusal}
+use Rattle.dmx_calls.specs.Tenure.{owner}
+use Rattle.dmx_calls.specs.Facts.{facts}
 
 -- ------ by the owner test
 

@@ -1,19 +1,6 @@
 -- When each answer to a Read comes.
-use Rattle.std.proofs.Common.{ℕ, ◌-◌, ◌<◌, ◌≤◌, ◌≡◌, refl, Bool, true, false, List, [], ◌∷◌, Option, Some, None, length, take, drop, arith, length-take}
-use Rattle.std.specs.Prelude.{if◌then◌else◌, not, ◌&&◌, nat_eq, nat_lt, is_some, option_map}
-use Rattle.std.specs.List.{concat}
-use Rattle.std.proofs.lemmas.Bool.Decides.{nat_tests}
-use Rattle.dmx_calls.specs.Response.{Response, Done, Busy, Refused, NoMemory, Data, Again, Overflow, TimedOut, Ready, Passed}
-use Rattle.dmx_calls.specs.Tenure.{Params, Empty, Section, Pes}
-use Rattle.dmx_calls.specs.Items.{timeout_of}
-use Rattle.dmx_calls.specs.Ledger.{Misfit}
-use Rattle.dmx_calls.specs.Facts.{Ledger, Facts, unread_of, rest_of}
-use Rattle.dmx_calls.specs.History.{is_empty}
-use Rattle.dmx_calls.specs.Answer.{is_section, read_terms, timed_out_of, most_bytes, first_of, read_response, expired_of}
-use Rattle.node_buffer.specs.Inside.Capturing.{with_response}
-use Rattle.node_buffer.specs.Inside.Coherent.{UnreadFits, Coherent}
+use Rattle.node_buffer.proofs.Imports.{ℕ, ◌-◌, ◌<◌, ◌≤◌, ◌≡◌, refl, Bool, true, false, List, [], ◌∷◌, Option, Some, None, length, take, drop, arith, length-take, if◌then◌else◌, not, ◌&&◌, nat_eq, nat_lt, is_some, option_map, concat, nat_tests, Response, Done, Busy, Refused, NoMemory, Data, Again, Overflow, TimedOut, Ready, Passed, Params, Empty, Section, Pes, timeout_of, Misfit, Ledger, Facts, unread_of, rest_of, is_empty, is_section, read_terms, timed_out_of, most_bytes, first_of, read_response, expired_of, with_response, UnreadFits, Coherent, gives_no_bytes, gives_bytes, ReadCausesBy, ReadCauses}
 use Rattle.node_buffer.proofs.Rests.{rest_some}
-use Rattle.node_buffer.specs.Causes.{gives_no_bytes, gives_bytes, ReadCausesBy, ReadCauses}
 
 -- on a section filter, where something is unread, something is left of the section at the front
 abbrev pub StillToRead : Params → (unread : List ℕ) → (rest : ℕ) → Type 0

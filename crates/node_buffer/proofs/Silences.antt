@@ -1,15 +1,5 @@
 -- Responses that answer no bytes and tell nothing of the capture.
-use Rattle.std.proofs.Common.{ℕ, ◌≡◌, refl, Bool, true, false, Option, Some, None}
-use Rattle.std.specs.Prelude.{if◌then◌else◌}
-use Rattle.dmx_calls.specs.declared.reply.PollError.{PollError}
-use Rattle.dmx_calls.specs.declared.reply.Tap.TheVariants.{Keep as KeepTap}
-use Rattle.dmx_calls.specs.Invocation.{Invocation}
-use Rattle.dmx_calls.specs.Response.{Response, Done, Ready, Passed, is_accepted, TapChange}
-use Rattle.dmx_calls.specs.History.{History, entry_of, event}
-use Rattle.dmx_calls.specs.Rules.{tells_timeout}
-use Rattle.dmx_calls.specs.Ledger.{answered_in, is_overflow}
-use Rattle.dmx_calls.specs.Facts.{Ledger}
-use Rattle.dmx_calls.specs.Answer.{done_dropping}
+use Rattle.node_buffer.proofs.Imports.{ℕ, ◌≡◌, refl, Bool, true, false, Option, Some, None, if◌then◌else◌, PollError, KeepTap, Invocation, Response, Done, Ready, Passed, is_accepted, TapChange, History, entry_of, event, tells_timeout, answered_in, is_overflow, Ledger, done_dropping}
 
 pub data Silent : Response → Type 0 where
   as_done : (from to : ℕ) → (tap : TapChange) → Silent (Done from to tap)

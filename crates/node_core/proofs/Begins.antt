@@ -1,23 +1,6 @@
 -- The same for calls that begin or end a tenure or a capture.
-use Rattle.std.proofs.Common.{ℕ, ◌≡◌, refl, ap, Bool, true, false, ◌∷◌, Some, None}
-use Rattle.std.specs.Prelude.{nat_eq, if◌then◌else◌}
-use Rattle.dmx_calls.specs.declared.params.SectionParams.{SectionParams}
-use Rattle.dmx_calls.specs.declared.params.PesParams.{PesParams}
-use Rattle.dmx_calls.specs.declared.limits.TheConstants.{IMMEDIATE_START}
-use Rattle.dmx_calls.specs.Invocation.{Open, Close, SetFilter, SetPes, Start, SetSize}
-use Rattle.dmx_calls.specs.Response.{Response, is_accepted}
-use Rattle.dmx_calls.specs.History.{Entry, Event, History, entry_of, event, Since}
-use Rattle.dmx_calls.specs.Tenure.{tenure, size, Section, Pes}
-use Rattle.dmx_calls.specs.Capture.{has_flag, begins, capture}
-use Rattle.dmx_calls.specs.Rules.{demux}
+use Rattle.node_core.proofs.Imports.{ℕ, ◌≡◌, refl, ap, Bool, true, false, ◌∷◌, Some, None, nat_eq, if◌then◌else◌, SectionParams, PesParams, IMMEDIATE_START, Open, Close, SetFilter, SetPes, Start, SetSize, Response, is_accepted, Entry, Event, History, entry_of, event, Since, tenure, size, Section, Pes, has_flag, begins, capture, demux, more, begun, tenure_after, capture_begun, fresh, offered-fresh, items-fresh, facts_opened, facts_closed, facts_started, facts_set_filter, facts_set_pes, facts_resized, Choice, Selecting, begun_selecting, Selects-begun, HasSelected, choice_of}
 use Rattle.dmx_calls.specs.Facts.{facts}
-use Rattle.dmx_calls.proofs.Going.{more, begun, tenure_after, capture_begun}
-use Rattle.dmx_calls.proofs.Ledgers.{fresh, offered-fresh, items-fresh}
-use Rattle.dmx_calls.proofs.After.{facts_opened, facts_closed, facts_started, facts_set_filter, facts_set_pes, facts_resized}
-use Rattle.item_select.specs.Items.{Choice}
-use Rattle.item_select.specs.Selecting.{Selecting, begun as begun_selecting}
-use Rattle.item_select.proofs.Selected.{Selects-begun}
-use Rattle.node_core.specs.Offers.{HasSelected, choice_of}
 use Rattle.node_core.proofs.Takings.{selected_none}
 use Rattle.node_core.proofs.Moves.{Moves, no_run}
 

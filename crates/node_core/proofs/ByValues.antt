@@ -1,21 +1,6 @@
 -- A call before which the node's filter may have expired, by what is known before and after the expiry.
-use Rattle.std.proofs.Common.{ℕ, ◌≡◌, refl, ◌∙◌, ap, Bool, true, false, Option, Some, None}
-use Rattle.std.specs.Prelude.{option_map, if◌then◌else◌, not, is_some, ◌||◌}
-use Rattle.dmx_calls.specs.declared.node.State.TheVariants.{Go}
-use Rattle.dmx_calls.specs.Invocation.{Read, Poll}
-use Rattle.dmx_calls.specs.Response.{Response, Ready, Passed, is_accepted}
-use Rattle.dmx_calls.specs.Tenure.{Params, Empty, Section, Pes}
-use Rattle.dmx_calls.specs.Items.{timeout_of}
-use Rattle.dmx_calls.specs.Facts.{Ledger, state_of_filter, state_of_ledger}
-use Rattle.dmx_calls.specs.Answer.{is_section, is_readable, pending, answered_of, expired_of, response_to}
-use Rattle.node_buffer.specs.Inside.Capturing.{terms_of, read_by, is_due, expiring, with_response}
-use Rattle.node_buffer.proofs.Accepted.{read_accepted}
-use Rattle.node_buffer.proofs.Answering.{read_is}
-use Rattle.node_buffer.proofs.Readings.{expired_at, then_answered, answered-expired}
-use Rattle.node_buffer.specs.Inside.Coherent.{CoherentIn}
-use Rattle.node_core.specs.Inside.Step.{Knows, next, moved}
-use Rattle.node_core.specs.Inside.Sound.{IsSoundBy}
-use Rattle.node_core.specs.Inside.KeptView.{reply_to}
+use Rattle.node_core.proofs.Imports.{ℕ, ◌≡◌, refl, ◌∙◌, ap, Bool, true, false, Option, Some, None, option_map, if◌then◌else◌, not, is_some, Go, Read, Poll, Response, Ready, Passed, is_accepted, Params, Empty, Section, Pes, timeout_of, Ledger, state_of_filter, state_of_ledger, is_section, is_readable, pending, answered_of, expired_of, response_to, terms_of, read_by, is_due, expiring, with_response, read_accepted, read_is, expired_at, then_answered, answered-expired, CoherentIn, Knows, next, moved, IsSoundBy, reply_to}
+use Rattle.std.specs.Prelude.{◌||◌}
 
 -- ------ a Read
 

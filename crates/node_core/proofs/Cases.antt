@@ -1,32 +1,7 @@
 -- Each call: its answer by what is known before it, and what is known after it.
-use Rattle.std.proofs.Common.{ℕ, ◌≡◌, refl, sym, ◌∙◌, ap, Bool, true, false, ◌||◌, List, ◌∷◌, Option, Some, None}
-use Rattle.std.specs.Prelude.{if◌then◌else◌, not, nat_eq, nat_lt}
-use Rattle.dmx_calls.specs.declared.node.NodeKind.TheVariants.{Demux}
-use Rattle.dmx_calls.specs.declared.params.Input.{Input}
-use Rattle.dmx_calls.specs.declared.params.SectionParams.{SectionParams}
-use Rattle.dmx_calls.specs.declared.params.PesParams.{PesParams}
-use Rattle.pid_set.specs.declared.set.TheConstants.{ALL_PACKETS}
-use Rattle.dmx_calls.specs.declared.reply.Errno.{Errno}
-use Rattle.dmx_calls.specs.declared.reply.Errno.TheVariants.{Ebadf, Einval}
-use Rattle.dmx_calls.specs.Invocation.{Invocation, Open, Close, SetFilter, SetPes, AddPid, RemovePid, Start, Stop, SetSize, Read, Poll, Pass, End, Attach, Detach}
-use Rattle.dmx_calls.specs.declared.reply.Tap.TheVariants.{Keep as KeepTap}
-use Rattle.dmx_calls.specs.Response.{Response, Done, Busy, Refused, Passed, is_accepted}
-use Rattle.dmx_calls.specs.History.{Entry, History, entry_of, Since}
-use Rattle.dmx_calls.specs.Tenure.{tenure, size, Params, setting}
-use Rattle.dmx_calls.specs.Capture.{capture}
-use Rattle.dmx_calls.specs.Rules.{demux}
-use Rattle.dmx_calls.specs.Facts.{Facts, ledger_of, facts, state_of}
-use Rattle.dmx_calls.specs.Refusal.{is_allocated, is_pes, add_refusal}
-use Rattle.dmx_calls.specs.Answer.{is_owned_by, refusal_to, read_response, response_to, with_call, answer}
-use Rattle.dmx_calls.proofs.Going.{setting_some}
-use Rattle.dmx_calls.proofs.Unaccepted.{demux_same}
-use Rattle.item_select.specs.Selecting.{Selecting}
-use Rattle.node_buffer.proofs.Owners.{owned, holds}
-use Rattle.node_buffer.proofs.Silences.{Silent, as_done, as_ready, as_passed, accepted_of, dropping, dropping_unless}
-use Rattle.node_core.specs.Inside.Step.{moved, next}
-use Rattle.node_core.specs.Offers.{HasSelected}
-use Rattle.node_core.specs.Inside.Sound.{IsSound}
-use Rattle.node_core.specs.Inside.Gives.{settled}
+use Rattle.node_core.proofs.Imports.{ℕ, ◌≡◌, refl, sym, ◌∙◌, ap, Bool, true, false, ◌||◌, List, ◌∷◌, Option, Some, None, if◌then◌else◌, not, nat_eq, nat_lt, Demux, Input, SectionParams, PesParams, ALL_PACKETS, Errno, Ebadf, Einval, Invocation, Open, Close, SetFilter, SetPes, AddPid, RemovePid, Start, Stop, SetSize, Read, Poll, Pass, End, Attach, Detach, KeepTap, Response, Done, Busy, Refused, Passed, is_accepted, Entry, History, entry_of, Since, tenure, size, Params, setting, capture, demux, Facts, ledger_of, state_of, is_allocated, is_pes, add_refusal, is_owned_by, refusal_to, read_response, response_to, with_call, setting_some, demux_same, Selecting, owned, holds, Silent, as_done, as_ready, as_passed, accepted_of, dropping, dropping_unless, moved, next, HasSelected, IsSound, settled}
+use Rattle.dmx_calls.specs.Facts.{facts}
+use Rattle.dmx_calls.specs.Answer.{answer}
 use Rattle.node_core.proofs.Looking.{HasItsPid}
 use Rattle.node_core.proofs.Moves.{known, Moves, stop_moves, poll_moves, same_size_moves, add_moves, remove_moves, end_moves}
 use Rattle.node_core.proofs.Begins.{open_moves, close_moves, start_moves, set_filter_moves, set_pes_moves, resized_moves}

@@ -1,26 +1,7 @@
 -- When each answer of a demux node comes, from what the node gives.
-use Rattle.std.proofs.Common.{ℕ, ◌≡◌, sym, subst, true, Option, Some, None}
-use Rattle.dmx_calls.specs.declared.node.NodeKind.TheVariants.{Demux}
-use Rattle.dmx_calls.specs.Invocation.{Invocation, Read}
-use Rattle.dmx_calls.specs.Response.{Response, Passed, is_accepted}
-use Rattle.dmx_calls.specs.History.{History, Since}
-use Rattle.dmx_calls.specs.Tenure.{Params, params}
-use Rattle.dmx_calls.specs.Capture.{capture}
-use Rattle.dmx_calls.specs.Items.{timeout_of, items}
-use Rattle.dmx_calls.specs.Rules.{demux}
-use Rattle.dmx_calls.specs.Ledger.{joined, total, answered, edge}
-use Rattle.dmx_calls.specs.Facts.{Ledger, Facts, ledger_of, facts}
-use Rattle.dmx_calls.specs.Answer.{is_section, expired_of}
-use Rattle.node_buffer.specs.Inside.Capturing.{expiring}
-use Rattle.node_buffer.specs.Inside.Coherent.{CoherentIn}
-use Rattle.node_buffer.specs.Causes.{Causes}
-use Rattle.node_buffer.proofs.Arrivals.{around_edge}
-use Rattle.node_buffer.proofs.ReadCausing.{Readable, still_by, expired_either}
-use Rattle.node_buffer.proofs.Causing.{causes_for}
-use Rattle.node_core.specs.Inside.Step.{Knows, moved, next}
-use Rattle.node_core.specs.Inside.Sound.{IsSoundFor, IsSound}
-use Rattle.node_core.specs.Inside.Gives.{Gives}
-use Rattle.node_core.specs.Stands.{CoreValue, StandsFor}
+use Rattle.node_core.proofs.Imports.{ℕ, ◌≡◌, sym, subst, true, Option, Some, None, Demux, Invocation, Read, Response, Passed, is_accepted, History, Since, Params, params, capture, timeout_of, items, demux, answered, edge, Ledger, Facts, ledger_of, is_section, expired_of, expiring, CoherentIn, Causes, around_edge, Readable, still_by, expired_either, causes_for, Knows, moved, next, IsSoundFor, IsSound, Gives, CoreValue, StandsFor}
+use Rattle.dmx_calls.specs.Ledger.{joined, total}
+use Rattle.dmx_calls.specs.Facts.{facts}
 use Rattle.node_core.proofs.Moves.{coherent_by}
 use Rattle.node_core.proofs.Standing.{knows}
 

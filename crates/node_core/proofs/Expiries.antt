@@ -1,14 +1,7 @@
 -- The expiry at an entry, by the ledger before it.
-use Rattle.std.proofs.Common.{ℕ, ◌+◌, ◌≡◌, refl, sym, ◌∙◌, ap, Bool, true, false, ◌||◌, Option, Some, None}
-use Rattle.std.specs.Prelude.{if◌then◌else◌, not, ◌&&◌, nat_eq, nat_le, is_some}
-use Rattle.std.specs.Option.{option_or}
-use Rattle.dmx_calls.specs.History.{History}
-use Rattle.dmx_calls.specs.Tenure.{Params, params}
-use Rattle.dmx_calls.specs.Items.{timeout_of, expiry}
+use Rattle.node_core.proofs.Imports.{ℕ, ◌+◌, ◌≡◌, refl, sym, ◌∙◌, ap, Bool, true, false, ◌||◌, Option, Some, None, if◌then◌else◌, not, ◌&&◌, nat_eq, nat_le, is_some, option_or, History, Params, params, timeout_of, Ledger, expired_then, expiring}
+use Rattle.dmx_calls.specs.Items.{expiry}
 use Rattle.dmx_calls.specs.Rules.{expired}
-use Rattle.dmx_calls.specs.Facts.{Ledger}
-use Rattle.dmx_calls.proofs.After.{expired_then}
-use Rattle.node_buffer.specs.Inside.Capturing.{expiring}
 
 -- without a timeout nothing expires
 pub never : (h : History) → nat_eq (timeout_of (params h)) 0 ≡ true → expired h ≡ None

@@ -12,3 +12,4 @@ pub mod Cases
 pub mod Standing
 pub mod Causing
 pub mod ByValues
+pub mod Imports

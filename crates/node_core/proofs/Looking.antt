@@ -1,25 +1,11 @@
 -- A section filter that is offered the packets of its PID alone selects as if it were offered all.
-use Rattle.std.proofs.Common.{◌≡◌, ℕ, ◌||◌, Bool, true, false, not, nat_eq, List, [], ◌∷◌, ◌++◌, Option, Some, None, refl, sym, ap, subst, ◌∙◌}
-use Rattle.std.specs.Prelude.{if◌then◌else◌, fold}
+use Rattle.node_core.proofs.Imports.{◌≡◌, ℕ, ◌||◌, Bool, true, false, List, [], ◌∷◌, ◌++◌, Option, Some, None, refl, sym, ap, subst, ◌∙◌, if◌then◌else◌, fold, filter-append, pid_of, unit_start, is_usable, carried, ALL_PACKETS, Assembly, cleared, repeats_last, joins_last, taken, opened, longer, pointed, Choice, Selecting, Selects, Follows, SetParams, EmptySet, SectionSet, PesSet, Params, Empty, Section, Pes, params_of, pids_of, is_named, Kept, Tenure, knows_in, knows_of, choice_of, is_offered}
+use Rattle.std.proofs.Common.{not, nat_eq}
 use Rattle.std.specs.List.{filter}
-use Rattle.std.proofs.lemmas.List.Elements.{filter-append}
-use Rattle.ts_packet.specs.Fields.{pid_of, unit_start}
-use Rattle.ts_packet.specs.Clean.{clean, is_usable, carried}
-use Rattle.pid_set.specs.declared.set.TheConstants.{ALL_PACKETS}
-use Rattle.section_parse.specs.Inside.Keeping.{Assembly, cleared, after_packet, all_given, kept, repeats_last, joins_last, taken, opened, longer}
-use Rattle.section_parse.specs.Segments.{pointed}
+use Rattle.ts_packet.specs.Clean.{clean}
+use Rattle.section_parse.specs.Inside.Keeping.{after_packet, all_given, kept}
 use Rattle.section_parse.specs.Sections.{sections}
-use Rattle.item_select.specs.Items.{Choice, items_of}
-use Rattle.item_select.specs.Selecting.{Selecting, Selects, Follows}
-use Rattle.dmx_calls.specs.declared.params.Params.{Params as SetParams}
-use Rattle.dmx_calls.specs.declared.params.Params.TheVariants.{Empty as EmptySet, Section as SectionSet, Pes as PesSet}
-use Rattle.dmx_calls.specs.Tenure.{Params, Empty, Section, Pes}
-use Rattle.dmx_calls.specs.Calls.{params_of, pids_of}
-use Rattle.dmx_calls.specs.Items.{is_named}
-use Rattle.node_core.specs.declared.kept.Kept.{Kept}
-use Rattle.node_core.specs.declared.tenure.Tenure.{Tenure}
-use Rattle.node_core.specs.Inside.KeptView.{knows_in, knows_of}
-use Rattle.node_core.specs.Offers.{choice_of, is_offered}
+use Rattle.item_select.specs.Items.{items_of}
 use Rattle.node_core.proofs.Offerings.{all_offered}
 
 -- ------ the PIDs of a node

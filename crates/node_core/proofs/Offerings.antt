@@ -1,21 +1,8 @@
 -- What a history offers to its selector, and the items that it selects.
-use Rattle.std.proofs.Common.{ℕ, ◌≡◌, refl, sym, ◌∙◌, ap, true, List, [], ◌∷◌, ◌++◌, None}
-use Rattle.std.specs.List.{filter, filter_map}
-use Rattle.std.proofs.lemmas.List.{append-nil}
-use Rattle.std.proofs.lemmas.List.Elements.{filter_map-append}
-use Rattle.dmx_calls.specs.declared.params.Output.{Output}
-use Rattle.dmx_calls.specs.declared.params.Output.TheVariants.{Decoder, Tap, TsTap, TsdemuxTap}
-use Rattle.dmx_calls.specs.declared.params.SectionParams.{SectionParams}
-use Rattle.dmx_calls.specs.declared.params.PesParams.{PesParams}
-use Rattle.dmx_calls.specs.History.{Event, History}
-use Rattle.dmx_calls.specs.Tenure.{Params, Empty, Section, Pes, params, pids}
-use Rattle.dmx_calls.specs.Items.{packets_in, packets_of, selects, section_items, is_named, item_of, pes_items, selected, offered, items}
-use Rattle.dmx_calls.specs.declared.params.Input.TheVariants.{Frontend}
-use Rattle.item_select.specs.declared.selector.Give.{Give}
-use Rattle.item_select.specs.declared.selector.Give.TheVariants.{Payload, Whole}
-use Rattle.item_select.specs.Items.{Packets, is_selected, given_by, items_of}
-use Rattle.item_select.specs.Selecting.{Selecting, Selects}
-use Rattle.node_core.specs.Offers.{choice_by, choice_of, offers}
+use Rattle.node_core.proofs.Imports.{ℕ, ◌≡◌, refl, sym, ◌∙◌, ap, true, List, [], ◌∷◌, ◌++◌, None, filter_map, append-nil, filter_map-append, Output, Decoder, Tap, TsTap, TsdemuxTap, SectionParams, PesParams, Event, History, Params, Empty, Section, Pes, params, pids, packets_in, packets_of, is_named, item_of, pes_items, selected, offered, Frontend, Give, Payload, Whole, Packets, given_by, Selecting, Selects, choice_by, choice_of, offers}
+use Rattle.std.specs.List.{filter}
+use Rattle.dmx_calls.specs.Items.{selects, section_items, items}
+use Rattle.item_select.specs.Items.{is_selected, items_of}
 
 -- ------ section filters
 

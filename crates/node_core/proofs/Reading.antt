@@ -1,40 +1,7 @@
 -- The same for a Read.
-use Rattle.std.proofs.Common.{ℕ, ◌+◌, ◌-◌, ◌<◌, ◌≤◌, ◌≡◌, refl, sym, ◌∙◌, ap, subst, Bool, true, false, List, [], ◌∷◌, ◌++◌, Option, Some, None, length, take, drop, arith, length-take, length-drop, add_comm, zero-add, drop-drop}
-use Rattle.std.proofs.Math.Nat.{sub-add_cancel}
-use Rattle.std.specs.Prelude.{if◌then◌else◌, nat_lt}
-use Rattle.std.specs.List.{All, concat}
-use Rattle.std.proofs.lemmas.Bool.Decides.{nat_tests}
-use Rattle.std.proofs.lemmas.List.{append-nil, drop-append-le}
-use Rattle.std.proofs.lemmas.List.Folds.{concat-append}
-use Rattle.std.proofs.Math.Seq.{take-append_seam}
-use Rattle.std.proofs.Math.ListN.{drop_of_length-le}
-use native.Mathlib.Decide.{dec_le}
-use Rattle.lemmas.proofs.Lists.{all_front}
-use Rattle.section_parse.specs.Sections.{IsSection}
-use Rattle.dmx_calls.specs.declared.params.SectionParams.{SectionParams}
-use Rattle.dmx_calls.specs.Invocation.{Read}
-use Rattle.dmx_calls.specs.Response.{Response, Data, Again, Overflow, TimedOut, Passed, is_accepted}
-use Rattle.dmx_calls.specs.History.{Entry, History, entry_of, Since}
-use Rattle.dmx_calls.specs.Tenure.{tenure, Params, Empty, Section, Pes, params, pids}
-use Rattle.dmx_calls.specs.Capture.{capture}
-use Rattle.dmx_calls.specs.Items.{timeout_of, items}
-use Rattle.dmx_calls.specs.Rules.{demux}
-use Rattle.dmx_calls.specs.Ledger.{Misfit, keeps, edge_of, joined, total, answered, over, edge}
-use Rattle.dmx_calls.specs.Facts.{Ledger, unread_of, rest_of_item, rest_of, ledger_at, facts}
-use Rattle.dmx_calls.specs.Answer.{is_section, ReadTerms, read_terms, most_bytes, read_response}
-use Rattle.dmx_calls.proofs.Going.{Stays}
-use Rattle.dmx_calls.proofs.Nodes.{demux_keeps}
-use Rattle.dmx_calls.proofs.Ledgers.{rest_of-end, edge_then}
-use Rattle.dmx_calls.proofs.Edges.{IsCut, cut_of}
-use Rattle.dmx_calls.proofs.Reading.{read_each}
-use Rattle.dmx_calls.proofs.After.{expired_then, facts_goes, ledger_still, ledger_told, stays_read, pids_stay}
-use Rattle.item_select.specs.Selecting.{Selecting}
-use Rattle.node_buffer.specs.Inside.Capturing.{expiring, front_length, rest_behind, with_response}
-use Rattle.node_core.specs.Offers.{HasSelected}
-use Rattle.node_buffer.specs.Inside.Coherent.{Coherent}
-use Rattle.node_core.specs.Inside.Sound.{IsSound}
-use Rattle.node_buffer.proofs.Arrivals.{placed_in, around_edge}
-use Rattle.node_buffer.proofs.Rests.{rest_before, rest_none, rest_read}
+use Rattle.node_core.proofs.Imports.{ℕ, ◌+◌, ◌-◌, ◌<◌, ◌≤◌, ◌≡◌, refl, sym, ◌∙◌, ap, subst, Bool, true, false, List, [], ◌∷◌, ◌++◌, Option, Some, None, length, take, drop, arith, length-take, length-drop, add_comm, zero-add, drop-drop, sub-add_cancel, if◌then◌else◌, nat_lt, All, concat, nat_tests, append-nil, drop-append-le, concat-append, take-append_seam, drop_of_length-le, dec_le, all_front, IsSection, SectionParams, Read, Response, Data, Again, Overflow, TimedOut, Passed, is_accepted, Entry, History, entry_of, Since, tenure, Params, Empty, Section, Pes, params, pids, capture, timeout_of, items, demux, Misfit, keeps, edge_of, answered, over, Ledger, unread_of, rest_of_item, rest_of, ledger_at, is_section, ReadTerms, read_terms, most_bytes, read_response, Stays, demux_keeps, rest_of-end, edge_then, IsCut, cut_of, read_each, expired_then, facts_goes, ledger_still, ledger_told, stays_read, pids_stay, Selecting, expiring, front_length, rest_behind, with_response, HasSelected, Coherent, IsSound, placed_in, around_edge, rest_before, rest_none, rest_read}
+use Rattle.dmx_calls.specs.Ledger.{joined, total, edge}
+use Rattle.dmx_calls.specs.Facts.{facts}
 use Rattle.node_core.proofs.WholeSections.{items_whole}
 use Rattle.node_core.proofs.Expiries.{never, expiring_is}
 use Rattle.node_core.proofs.Takings.{selected_goes, selected_quiet}

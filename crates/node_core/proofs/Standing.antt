@@ -1,19 +1,5 @@
 -- A node that makes a call goes on to stand for the history with that entry.
-use Rattle.std.proofs.Common.{ℕ, ◌+◌, ◌≡◌, refl, sym, ◌∙◌, ap, subst, [], ◌∷◌, length, inl, inr, add-one}
-use Rattle.dmx_calls.specs.Invocation.{Invocation}
-use Rattle.dmx_calls.specs.Response.{Response, NoMemory}
-use Rattle.dmx_calls.specs.History.{History, entry_of}
-use Rattle.dmx_calls.specs.Rules.{demux}
-use Rattle.dmx_calls.specs.Facts.{Facts, facts}
-use Rattle.dmx_calls.specs.Legal.{May}
-use Rattle.dmx_calls.proofs.Unaccepted.{demux_same}
-use Rattle.dmx_calls.proofs.Nodes.{demux_keeps}
-use Rattle.item_select.specs.Selecting.{Selecting}
-use Rattle.node_core.specs.Inside.Step.{Knows, next}
-use Rattle.node_core.specs.Offers.{HasSelected}
-use Rattle.node_core.specs.Inside.Sound.{IsSound}
-use Rattle.node_core.specs.Inside.Gives.{Gives}
-use Rattle.node_core.specs.Stands.{CoreValue, StandsFor}
+use Rattle.node_core.proofs.Imports.{ℕ, ◌+◌, ◌≡◌, refl, sym, ◌∙◌, ap, subst, [], ◌∷◌, length, inl, inr, add-one, Invocation, Response, NoMemory, History, entry_of, demux, Facts, facts, May, demux_same, demux_keeps, Selecting, Knows, next, HasSelected, IsSound, Gives, CoreValue, StandsFor}
 use Rattle.node_core.proofs.Looking.{HasItsPid}
 use Rattle.node_core.proofs.Takings.{selected_none}
 use Rattle.node_core.proofs.Moves.{known}

@@ -1,25 +1,7 @@
 -- What a selector takes in with an entry by which a capture goes on.
-use Rattle.std.proofs.Common.{ℕ, ◌≡◌, refl, sym, ◌∙◌, ap, Bool, true, false, List, [], ◌∷◌, ◌++◌, Option, Some, None, length, arith}
-use Rattle.std.specs.Prelude.{◌≢◌, ◌&&◌, not, if◌then◌else◌, is_some, nat_lt, filter}
-use Rattle.std.proofs.lemmas.Bool.{and_parts}
-use Rattle.std.proofs.lemmas.Bool.Decides.{nat_tests}
-use Rattle.std.proofs.lemmas.List.{append-nil}
-use Rattle.dmx_calls.specs.declared.params.Input.{Input}
-use Rattle.dmx_calls.specs.Invocation.{Pass}
-use Rattle.dmx_calls.specs.Response.{Passed}
-use Rattle.dmx_calls.specs.History.{Entry, History, entry_of, event, Since}
-use Rattle.dmx_calls.specs.Tenure.{tenure, Params, Empty, Section, Pes, params, pids}
-use Rattle.dmx_calls.specs.Capture.{capture, is_stopped}
-use Rattle.dmx_calls.specs.Items.{is_same_input, is_named, is_oneshot, packets_in, offered, items}
-use Rattle.dmx_calls.specs.Rules.{expired}
-use Rattle.dmx_calls.specs.Facts.{has_had_its_section}
-use Rattle.dmx_calls.proofs.Going.{Stays, params_stays, capture_stays}
-use Rattle.dmx_calls.proofs.Growth.{is_stopped_after, offered_stopped, offered_after_expiry, offered_more, items_quiet}
-use Rattle.item_select.specs.Selecting.{Selecting, is_once, items_found, kept_after, Selects}
-use Rattle.node_core.specs.Offers.{choice_of, input_of, is_offered, offers, HasSelected}
+use Rattle.node_core.proofs.Imports.{ℕ, ◌≡◌, refl, sym, ◌∙◌, ap, Bool, true, false, List, [], ◌∷◌, ◌++◌, Option, Some, None, length, arith, ◌≢◌, ◌&&◌, not, if◌then◌else◌, is_some, nat_lt, filter, and_parts, nat_tests, append-nil, Input, Pass, Passed, Entry, History, entry_of, event, Since, tenure, Params, Empty, Section, Pes, params, pids, capture, is_stopped, is_same_input, is_named, is_oneshot, packets_in, offered, items, expired, has_had_its_section, Stays, params_stays, capture_stays, is_stopped_after, offered_stopped, offered_after_expiry, offered_more, items_quiet, Selecting, is_once, items_found, kept_after, Selects, choice_of, input_of, is_offered, offers, HasSelected, all-selects, spent-selects, once-spent}
 use Rattle.node_core.proofs.Looking.{HasItsPid, offered-named}
 use Rattle.node_core.proofs.Offerings.{items_given}
-use Rattle.item_select.proofs.Selected.{all-selects, spent-selects, once-spent}
 
 -- the selector stands for the history
 abbrev pub Has : History → Selecting → Type 0

@@ -1,15 +1,8 @@
 -- The items of a section filter are whole sections.
-use Rattle.std.proofs.Common.{◌≡◌, Bool, true, false, List, take}
-use Rattle.std.specs.Prelude.{ℕ, if◌then◌else◌}
-use Rattle.std.specs.List.{All, filter}
-use Rattle.std.proofs.lemmas.List.Elements.{All-filter, All-take}
-use Rattle.section_parse.specs.Sections.{sections, IsSection}
-use Rattle.section_parse.proofs.WholeLists.{are_whole}
-use Rattle.dmx_calls.specs.declared.params.Input.TheVariants.{Frontend}
-use Rattle.dmx_calls.specs.declared.params.SectionParams.{SectionParams}
-use Rattle.dmx_calls.specs.History.{Event, History}
-use Rattle.dmx_calls.specs.Tenure.{Section, params}
-use Rattle.dmx_calls.specs.Items.{packets_of, selects, is_oneshot, section_items, offered, items}
+use Rattle.node_core.proofs.Imports.{◌≡◌, Bool, true, false, List, take, if◌then◌else◌, All, All-filter, All-take, sections, IsSection, are_whole, Frontend, SectionParams, Event, History, Section, params, packets_of, selects, is_oneshot, offered}
+use Rattle.std.specs.Prelude.{ℕ}
+use Rattle.std.specs.List.{filter}
+use Rattle.dmx_calls.specs.Items.{section_items, items}
 
 all_if : (b : Bool) (xs : List (List ℕ)) → All IsSection xs → All IsSection (if b then take 1 xs else xs)
 all_if true xs all = All-take IsSection 1 xs all

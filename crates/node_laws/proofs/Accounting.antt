@@ -1,15 +1,6 @@
 -- A legal history is accounted, for each node that keeps its capture and items.
-use Rattle.std.proofs.Common.{ℕ, ◌≡◌, refl, sym, subst, Bool, true, false, List, [], ◌∷◌}
-use Rattle.dmx_calls.specs.Response.{Response, is_accepted}
-use Rattle.dmx_calls.specs.History.{Entry, History, event, after_of}
-use Rattle.dmx_calls.specs.Rules.{Rules}
+use Rattle.node_laws.proofs.Imports.{ℕ, ◌≡◌, refl, sym, subst, Bool, true, false, List, [], ◌∷◌, Response, is_accepted, Entry, History, event, after_of, Rules, facts, with_call, May, IsLegalFor, Fits, AllFit, DropsRest, IsAccounted, joined_more, Goes, gone, anew, onward, Keeps}
 use Rattle.dmx_calls.specs.Ledger.{joined}
-use Rattle.dmx_calls.specs.Facts.{facts}
-use Rattle.dmx_calls.specs.Answer.{with_call}
-use Rattle.dmx_calls.specs.Legal.{May, IsLegalFor}
-use Rattle.dmx_calls.specs.Accounted.{Fits, AllFit, DropsRest, IsAccounted}
-use Rattle.dmx_calls.proofs.Ledgers.{joined_more}
-use Rattle.dmx_calls.proofs.Nodes.{Goes, gone, anew, onward, Keeps}
 use Rattle.node_laws.proofs.Fitting.{Fits_more, AllFit_more, response_fits, allowed_response}
 use Rattle.node_laws.proofs.Pending.{Pending, within, pending}
 

@@ -1,37 +1,9 @@
 -- A node answers no more bytes than its passes bring.
-use Rattle.std.proofs.Common.{ℕ, ◌+◌, ◌*◌, ◌≤◌, ◌≡◌, refl, sym, ap, ◌∙◌, subst, Bool, true, false, List, [], ◌∷◌, ◌++◌, Option, Some, None, length, drop, take, arith, length-drop, length-append}
-use Rattle.std.specs.Prelude.{if◌then◌else◌, nat_eq, nat_le, filter, filter_map, sum_by}
-use Rattle.std.specs.Option.{option_or, IfSome}
-use Rattle.std.specs.List.{All, concat, list_any}
-use Rattle.std.proofs.lemmas.List.Folds.{concat-append}
-use Rattle.std.proofs.lemmas.List.Sums.{sum_by-cons}
-use Rattle.std.proofs.lemmas.List.Elements.{All-filter, All-append, All-head, All-tail}
-use Rattle.lemmas.proofs.Lists.{all_front, all_behind}
-use Rattle.ts_packet.specs.Fields.{IsPacket, payload_start, has_payload}
-use Rattle.section_parse.specs.Sections.{sections}
-use Rattle.section_parse.proofs.WholeLists.{fit}
-use Rattle.dmx_calls.specs.declared.params.Input.{Input}
-use Rattle.dmx_calls.specs.declared.params.Input.TheVariants.{Frontend}
-use Rattle.dmx_calls.specs.declared.params.Output.{Output}
-use Rattle.dmx_calls.specs.declared.params.Output.TheVariants.{Decoder, Tap, TsTap, TsdemuxTap}
-use Rattle.dmx_calls.specs.declared.params.SectionParams.{SectionParams}
-use Rattle.dmx_calls.specs.declared.params.PesParams.{PesParams}
-use Rattle.dmx_calls.specs.Invocation.{Invocation, brought, Open, Close, SetFilter, SetPes, AddPid, RemovePid, Start, Stop, SetSize, Read, Poll, Pass, End, Attach, Detach}
-use Rattle.dmx_calls.specs.Response.{Response, Done, Busy, Refused, NoMemory, Data, Again, Overflow, TimedOut, Ready, Passed, is_accepted}
-use Rattle.dmx_calls.specs.History.{Entry, Event, History, is_empty, event, after_of, entry_of, brought_by}
-use Rattle.dmx_calls.specs.Tenure.{Params, Empty, Section, Pes, params, pids}
-use Rattle.dmx_calls.specs.Capture.{capture, stops, unstopped, live, started, dvr_capture}
-use Rattle.dmx_calls.specs.Items.{packets_in, packets_of, selects, is_oneshot, section_items, picked, pes_items, item_of, is_named, selected, timeout_of, clock_of, Expiry, expiry_at, expiry_in, expiry, offered_of, offered, items, is_same_input}
-use Rattle.dmx_calls.specs.Taps.{is_tapped, tapped, dvr_items}
-use Rattle.dmx_calls.specs.Rules.{Rules, demux, dvr}
-use Rattle.dmx_calls.specs.Ledger.{joined, total, answered, answered_in}
-use Rattle.dmx_calls.specs.Facts.{facts}
-use Rattle.dmx_calls.specs.Answer.{with_call}
-use Rattle.dmx_calls.specs.Legal.{May, IsLegalFor}
-use Rattle.dmx_calls.specs.Accounted.{Fits}
-use Rattle.node_laws.specs.Bytes.{bytes_answered, AnswersFitThePackets}
-use Rattle.dmx_calls.proofs.Ledgers.{answered_more, total_more}
-use Rattle.dmx_calls.proofs.Nodes.{Goes, gone, anew, onward, Keeps, demux_keeps, dvr_keeps}
+use Rattle.node_laws.proofs.Imports.{ℕ, ◌+◌, ◌*◌, ◌≤◌, ◌≡◌, refl, sym, ap, ◌∙◌, subst, Bool, true, false, List, [], ◌∷◌, ◌++◌, Option, Some, None, length, drop, take, arith, length-drop, length-append, if◌then◌else◌, nat_eq, nat_le, filter, filter_map, sum_by, option_or, IfSome, All, concat, list_any, concat-append, sum_by-cons, All-filter, All-append, All-head, All-tail, all_front, all_behind, IsPacket, payload_start, has_payload, sections, fit, Input, Frontend, Output, Decoder, Tap, TsTap, TsdemuxTap, SectionParams, PesParams, Invocation, brought, Open, Close, SetFilter, SetPes, AddPid, RemovePid, Start, Stop, SetSize, Read, Poll, Pass, End, Attach, Detach, Response, Done, Busy, Refused, NoMemory, Data, Again, Overflow, TimedOut, Ready, Passed, is_accepted, Entry, Event, History, is_empty, event, after_of, entry_of, brought_by, Params, Empty, Section, Pes, params, pids, capture, stops, unstopped, started, dvr_capture, packets_in, packets_of, selects, is_oneshot, picked, pes_items, item_of, is_named, selected, timeout_of, clock_of, Expiry, expiry_at, expiry_in, offered_of, is_same_input, is_tapped, tapped, Rules, demux, dvr, answered_in, facts, with_call, May, IsLegalFor, Fits, bytes_answered, AnswersFitThePackets, answered_more, total_more, Goes, gone, anew, onward, Keeps, demux_keeps, dvr_keeps}
+use Rattle.dmx_calls.specs.Capture.{live}
+use Rattle.dmx_calls.specs.Items.{section_items, expiry, offered, items}
+use Rattle.dmx_calls.specs.Taps.{dvr_items}
+use Rattle.dmx_calls.specs.Ledger.{joined, total, answered}
 use Rattle.node_laws.proofs.Fitting.{allowed_response, response_fits, answers_unread}
 use Rattle.node_laws.proofs.Pending.{Pending, within, pending}
 

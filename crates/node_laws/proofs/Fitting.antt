@@ -1,20 +1,8 @@
 -- An answer fits: it gives the next bytes up to the edge, or names those that are lost from there on.
-use Rattle.std.proofs.Common.{ℕ, zero, suc, ◌≤◌, ◌≡◌, refl, sym, ◌∙◌, ap, Bool, true, false, List, [], ◌∷◌, ◌++◌, Option, Some, None, length, drop, take, arith, inl, inr, length-take, length-drop, ◌+◌, ◌-◌}
-use Rattle.std.specs.Prelude.{if◌then◌else◌, nat_eq}
-use Rattle.std.proofs.lemmas.List.{take-append-le, drop-append-le}
-use Rattle.std.proofs.Math.Seq.{drop-nil}
-use native.Mathlib.Decide.{dec_le}
-use Rattle.dmx_calls.specs.declared.reply.Errno.{Errno}
-use Rattle.dmx_calls.specs.Invocation.{Invocation, Open, Close, SetFilter, SetPes, AddPid, RemovePid, Start, Stop, SetSize, Read, Poll, Pass, End, Attach, Detach}
-use Rattle.dmx_calls.specs.Response.{Response, Done, Busy, Refused, NoMemory, Data, Again, Overflow, TimedOut, Ready, Passed, is_accepted, TapChange}
-use Rattle.dmx_calls.specs.History.{Event, History, is_empty, event, entry_of, Since}
-use Rattle.dmx_calls.specs.Rules.{Rules}
-use Rattle.dmx_calls.specs.Ledger.{joined, total, answered, edge, answered_in, is_overflow}
-use Rattle.dmx_calls.specs.Facts.{Ledger, Facts, unread_of, ledger_at, ledger_of, facts}
-use Rattle.dmx_calls.specs.Answer.{ReadTerms, read_terms, refusal_to, most_bytes, response_of_read, expired_of, open_response, done_dropping, response_to, response_unless, answer, with_call}
-use Rattle.dmx_calls.specs.Legal.{May}
-use Rattle.dmx_calls.specs.Accounted.{Fits, AllFit}
-use Rattle.dmx_calls.proofs.Reading.{read_each}
+use Rattle.node_laws.proofs.Imports.{ℕ, zero, suc, ◌≤◌, ◌≡◌, refl, sym, ◌∙◌, ap, Bool, true, false, List, [], ◌∷◌, ◌++◌, Option, Some, None, length, drop, take, arith, inl, inr, length-take, length-drop, ◌+◌, ◌-◌, if◌then◌else◌, nat_eq, take-append-le, drop-append-le, drop-nil, dec_le, Errno, Invocation, Open, Close, SetFilter, SetPes, AddPid, RemovePid, Start, Stop, SetSize, Read, Poll, Pass, End, Attach, Detach, Response, Done, Busy, Refused, NoMemory, Data, Again, Overflow, TimedOut, Ready, Passed, is_accepted, TapChange, Event, History, is_empty, event, entry_of, Since, Rules, joined, answered, edge, answered_in, is_overflow, Ledger, Facts, unread_of, ledger_at, ledger_of, ReadTerms, read_terms, refusal_to, most_bytes, response_of_read, expired_of, open_response, done_dropping, response_to, response_unless, with_call, May, Fits, AllFit, read_each}
+use Rattle.dmx_calls.specs.Ledger.{total}
+use Rattle.dmx_calls.specs.Facts.{facts}
+use Rattle.dmx_calls.specs.Answer.{answer}
 
 -- ------ lists
 

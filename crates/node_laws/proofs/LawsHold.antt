@@ -1,25 +1,9 @@
 -- The laws of histories.
-use Rattle.std.proofs.Common.{ℕ, ◌+◌, ◌-◌, ◌<◌, ◌≤◌, ◌≡◌, refl, sym, ◌∙◌, ap, subst, Bool, true, false, not, List, [], ◌∷◌, ◌++◌, Option, Some, None, length, length-append, arith, append_assoc, inl, reverse, map}
-use Rattle.std.specs.Prelude.{if◌then◌else◌, is_some, nat_eq, nat_lt}
-use Rattle.std.specs.Option.{option_or}
-use Rattle.std.proofs.lemmas.List.{append-nil, reverse-append}
-use Rattle.std.proofs.lemmas.Bool.Decides.{nat_tests}
-use Rattle.dmx_calls.specs.Invocation.{Invocation, Open, Close, SetFilter, SetPes, AddPid, RemovePid, Start, Stop, SetSize, Read, Poll, Pass, End, Attach, Detach}
-use Rattle.dmx_calls.specs.declared.reply.Tap.TheVariants.{Keep as KeepTap}
-use Rattle.dmx_calls.specs.Response.{Response, Done, Busy, is_accepted, TapChange}
-use Rattle.dmx_calls.specs.History.{Entry, Event, History, entry_of, event, Since, after_of}
-use Rattle.dmx_calls.specs.Tenure.{tenure, owner}
-use Rattle.dmx_calls.specs.Capture.{capture, dvr_capture}
-use Rattle.dmx_calls.specs.Rules.{Rules, demux, dvr}
-use Rattle.dmx_calls.specs.Ledger.{Misfit, misfit, misfit_at, is_overflow, over_in, over, total, answered}
-use Rattle.dmx_calls.specs.Facts.{Facts, facts}
-use Rattle.dmx_calls.specs.Answer.{answer, done_dropping, response_to, with_call}
-use Rattle.dmx_calls.specs.Legal.{May, IsLegalFor}
-use Rattle.dmx_calls.specs.Accounted.{DropsRest}
-use Rattle.node_laws.specs.Laws.{LegalIsAccounted, ItemsOnlyGrow, OverflowNeedsMore, PlayedIsLegal}
-use Rattle.node_laws.specs.Plays.{answers}
-use Rattle.dmx_calls.proofs.Going.{more, begun}
-use Rattle.dmx_calls.proofs.Nodes.{Goes, gone, anew, onward, Keeps, demux_keeps, dvr_keeps}
+use Rattle.node_laws.proofs.Imports.{ℕ, ◌+◌, ◌-◌, ◌<◌, ◌≤◌, ◌≡◌, refl, sym, ◌∙◌, ap, subst, Bool, true, false, not, List, [], ◌∷◌, ◌++◌, Option, Some, None, length, length-append, arith, append_assoc, inl, reverse, map, if◌then◌else◌, is_some, nat_eq, nat_lt, option_or, append-nil, reverse-append, nat_tests, Invocation, Open, Close, SetFilter, SetPes, AddPid, RemovePid, Start, Stop, SetSize, Read, Poll, Pass, End, Attach, Detach, KeepTap, Response, Done, Busy, is_accepted, TapChange, Entry, Event, History, entry_of, event, Since, after_of, tenure, capture, Rules, demux, dvr, Misfit, misfit, misfit_at, is_overflow, over_in, total, answered, Facts, answer, done_dropping, response_to, with_call, May, IsLegalFor, DropsRest, LegalIsAccounted, ItemsOnlyGrow, OverflowNeedsMore, PlayedIsLegal, answers, more, begun, Goes, gone, anew, onward, Keeps, demux_keeps, dvr_keeps}
+use Rattle.dmx_calls.specs.Tenure.{owner}
+use Rattle.dmx_calls.specs.Capture.{dvr_capture}
+use Rattle.dmx_calls.specs.Ledger.{over}
+use Rattle.dmx_calls.specs.Facts.{facts}
 use Rattle.node_laws.proofs.Fitting.{allowed_response}
 use Rattle.node_laws.proofs.Accounting.{accounted}
 

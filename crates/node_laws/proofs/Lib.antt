@@ -4,3 +4,4 @@ pub mod LawsHold
 pub mod Bytes
 pub mod Owning
 pub mod Pending
+pub mod Imports

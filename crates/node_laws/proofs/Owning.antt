@@ -1,18 +1,9 @@
 -- Nobody but its owner reads a node, and it stays its owner's until the owner closes it.
-use Rattle.std.proofs.Common.{ℕ, ◌≡◌, refl, sym, ◌∙◌, ap, subst, Bool, true, false, [], ◌∷◌, ◌++◌, Option, Some, None, nat_eq, arith, inl, inr}
-use Rattle.std.specs.Prelude.{◌≢◌, option_map}
-use Rattle.std.proofs.lemmas.Bool.Decides.{nat_tests}
-use Rattle.dmx_calls.specs.declared.reply.Errno.TheVariants.{Ebadf}
-use Rattle.dmx_calls.specs.Invocation.{Invocation, Open, Close, SetFilter, SetPes, AddPid, RemovePid, Start, Stop, SetSize, Read, Poll, Pass, End, Attach, Detach}
-use Rattle.dmx_calls.specs.Response.{Response, Busy, Refused, is_accepted}
-use Rattle.dmx_calls.specs.History.{Entry, History, event, Since, entry_of}
-use Rattle.dmx_calls.specs.Tenure.{owner, opens, closes}
-use Rattle.dmx_calls.specs.Rules.{Rules}
+use Rattle.node_laws.proofs.Imports.{ℕ, ◌≡◌, refl, sym, ◌∙◌, ap, subst, Bool, true, false, [], ◌∷◌, ◌++◌, Option, Some, None, arith, inl, inr, ◌≢◌, option_map, nat_tests, Ebadf, Invocation, Open, Close, SetFilter, SetPes, AddPid, RemovePid, Start, Stop, SetSize, Read, Poll, Pass, End, Attach, Detach, Response, Busy, Refused, is_accepted, Entry, History, event, Since, entry_of, opens, closes, Rules, is_for_anybody, is_owned_by, open_response, May, IsLegalFor, is_done, OthersLeaveTheOwner, OthersDoNotRead, AreOthers, HasRead, ReadersCallBetween, tenure_refused, tenure_after, owner_after, owner_some}
+use Rattle.std.proofs.Common.{nat_eq}
+use Rattle.dmx_calls.specs.Tenure.{owner}
 use Rattle.dmx_calls.specs.Facts.{facts}
-use Rattle.dmx_calls.specs.Answer.{answer, is_for_anybody, is_owned_by, open_response}
-use Rattle.dmx_calls.specs.Legal.{May, IsLegalFor, is_done}
-use Rattle.node_laws.specs.Owning.{OthersLeaveTheOwner, OthersDoNotRead, AreOthers, HasRead, ReadersCallBetween}
-use Rattle.dmx_calls.proofs.Going.{tenure_refused, tenure_after, owner_after, owner_some}
+use Rattle.dmx_calls.specs.Answer.{answer}
 use Rattle.node_laws.proofs.Fitting.{allowed_response}
 
 not_owned : (other who : ℕ) (o : Option ℕ) → o ≡ Some who → other ≢ who → is_owned_by other o ≡ false

@@ -1,22 +1,7 @@
 -- What is answered in a legal history is before the edge, and an overflow that is pending stands behind it, so not all bytes are
 -- answered then.
-use Rattle.std.proofs.Common.{ℕ, ◌+◌, ◌-◌, ◌<◌, ◌≤◌, ◌≡◌, refl, sym, ◌∙◌, ap, subst, Bool, true, false, List, [], ◌∷◌, ◌++◌, Option, Some, None, length, arith, length-append}
-use Rattle.std.specs.Prelude.{if◌then◌else◌, nat_lt}
-use Rattle.std.specs.Option.{option_or, MatchOption}
-use Rattle.std.specs.List.{concat}
-use Rattle.std.proofs.lemmas.Bool.Decides.{nat_tests}
-use Rattle.dmx_calls.specs.Response.{Response, is_accepted}
-use Rattle.dmx_calls.specs.History.{Entry, History, event, Since, after_of}
-use Rattle.dmx_calls.specs.Rules.{Rules}
-use Rattle.dmx_calls.specs.Ledger.{Misfit, misfit, keeps, edge_of, joined, total, answered, answered_in, is_overflow, over, edge}
-use Rattle.dmx_calls.specs.Facts.{facts}
-use Rattle.dmx_calls.specs.Answer.{with_call}
-use Rattle.dmx_calls.specs.Legal.{May, IsLegalFor}
-use Rattle.dmx_calls.specs.Accounted.{Fits}
-use Rattle.node_laws.specs.Bytes.{OverflowNamesAByte}
-use Rattle.dmx_calls.proofs.Ledgers.{answered_more, total_more, over_more, over_cleared, edge_cleared}
-use Rattle.dmx_calls.proofs.Going.{more}
-use Rattle.dmx_calls.proofs.Nodes.{Goes, gone, anew, onward, Keeps}
+use Rattle.node_laws.proofs.Imports.{ℕ, ◌+◌, ◌-◌, ◌<◌, ◌≤◌, ◌≡◌, refl, sym, ◌∙◌, ap, subst, Bool, true, false, List, [], ◌∷◌, ◌++◌, Option, Some, None, length, arith, length-append, if◌then◌else◌, nat_lt, option_or, MatchOption, concat, nat_tests, Response, is_accepted, Entry, History, event, Since, after_of, Rules, Misfit, misfit, keeps, edge_of, answered_in, is_overflow, facts, with_call, May, IsLegalFor, Fits, OverflowNamesAByte, answered_more, total_more, over_more, over_cleared, edge_cleared, more, Goes, gone, anew, onward, Keeps}
+use Rattle.dmx_calls.specs.Ledger.{joined, total, answered, over, edge}
 use Rattle.node_laws.proofs.Fitting.{allowed_response, response_fits, answers_unread, answers_within}
 
 none_some : {o : Option Misfit} (x : Misfit) → o ≡ None → o ≡ Some x → ⊥

@@ -1,24 +1,5 @@
 -- Each kind of step keeps the rule of the lock.
-use Rattle.std.proofs.Common.{◌≡◌, ◌≢◌, ℕ, zero, suc, eqb, ◌+◌, ◌-◌, ◌%◌, ◌^◌, ◌<◌, ◌≤◌, inl, inr, ⊎_elim, List, [], ◌∷◌, ◌++◌, length, get_or, set, refl, sym, ap, ap₂, ◌∙◌, subst, arith, mod-eq_of_lt, lt_of_not-le, length-append, length-set, Option, Some, None}
-use mathlib.Core.Logic.{dite}
-use mathlib.Core.Option.{none, some, some-injective, some-ne-none}
-use mathlib.Core.List.{IsPrefix}
-use native.Mathlib.Decide.{ℕ_discrete, dec_le}
-use lib.ListN.{get_elem?}
-use prog.Atomic.{either}
-use Rattle.atomic_table.specs.Table.{State, Me, Act, step, keeps, takes, gives, Valid, carried_after, stepped, Allows, Splits, Joins, Seen, Final, opening, put_back}
-use Rattle.atomic_table.proofs.Lists.{set_else, at_longer, exchanged}
-use Rattle.node_lock.specs.declared.view.Stage.{Stage}
-use Rattle.node_lock.specs.declared.view.Stage.TheVariants.{Free, Drawn, Turn}
-use Rattle.node_lock.specs.declared.view.Miss.{Miss}
-use Rattle.node_lock.specs.declared.view.View.{View}
-use Rattle.lemmas.specs.Lists.{Has}
-use Rattle.lemmas.proofs.Lists.{has_either, has_right}
-use Rattle.node_lock.specs.Inside.Lists.{Once, up_from, tail}
-use Rattle.node_lock.specs.Inside.Seats.{calls_of, out_of, IsLive, HasTicket, starting, dealt, fresh, spent}
-use Rattle.node_lock.specs.Passes.{Stands, KnowsItsCalls, HasJust, KeptBegins, IsWhole}
-use Rattle.node_lock.specs.Rule.{Where, home, out, lies, IsOut, EachTicketHasASeat, OneSeatHasTheTurn, MachineStands, ThereIsOneHistory, IsTrueMiss, MissesAreTrue, LockRule}
-use Rattle.node_lock.specs.Inside.Kinds.{drew, sees, made, took_turn, missed, split_left, split_right, joined, TellsTicket, TellsDone, TellsCalls, GetsTurn, TellsLookAt, TellsLook, TellsTry}
+use Rattle.node_lock.proofs.Imports.{◌≡◌, ◌≢◌, ℕ, zero, suc, eqb, ◌+◌, ◌-◌, ◌%◌, ◌^◌, ◌<◌, ◌≤◌, inl, inr, ⊎_elim, List, [], ◌∷◌, ◌++◌, length, get_or, set, refl, sym, ap, ap₂, ◌∙◌, subst, arith, mod-eq_of_lt, lt_of_not-le, length-append, length-set, Option, Some, None, dite, none, some, some-injective, some-ne-none, IsPrefix, ℕ_discrete, dec_le, get_elem?, either, State, Me, Act, step, keeps, takes, gives, Valid, carried_after, stepped, Allows, Splits, Joins, Seen, Final, opening, put_back, set_else, at_longer, exchanged, Stage, Free, Drawn, Turn, Miss, View, Has, has_either, has_right, Once, up_from, tail, calls_of, out_of, IsLive, HasTicket, starting, dealt, fresh, spent, Stands, KnowsItsCalls, HasJust, KeptBegins, IsWhole, Where, home, out, lies, IsOut, EachTicketHasASeat, OneSeatHasTheTurn, MachineStands, ThereIsOneHistory, IsTrueMiss, MissesAreTrue, LockRule, drew, sees, made, took_turn, missed, split_left, split_right, joined, TellsTicket, TellsDone, TellsCalls, GetsTurn, TellsLookAt, TellsLook, TellsTry}
 use Rattle.node_lock.proofs.Views.{put, put_here, put_else, lefts_set, lefts_end, lefts_at, at_below, at_there, one_member, now_here, each_set, each_end, some_set, prefix_self, prefix_more, prefix_trans, prefix_whole, longer_is, up_from_below}
 use Rattle.node_lock.proofs.Bounds.{bounded_set, bounded_end, bounded_made, bounded_join}
 use Rattle.node_lock.proofs.Callers.{counted_same, counted_end, counted_cut, counted_join, knows_of}

@@ -1,15 +1,6 @@
 -- A call that is asked for has the moment at which it is made.
-use Rattle.std.proofs.Common.{◌≡◌, refl, sym, ap, ◌∙◌, ℕ, Option, Some, None}
-use Rattle.ts_batch.specs.Batch.{Packets}
-use Rattle.dmx_calls.specs.declared.log.Act.{Act}
-use Rattle.dmx_calls.specs.Log.{act_of}
-use Rattle.client_core.specs.declared.event.Request.{Request}
-use Rattle.client_core.specs.declared.event.Request.TheVariants.{Own, Attach, Detach, Pass}
-use Rattle.client_script.specs.declared.line.Want.TheVariants.{Open, Close, Section, Pes, Add, Remove, Start, Stop, Size, Read, Poll}
-use Rattle.client_core.specs.Deeds.{Batches, batch_at}
-use Rattle.client_core.specs.Commands.{call_of, pass_of}
-use Rattle.client_core.proofs.Playing.{has_write}
-use Rattle.report_check.specs.Inside.Steps.{asked_at, moment_in}
+use Rattle.report_check.proofs.Imports.{◌≡◌, refl, sym, ap, ◌∙◌, ℕ, Packets, Act, act_of, Request, Own, Attach, Detach, Pass, Open, Close, Section, Pes, Add, Remove, Start, Stop, Size, Read, Poll, Batches, batch_at, call_of, pass_of, has_write, asked_at, moment_in}
+use Rattle.std.proofs.Common.{Option, Some, None}
 
 passed_then : (batch : Option Packets) (m : ℕ) → moment_in (act_of (pass_of batch m)) ≡ m
 passed_then None m = refl

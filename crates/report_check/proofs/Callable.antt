@@ -1,30 +1,6 @@
 -- Each entry of a run is one of its callers, and can be made again.
-use Rattle.std.proofs.Common.{◌≡◌, ◌<◌, ◌≤◌, ◌+◌, refl, sym, ap, ◌∙◌, subst, ℕ, zero, suc, List, [], ◌∷◌, Bool, true, false, nat_eq, nat_lt, length, map, sum, take, drop, arith, length-take}
-use Rattle.std.proofs.lemmas.Bool.Decides.{nat_tests}
-use Rattle.std.proofs.lemmas.List.Elements.{All-head, All-tail, All-nil, All-cons, All-weaker}
-use Rattle.std.proofs.lemmas.List.Sums.{sum_by-cons}
-use Rattle.std.specs.Prelude.{Option, Some, None, IsSome, IfSome, slice_get, slice_index_or, nat_le}
-use Rattle.std.specs.List.{All, range_with_len}
-use Rattle.std.proofs.lemmas.List.{length-drop}
-use Rattle.std.proofs.lemmas.List.FromFn.{get_or-map-range_with_len}
-use Rattle.ts_batch.specs.Batch.{Packets}
-use Rattle.client_core.specs.PlayLaws.{IsPlayed as IsPlayedBatch, StandsAmong}
-use Rattle.client_core.proofs.Joining.{are_few, are_placed}
-use Rattle.dmx_calls.specs.declared.limits.TheConstants.{LARGEST_READ}
-use Rattle.dmx_calls.specs.Log.{LogEntry, act_of}
-use Rattle.client_script.specs.declared.line.Want.{Want}
-use Rattle.client_script.specs.declared.line.Want.TheVariants.{Read}
-use Rattle.client_script.specs.Script.{clients_in, IsScript, Scripted, writes_of}
-use Rattle.client_script.specs.Writes.{IsWritten}
-use Rattle.client_core.specs.declared.event.Event.{Event}
-use Rattle.client_core.specs.declared.event.Request.{Request}
-use Rattle.client_core.specs.declared.event.Request.TheVariants.{Own, Attach, Detach, Pass}
-use Rattle.client_core.specs.Deeds.{Batches, batch_at}
-use Rattle.client_core.specs.Commands.{call_of, own_call, pass_of, played, plays_of, IsRequestInRange, IsRequestOf}
-use Rattle.client_core.specs.Events.{next_event}
-use Rattle.script_run.specs.IsRun.{Batch, Step, feeding, steps_of, IsRun, replies, IsEvent}
-use Rattle.script_run.proofs.Clients.{few_in_all}
-use Rattle.report_check.specs.Inside.Parts.{all_played, is_callable, are_sound}
+use Rattle.report_check.proofs.Imports.{◌≡◌, ◌<◌, ◌≤◌, ◌+◌, refl, sym, ap, ◌∙◌, subst, ℕ, zero, suc, List, [], ◌∷◌, Bool, true, false, nat_eq, length, map, sum, take, drop, arith, length-take, nat_tests, All-head, All-tail, All-nil, All-cons, All-weaker, sum_by-cons, Option, Some, None, IsSome, IfSome, slice_get, slice_index_or, nat_le, All, range_with_len, length-drop, get_or-map-range_with_len, Packets, IsPlayedBatch, StandsAmong, are_few, are_placed, LARGEST_READ, LogEntry, act_of, Want, Read, clients_in, IsScript, Scripted, writes_of, IsWritten, Event, Request, Own, Attach, Detach, Pass, Batches, batch_at, call_of, own_call, pass_of, played, plays_of, IsRequestInRange, IsRequestOf, next_event, Batch, Step, feeding, steps_of, IsRun, replies, IsEvent, few_in_all, all_played, is_callable, are_sound}
+use Rattle.std.proofs.Common.{nat_lt}
 use Rattle.report_check.proofs.Feeding.{Fits, size_of}
 use Rattle.report_check.proofs.Ranges.{asks_in_range}
 

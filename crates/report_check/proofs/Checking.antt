@@ -1,25 +1,6 @@
 -- Whether a report is right, by what was found of it.
-use Rattle.std.proofs.Common.{◌≡◌, ◌<◌, ◌≤◌, ◌^◌, refl, sym, ap, subst, ◌∙◌, ℕ, zero, suc, List, [], ◌∷◌, true, length, map, arith}
-use Rattle.std.proofs.lemmas.Bool.Decides.{nat_tests}
-use Rattle.std.proofs.lemmas.List.Elements.{All-head, All-tail, All-nil, All-cons}
-use Rattle.std.specs.Prelude.{◌≢◌, ◌&&◌, nat_le, nat_lt, slice_index_or, ◌+◌}
-use Rattle.std.specs.List.{All}
-use Rattle.dmx_calls.specs.declared.limits.TheConstants.{DEMUX_NODES}
-use Rattle.dmx_calls.specs.declared.params.Input.{Input}
-use Rattle.dmx_calls.specs.declared.params.Input.TheVariants.{Frontend, Dvr as FromDvr}
-use Rattle.dmx_calls.specs.declared.log.Act.{Act}
-use Rattle.dmx_calls.specs.declared.log.Act.TheVariants.{Read as ReadAct, Pass as PassAct}
-use Rattle.dmx_calls.specs.Log.{LogEntry}
-use Rattle.ts_watch.specs.Head.{StreamHead}
-use Rattle.client_script.specs.Script.{IsScript, Scripted}
-use Rattle.report_text.specs.Told.{ToldNode, Told, text_of}
-use Rattle.report_read.specs.Ranges.{IsInRange, IsNodeInRange}
-use Rattle.report_read.specs.Report.{IsNoReport, IsReport}
-use Rattle.report_read.proofs.WholeAgain.{one_thing}
-use Rattle.report_check.specs.Completed.{completed}
-use Rattle.report_check.specs.Right.{IsRunOf, IsRightReport}
-use Rattle.report_check.specs.Playing.{IsCallable, brought_from}
-use Rattle.report_check.specs.Inside.Parts.{count_for, is_callable, is_sound, are_sound, IsSoundNode, AreSoundNodes, HasPassed}
+use Rattle.report_check.proofs.Imports.{◌≡◌, ◌<◌, ◌≤◌, ◌^◌, refl, sym, ap, subst, ◌∙◌, ℕ, zero, suc, List, [], ◌∷◌, true, length, map, arith, nat_tests, All-head, All-tail, All-nil, All-cons, ◌≢◌, ◌&&◌, nat_le, nat_lt, slice_index_or, All, DEMUX_NODES, Input, Frontend, FromDvr, Act, ReadAct, PassAct, LogEntry, StreamHead, IsScript, Scripted, ToldNode, Told, text_of, IsInRange, IsNodeInRange, IsNoReport, IsReport, one_thing, completed, IsRunOf, IsRightReport, IsCallable, brought_from, count_for, is_callable, is_sound, are_sound, IsSoundNode, AreSoundNodes, HasPassed}
+use Rattle.std.specs.Prelude.{◌+◌}
 use Rattle.report_check.proofs.Lists.{both}
 use Rattle.report_check.proofs.Few.{few_entries}
 use Rattle.report_check.proofs.Passed.{passes}

@@ -1,14 +1,5 @@
 -- The histories of a run are those that its report stands for.
-use Rattle.std.proofs.Common.{◌≡◌, ◌≤◌, refl, sym, ap, ◌∙◌, ℕ, suc, List, [], ◌∷◌, Bool, true, false, nat_eq, length, map, arith}
-use Rattle.std.proofs.lemmas.Bool.Decides.{nat_tests}
-use Rattle.std.specs.List.{list_any}
-use Rattle.dmx_calls.specs.Log.{LogEntry}
-use Rattle.dmx_calls.specs.declared.log.Act.{Act}
-use Rattle.dmx_calls.specs.Response.{Response, Passed}
-use Rattle.script_run.specs.IsRun.{Step}
-use Rattle.report_text.specs.Entries.{is_of_client}
-use Rattle.report_text.specs.Told.{ToldNode}
-use Rattle.report_check.specs.Completed.{shown, renumbered, complete}
+use Rattle.report_check.proofs.Imports.{◌≡◌, ◌≤◌, refl, sym, ap, ◌∙◌, ℕ, suc, List, [], ◌∷◌, Bool, true, false, nat_eq, length, map, arith, nat_tests, list_any, LogEntry, Act, Response, Passed, Step, is_of_client, ToldNode, shown, renumbered, complete}
 
 -- ------ one node
 

@@ -1,21 +1,6 @@
 -- The told entries, dealt out to the nodes, and what was done with them.
-use Rattle.std.proofs.Common.{◌≡◌, ◌<◌, ◌+◌, ◌-◌, refl, sym, ap, ◌∙◌, ℕ, List, [], ◌∷◌, ◌++◌, true, false, nat_eq, map, Bor, add-one, append_assoc, append-nil, arith}
-use Rattle.std.proofs.lemmas.Bool.Decides.{nat_tests}
-use Rattle.std.proofs.lemmas.List.{map-append}
-use Rattle.std.specs.Prelude.{◌≢◌, Vec}
-use Rattle.std.specs.declared.alloc.Global.{Global}
-use Rattle.dmx_calls.specs.declared.log.Entry.{Entry as ToldEntry}
-use Rattle.dmx_calls.specs.declared.outcome.Outcome.{Outcome}
-use Rattle.dmx_calls.specs.Calls.{told_entry}
-use Rattle.dmx_calls.specs.Log.{LogEntry}
-use Rattle.client_script.specs.Script.{Scripted}
-use Rattle.client_core.specs.Outcomes.{outcomes}
-use Rattle.client_core.specs.Inside.Core.{Core}
-use Rattle.script_run.specs.IsRun.{replies}
-use Rattle.report_check.specs.Completed.{complete}
-use Rattle.report_check.specs.Walk.{CanRest, HasWalked, queues_in}
+use Rattle.report_check.proofs.Imports.{◌≡◌, ◌<◌, ◌+◌, ◌-◌, refl, sym, ap, ◌∙◌, ℕ, List, [], ◌∷◌, ◌++◌, true, false, nat_eq, map, Bor, add-one, append_assoc, append-nil, arith, nat_tests, map-append, ◌≢◌, Vec, Global, ToldEntry, Outcome, told_entry, LogEntry, Scripted, outcomes, Core, replies, complete, CanRest, HasWalked, queues_in, told_nodes, IsDoneAs}
 use Rattle.report_check.proofs.OneWalk.{one_walk}
-use Rattle.report_check.specs.Inside.Parts.{told_nodes, IsDoneAs}
 
 -- a node as the code has it
 abbrev pub Node : Type 0

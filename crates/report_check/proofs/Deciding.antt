@@ -1,39 +1,15 @@
 -- Where each test is passed, the histories for which a report stands are those of a run.
-use Rattle.std.proofs.Common.{◌≡◌, ◌<◌, ◌≤◌, ◌+◌, refl, sym, ap, subst, ◌∙◌, inl, inr, ℕ, zero, suc, List, [], ◌∷◌, true, length, map, arith, append-nil}
-use Rattle.std.proofs.lemmas.Bool.Decides.{nat_tests}
-use Rattle.std.proofs.lemmas.List.Elements.{All-head}
-use Rattle.lemmas.proofs.Lists.{at_place}
-use Rattle.std.specs.Prelude.{Option, Some, None, slice_get, nat_le, ◌≢◌}
-use Rattle.std.specs.List.{All}
-use Rattle.dmx_calls.specs.declared.limits.TheConstants.{DEMUX_NODES}
-use Rattle.dmx_calls.specs.declared.outcome.Outcome.{Outcome}
-use Rattle.dmx_calls.specs.History.{History}
-use Rattle.dmx_calls.specs.Legal.{IsLegalFor}
-use Rattle.dmx_calls.specs.Log.{LogEntry, Sources, filled}
-use Rattle.dmx_calls.specs.Response.{NoMemory, Passed}
-use Rattle.dmx_calls.specs.Rules.{rules_at}
-use Rattle.client_script.specs.Script.{clients_in, Scripted}
-use Rattle.client_core.specs.Outcomes.{outcomes}
-use Rattle.script_run.specs.IsRun.{feeding, steps_of, HasDone, replies, sources}
-use Rattle.report_text.specs.Told.{ToldNode, Told}
-use Rattle.report_read.specs.Ranges.{IsNodeInRange, IsEntryOf}
-use Rattle.report_read.specs.Report.{are_nodes}
-use Rattle.report_check.specs.Completed.{renumbered, tiled, feeder_of, completed}
-use Rattle.report_check.specs.Right.{IsRunOf}
+use Rattle.report_check.proofs.Imports.{◌≡◌, ◌<◌, ◌≤◌, ◌+◌, refl, sym, ap, subst, ◌∙◌, inl, inr, ℕ, zero, suc, List, [], ◌∷◌, true, length, map, arith, append-nil, nat_tests, All-head, at_place, Option, Some, None, slice_get, nat_le, ◌≢◌, All, DEMUX_NODES, Outcome, History, IsLegalFor, LogEntry, Sources, filled, NoMemory, Passed, rules_at, clients_in, Scripted, outcomes, feeding, steps_of, HasDone, replies, sources, ToldNode, Told, IsNodeInRange, IsEntryOf, are_nodes, renumbered, tiled, feeder_of, IsRunOf, AreInPlace, IsRest, queues_in, step_of, all_played, is_callable, is_sound, are_sound, IsSoundNode, AreSoundNodes, IsPlayed, dealt, IsDoneAs, HasPassed, brought_from}
+use Rattle.report_check.specs.Completed.{completed}
 use Rattle.report_check.proofs.Empty.{legal_on, told_there, steps_there}
 use Rattle.report_check.proofs.Right.{zero_fed}
-use Rattle.report_check.specs.WalkLaws.{AreInPlace}
-use Rattle.report_check.specs.Walk.{IsRest, queues_in}
 use Rattle.report_check.proofs.Doing.{walked_is_done}
-use Rattle.report_check.specs.Inside.Feeding.{step_of}
-use Rattle.report_check.specs.Inside.Parts.{all_played, is_callable, is_sound, are_sound, IsSoundNode, AreSoundNodes, IsPlayed, dealt, IsDoneAs, HasPassed}
 use Rattle.report_check.proofs.Lists.{both, all_at}
 use Rattle.report_check.proofs.Feeding.{feeds_is}
 use Rattle.report_check.proofs.Nodes.{TellsOrNot, complete_at, complete_long, each_whole, in_place, same_queues}
 use Rattle.report_check.proofs.Fed.{IsFeeder, node_feeder, tiled_feeder}
 use Rattle.report_check.proofs.Passed.{done_at}
 use Rattle.report_check.proofs.Players.{same_filled, same_sources}
-use Rattle.report_check.specs.Playing.{brought_from}
 
 -- ------ entries
 

@@ -1,16 +1,6 @@
 -- Walking a client's queues, and doing what its commands ask for, are the same.
-use Rattle.std.proofs.Common.{◌≡◌, ◌<◌, ◌+◌, refl, sym, ap, subst, ◌∙◌, ℕ, zero, suc, List, [], ◌∷◌, ◌++◌, Bool, true, false, nat_eq, length, take, arith, append_assoc, append-nil, inl, inr, length-append}
-use Rattle.std.proofs.lemmas.Bool.Decides.{nat_tests}
-use Rattle.std.proofs.lemmas.Option.{slice_get-map}
-use Rattle.std.specs.Prelude.{Some, None, filter, slice_get, slice_set, option_map, ◌⊎◌}
-use Rattle.dmx_calls.specs.Log.{LogEntry}
-use Rattle.dmx_calls.specs.Response.{Response}
-use Rattle.client_script.specs.Script.{Scripted}
-use Rattle.client_core.specs.Commands.{plays_of}
-use Rattle.client_core.specs.Events.{next_event}
-use Rattle.script_run.specs.IsRun.{IsEvent, StandsIn, HasDone, replies}
-use Rattle.report_check.specs.Walk.{IsRest, of_client, queues_in}
-use Rattle.report_check.specs.WalkLaws.{AreInPlace}
+use Rattle.report_check.proofs.Imports.{◌≡◌, ◌<◌, ◌+◌, refl, sym, ap, subst, ◌∙◌, ℕ, zero, suc, List, [], ◌∷◌, ◌++◌, Bool, true, false, nat_eq, length, take, arith, append_assoc, append-nil, inl, inr, length-append, nat_tests, slice_get-map, Some, None, filter, slice_get, slice_set, option_map, LogEntry, Response, Scripted, plays_of, next_event, IsEvent, StandsIn, HasDone, replies, IsRest, of_client, queues_in, AreInPlace}
+use Rattle.std.specs.Prelude.{◌⊎◌}
 
 -- ------ members
 

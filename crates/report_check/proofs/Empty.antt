@@ -1,28 +1,8 @@
 -- Where no client called a node, a run in batches of 64 at moment 0 has the same report.
-use Rattle.std.proofs.Common.{◌≡◌, ◌<◌, ◌≤◌, ◌+◌, ◌-◌, refl, sym, ap, subst, ◌∙◌, ℕ, zero, suc, List, [], ◌∷◌, ◌++◌, Bool, true, false, nat_eq, nat_lt, length, map, sum, min, arith, inl, append_assoc, append-nil}
-use Rattle.std.proofs.lemmas.Bool.Decides.{nat_tests}
-use Rattle.std.proofs.lemmas.List.Elements.{All-nil, All-cons}
-use Rattle.std.proofs.lemmas.List.Sums.{sum_by-cons}
-use Rattle.std.specs.Prelude.{Some, None, slice_get, if◌then◌else◌}
-use Rattle.std.specs.List.{All, list_any}
-use Rattle.dmx_calls.specs.declared.limits.TheConstants.{DEMUX_NODES}
-use Rattle.dmx_calls.specs.declared.outcome.Outcome.{Outcome}
-use Rattle.dmx_calls.specs.declared.log.Act.{Act}
-use Rattle.dmx_calls.specs.declared.log.Act.TheVariants.{Pass as PassAct, End as EndAct}
-use Rattle.ts_watch.specs.Head.{StreamHead}
-use Rattle.dmx_calls.specs.History.{History}
-use Rattle.dmx_calls.specs.Response.{Response, Passed, NoMemory}
-use Rattle.dmx_calls.specs.Rules.{Rules, rules_at}
+use Rattle.report_check.proofs.Imports.{◌≡◌, ◌<◌, ◌≤◌, ◌+◌, ◌-◌, refl, sym, ap, subst, ◌∙◌, ℕ, zero, suc, List, [], ◌∷◌, ◌++◌, Bool, true, false, nat_eq, length, map, sum, min, arith, inl, append_assoc, append-nil, nat_tests, All-nil, All-cons, sum_by-cons, Some, None, slice_get, if◌then◌else◌, All, list_any, DEMUX_NODES, Outcome, Act, PassAct, EndAct, StreamHead, History, Response, Passed, NoMemory, Rules, rules_at, May, IsLegalFor, LogEntry, Sources, filled, filled_act, filled_entry, Scripted, next_event, Batch, feeding, steps_of, HasDone, IsRun, replies, sources, StandsIn, is_of_client, ToldNode, shown, renumbered, feeder_of, complete, told_by}
+use Rattle.std.proofs.Common.{nat_lt}
 use Rattle.dmx_calls.specs.Answer.{answer}
-use Rattle.dmx_calls.specs.Legal.{May, IsLegalFor}
-use Rattle.dmx_calls.specs.Log.{LogEntry, Sources, filled, filled_act, filled_entry}
-use Rattle.client_script.specs.Script.{Scripted}
-use Rattle.client_core.specs.Events.{next_event}
-use Rattle.script_run.specs.IsRun.{Batch, feeding, steps_of, HasDone, IsRun, replies, sources, StandsIn}
-use Rattle.report_text.specs.Entries.{is_of_client}
-use Rattle.report_text.specs.Told.{ToldNode}
-use Rattle.report_check.specs.Completed.{shown, renumbered, tiled, feeder_of, complete, completed}
-use Rattle.report_check.specs.Completed.{told_by}
+use Rattle.report_check.specs.Completed.{tiled, completed}
 use Rattle.report_check.proofs.Completing.{step_of}
 use Rattle.report_check.proofs.Idle.{IsFeed, AllZero, uncalled, filled_append}
 

@@ -1,14 +1,8 @@
 -- The feeder's entries, on whatever node.
-use Rattle.std.proofs.Common.{◌≡◌, ◌+◌, sym, subst, ℕ, List, [], ◌∷◌, map, sum, arith}
-use Rattle.dmx_calls.specs.Legal.{IsLegalFor}
-use Rattle.dmx_calls.specs.Log.{LogEntry, Sources, filled}
-use Rattle.dmx_calls.specs.Rules.{rules_at}
-use Rattle.script_run.specs.IsRun.{steps_of}
-use Rattle.report_check.specs.Completed.{of_feeder, tiled}
+use Rattle.report_check.proofs.Imports.{◌≡◌, ◌+◌, sym, subst, ℕ, List, [], ◌∷◌, map, sum, arith, IsLegalFor, LogEntry, Sources, filled, rules_at, steps_of, of_feeder, tiled, step_of}
 use Rattle.report_check.proofs.Completing.{ArePassed}
 use Rattle.report_check.proofs.Idle.{AllFeed, feeding_feeds, passed_from, passed_at}
 use Rattle.report_check.proofs.Empty.{ArePlain, plain, tiles, tiled_feeds, sizes, sums}
-use Rattle.report_check.specs.Inside.Feeding.{step_of}
 use Rattle.report_check.proofs.Feeding.{IsFeedingFrom, size_of}
 
 -- calls of the feeder alone, answered Passed, which pass so many packets

@@ -1,15 +1,6 @@
 -- The feeder's calls pass the packets exactly where the test says so.
-use Rattle.std.proofs.Common.{◌≡◌, ◌≤◌, ◌+◌, refl, sym, ap, ◌∙◌, ℕ, suc, List, [], ◌∷◌, Bool, true, false, nat_eq, nat_lt, map, sum, arith}
-use Rattle.std.proofs.lemmas.Bool.Decides.{nat_tests}
-use Rattle.std.proofs.lemmas.List.Elements.{All-head, All-tail, All-nil, All-cons}
-use Rattle.std.proofs.lemmas.List.Sums.{sum_by-cons}
-use Rattle.std.specs.Prelude.{Option, Some, None, nat_le, ◌&&◌, if◌then◌else◌}
-use Rattle.std.specs.List.{All}
-use Rattle.dmx_calls.specs.declared.params.Input.TheVariants.{Frontend}
-use Rattle.dmx_calls.specs.declared.log.Act.{Act}
-use Rattle.dmx_calls.specs.declared.log.Act.TheVariants.{Pass as PassAct, End as EndAct}
-use Rattle.script_run.specs.IsRun.{Batch, Step, feeding}
-use Rattle.report_check.specs.Inside.Feeding.{passed_behind, is_end, are_none, or_else, feeds}
+use Rattle.report_check.proofs.Imports.{◌≡◌, ◌≤◌, ◌+◌, refl, sym, ap, ◌∙◌, ℕ, suc, List, [], ◌∷◌, Bool, true, false, nat_eq, map, sum, arith, nat_tests, All-head, All-tail, All-nil, All-cons, sum_by-cons, Option, Some, None, nat_le, ◌&&◌, if◌then◌else◌, All, Frontend, Act, PassAct, EndAct, Batch, Step, feeding, passed_behind, is_end, are_none, or_else, feeds}
+use Rattle.std.proofs.Common.{nat_lt}
 use Rattle.report_check.proofs.Lists.{both}
 
 abbrev pub Fits : Batch → Type 0

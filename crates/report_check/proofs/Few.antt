@@ -1,19 +1,7 @@
 -- There are no more entries than bytes.
-use Rattle.std.proofs.Common.{◌≡◌, ◌<◌, ◌≤◌, ◌+◌, ◌^◌, refl, ℕ, zero, suc, List, [], ◌∷◌, ◌++◌, Bool, true, false, nat_eq, length, codes, arith}
+use Rattle.report_check.proofs.Imports.{◌≡◌, ◌<◌, ◌≤◌, ◌+◌, ◌^◌, refl, ℕ, zero, suc, List, [], ◌∷◌, ◌++◌, Bool, true, false, nat_eq, length, codes, arith, All-cons, All-nil, All, flat_map, LogEntry, DEMUX_NODES, node_text, act_text, response_text, entry_text, caller_text, tally_text, row_text, clients_text, end_text, ToldNode, Told, told_node_text, text_of, complete, dealt}
 use Rattle.std.proofs.lemmas.List.{length-append}
-use Rattle.std.proofs.lemmas.List.Elements.{All-cons, All-nil}
-use Rattle.std.specs.List.{All, flat_map}
-use Rattle.dmx_calls.specs.Log.{LogEntry}
-use Rattle.dmx_calls.specs.declared.limits.TheConstants.{DEMUX_NODES}
-use Rattle.text_forms.specs.Names.{node_text}
-use Rattle.report_text.specs.Acts.{act_text}
-use Rattle.report_text.specs.Replies.{response_text}
-use Rattle.report_text.specs.Entries.{entry_text, caller_text}
-use Rattle.report_text.specs.Report.{tally_text, row_text, clients_text, end_text}
-use Rattle.report_text.specs.Told.{ToldNode, Told, told_node_text, text_of}
-use Rattle.report_check.specs.Completed.{complete}
 use Rattle.report_check.specs.Inside.Steps.{left_on}
-use Rattle.report_check.specs.Inside.Parts.{dealt}
 
 entry_long : (e : LogEntry) → 1 ≤ length (entry_text e)
 entry_long e =

@@ -1,25 +1,6 @@
 -- In a run, a node that no client called has the feeder's calls alone.
-use Rattle.std.proofs.Common.{◌≡◌, ◌+◌, refl, sym, ap, subst, ◌∙◌, ℕ, zero, suc, List, [], ◌∷◌, ◌++◌, Bool, true, false, nat_eq, length, map, arith, append_assoc}
-use Rattle.std.proofs.lemmas.Bool.Decides.{nat_tests}
-use Rattle.std.proofs.lemmas.List.{map-append, reverse-append}
-use Rattle.std.specs.Prelude.{Some, slice_get, nat_lt, ◌||◌}
-use Rattle.std.specs.List.{list_any}
-use Rattle.dmx_calls.specs.declared.outcome.Outcome.{Outcome}
-use Rattle.dmx_calls.specs.declared.log.Act.{Act}
-use Rattle.dmx_calls.specs.declared.log.Act.TheVariants.{Pass as PassAct, End as EndAct}
-use Rattle.ts_watch.specs.Head.{StreamHead}
-use Rattle.dmx_calls.specs.History.{History}
-use Rattle.dmx_calls.specs.Response.{Response, Passed}
-use Rattle.dmx_calls.specs.Rules.{Rules, rules_at}
-use Rattle.dmx_calls.specs.Legal.{May, IsLegalFor}
-use Rattle.dmx_calls.specs.Log.{LogEntry, Sources, filled, filled_act, filled_entry}
-use Rattle.dmx_calls.proofs.Telling.{go_by}
-use Rattle.client_script.specs.Script.{Scripted}
-use Rattle.script_run.specs.IsRun.{Batch, Step, feeding, IsRun, sources}
-use Rattle.report_text.specs.Entries.{is_of_client}
-use Rattle.report_text.specs.Told.{ToldNode}
-use Rattle.report_check.specs.Completed.{shown, renumbered, of_feeder, feeder_of, complete, completed}
-use Rattle.report_check.specs.Completed.{told_by}
+use Rattle.report_check.proofs.Imports.{◌≡◌, ◌+◌, refl, sym, ap, subst, ◌∙◌, ℕ, zero, suc, List, [], ◌∷◌, ◌++◌, Bool, true, false, nat_eq, length, map, arith, append_assoc, nat_tests, map-append, reverse-append, Some, slice_get, nat_lt, ◌||◌, list_any, Outcome, Act, PassAct, EndAct, StreamHead, History, Response, Passed, Rules, rules_at, May, IsLegalFor, LogEntry, Sources, filled, filled_act, filled_entry, go_by, Scripted, Batch, Step, feeding, IsRun, sources, is_of_client, ToldNode, shown, renumbered, of_feeder, feeder_of, complete, told_by}
+use Rattle.report_check.specs.Completed.{completed}
 use Rattle.report_check.proofs.Completing.{step_of, AreFeeders, ArePassed, same_feeders, AreIdle, complete_shown}
 
 -- ------ an entry in a legal history

@@ -24,3 +24,4 @@ pub mod Empty
 pub mod Idle
 pub mod Right
 pub mod Shown
+pub mod Imports

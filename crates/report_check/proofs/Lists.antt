@@ -1,8 +1,5 @@
 -- Facts of lists, by index.
-use Rattle.std.proofs.Common.{◌≡◌, ◌<◌, ◌≤◌, ◌-◌, refl, sym, subst, ℕ, zero, suc, List, [], ◌∷◌, Bool, true, false, length, map, get_or, take, take_all, drop, arith}
-use Rattle.std.proofs.lemmas.List.Elements.{All-head, All-tail, All-nil, All-cons}
-use Rattle.std.specs.Prelude.{Some, slice_get, ◌&&◌}
-use Rattle.std.specs.List.{All}
+use Rattle.report_check.proofs.Imports.{◌≡◌, ◌<◌, ◌≤◌, ◌-◌, refl, sym, subst, ℕ, zero, suc, List, [], ◌∷◌, Bool, true, false, length, map, get_or, take, take_all, drop, arith, All-head, All-tail, All-nil, All-cons, Some, slice_get, ◌&&◌, All}
 
 pub both : (a b : Bool) → (a && b) ≡ true → (a ≡ true) × (b ≡ true)
 both true b e = (refl, e)

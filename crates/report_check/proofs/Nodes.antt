@@ -1,15 +1,8 @@
 -- Which histories a report stands for, node by node.
-use Rattle.std.proofs.Common.{◌≡◌, ◌<◌, ◌≤◌, ◌+◌, refl, sym, ap, subst, ◌∙◌, ◌⊎◌, inl, inr, ℕ, zero, suc, List, [], ◌∷◌, Bool, true, false, nat_eq, length, arith}
-use Rattle.std.proofs.lemmas.Bool.Decides.{nat_tests}
-use Rattle.std.proofs.lemmas.List.Elements.{All-head, All-tail}
-use Rattle.std.specs.Prelude.{Some, slice_get, nat_le, ◌&&◌}
-use Rattle.dmx_calls.specs.Log.{LogEntry}
-use Rattle.report_text.specs.Told.{ToldNode}
-use Rattle.report_read.specs.Report.{are_placed, are_nodes, is_whole_node}
-use Rattle.report_check.specs.Completed.{renumbered, complete}
+use Rattle.report_check.proofs.Imports.{◌≡◌, ◌<◌, ◌≤◌, ◌+◌, refl, sym, ap, subst, ◌∙◌, ◌⊎◌, inl, inr, ℕ, zero, suc, List, [], ◌∷◌, Bool, true, false, nat_eq, length, arith, nat_tests, All-head, All-tail, Some, slice_get, nat_le, ◌&&◌, LogEntry, ToldNode, is_whole_node, renumbered, complete, of_client, queues_in}
+use Rattle.report_read.specs.Report.{are_placed, are_nodes}
 use Rattle.report_check.proofs.Idle.{AllZero}
 use Rattle.report_check.proofs.Right.{AreBelow}
-use Rattle.report_check.specs.Walk.{of_client, queues_in}
 use Rattle.report_check.proofs.Lists.{both}
 
 -- ------ nodes in their order

@@ -1,15 +1,5 @@
 -- Queues can be walked in one way only.
-use Rattle.std.proofs.Common.{◌≡◌, refl, sym, ap, subst, ◌∙◌, ℕ, List, [], ◌∷◌, ◌++◌}
-use Rattle.std.specs.Prelude.{Option, Some, None, slice_get, slice_set}
-use Rattle.dmx_calls.specs.Log.{LogEntry}
-use Rattle.dmx_calls.specs.Response.{Response}
-use Rattle.client_script.specs.Script.{Scripted}
-use Rattle.client_core.specs.declared.event.Event.{Event}
-use Rattle.client_core.specs.Deeds.{Batches}
-use Rattle.client_core.specs.Commands.{plays_of}
-use Rattle.client_core.specs.Events.{next_event}
-use Rattle.script_run.specs.IsRun.{IsEvent}
-use Rattle.report_check.specs.Walk.{IsRest}
+use Rattle.report_check.proofs.Imports.{◌≡◌, refl, sym, ap, subst, ◌∙◌, ℕ, List, [], ◌∷◌, ◌++◌, Option, Some, None, slice_get, slice_set, LogEntry, Response, Scripted, Event, Batches, plays_of, next_event, IsEvent, IsRest}
 
 -- one event stands on one node
 same_node : (batches : Batches) (o : Option Event) (e f : LogEntry) → IsEvent batches o e → IsEvent batches o f → e.node ≡ f.node

@@ -1,32 +1,11 @@
 -- What a report of a run tells passes each test.
-use Rattle.std.proofs.Common.{◌≡◌, ◌<◌, ◌+◌, refl, sym, subst, ◌∙◌, ℕ, zero, suc, List, [], ◌∷◌, true, length, map, arith}
-use Rattle.std.specs.Prelude.{Some, slice_get, ◌≢◌}
-use Rattle.std.proofs.lemmas.Option.{slice_get_within}
-use Rattle.std.specs.List.{All}
-use Rattle.dmx_calls.specs.declared.limits.TheConstants.{DEMUX_NODES}
-use Rattle.dmx_calls.specs.declared.outcome.Outcome.{Outcome}
-use Rattle.dmx_calls.specs.History.{History}
-use Rattle.dmx_calls.specs.Legal.{IsLegalFor}
-use Rattle.dmx_calls.specs.Log.{LogEntry}
-use Rattle.dmx_calls.specs.Response.{NoMemory}
-use Rattle.dmx_calls.specs.Rules.{rules_at}
-use Rattle.client_script.specs.Script.{clients_in, IsScript, Scripted}
-use Rattle.client_core.specs.Outcomes.{outcomes}
-use Rattle.script_run.specs.IsRun.{Step, feeding, steps_of, replies, sources}
-use Rattle.report_text.specs.Told.{ToldNode, Told}
-use Rattle.report_read.specs.Ranges.{IsNodeInRange}
-use Rattle.report_read.specs.Report.{are_nodes}
-use Rattle.report_check.specs.Completed.{feeder_of, completed}
-use Rattle.report_check.specs.Right.{IsRunOf}
+use Rattle.report_check.proofs.Imports.{◌≡◌, ◌<◌, ◌+◌, refl, sym, subst, ◌∙◌, ℕ, zero, suc, List, [], ◌∷◌, true, length, map, arith, Some, slice_get, ◌≢◌, slice_get_within, All, DEMUX_NODES, Outcome, History, IsLegalFor, LogEntry, NoMemory, rules_at, clients_in, IsScript, Scripted, outcomes, Step, feeding, steps_of, replies, sources, ToldNode, Told, IsNodeInRange, are_nodes, feeder_of, IsRunOf, IsRest, queues_in, feeds, all_played, IsSoundNode, AreSoundNodes, IsPlayed, dealt, IsDoneAs, AreDoneAs, HasPassed, brought_from}
+use Rattle.report_check.specs.Completed.{completed}
 use Rattle.report_check.proofs.Right.{all_below, zero_fed}
-use Rattle.report_check.specs.Walk.{IsRest, queues_in}
 use Rattle.report_check.proofs.Doing.{done_is_walked}
-use Rattle.report_check.specs.Inside.Feeding.{feeds}
-use Rattle.report_check.specs.Inside.Parts.{all_played, IsSoundNode, AreSoundNodes, IsPlayed, dealt, IsDoneAs, AreDoneAs, HasPassed}
 use Rattle.report_check.proofs.Lists.{at_all}
 use Rattle.report_check.proofs.Feeding.{is_feeds}
 use Rattle.report_check.proofs.Nodes.{told_at, same_queues}
-use Rattle.report_check.specs.Playing.{brought_from}
 use Rattle.report_check.proofs.Callable.{sound}
 use Rattle.report_check.proofs.Players.{same_filled, same_sources}
 

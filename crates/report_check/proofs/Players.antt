@@ -1,33 +1,9 @@
 -- The packets that clients play, as a report is checked.
-use Rattle.std.proofs.Common.{◌≡◌, ◌<◌, ◌≤◌, ◌+◌, ◌*◌, ◌^◌, ◌⊎◌, inl, inr, refl, sym, ap, ◌∙◌, ℕ, zero, suc, List, [], ◌∷◌, ◌++◌, Option, Some, None, length, map, take, drop, arith, length-append}
-use Rattle.std.specs.Prelude.{Vec, reverse, slice_get, slice_index_or}
-use Rattle.std.specs.List.{All, flat_map, range_with_len}
-use Rattle.std.specs.declared.alloc.Global.{Global}
-use Rattle.std.proofs.lemmas.Bool.{cases_lt}
-use Rattle.std.proofs.lemmas.Grind.{flat_map-append}
-use Rattle.std.proofs.lemmas.List.{append-nil, get_or_past}
-use Rattle.std.proofs.lemmas.List.Elements.{All-nil, All-cons, All-head, All-tail}
-use Rattle.std.proofs.lemmas.List.FromFn.{get_or-map-range_with_len, length-map-range_with_len}
-use Rattle.ts_packet.specs.Fields.{IsPacket}
-use Rattle.ts_packet.specs.Cut.{cut}
-use Rattle.ts_packet.specs.declared.size.PacketSize.TheVariants.{Of188}
-use Rattle.ts_batch.specs.Batch.{Packets}
-use Rattle.client_core.specs.PlayLaws.{packets_in}
-use Rattle.client_core.specs.Plays.{Playing, batch_of, cut_of, joined, with_write}
-use Rattle.client_core.proofs.Joining.{are_joined, are_packets, few_in}
-use Rattle.dmx_calls.specs.declared.params.Input.{Input}
-use Rattle.dmx_calls.specs.declared.params.Input.TheVariants.{Frontend, Dvr as FromDvr}
-use Rattle.dmx_calls.specs.declared.log.Act.{Act}
-use Rattle.dmx_calls.specs.declared.log.Act.TheVariants.{Pass as PassAct}
+use Rattle.report_check.proofs.Imports.{◌≡◌, ◌<◌, ◌≤◌, ◌+◌, ◌*◌, ◌^◌, ◌⊎◌, inl, inr, refl, sym, ap, ◌∙◌, ℕ, zero, suc, List, [], ◌∷◌, ◌++◌, length, map, take, drop, arith, length-append, Vec, slice_get, slice_index_or, All, flat_map, range_with_len, Global, cases_lt, flat_map-append, get_or_past, All-nil, All-cons, All-head, All-tail, get_or-map-range_with_len, length-map-range_with_len, IsPacket, cut, Of188, Packets, packets_in, Playing, batch_of, cut_of, joined, with_write, are_joined, are_packets, few_in, Input, Frontend, FromDvr, Act, PassAct, LogEntry, Sources, filled, filled_act, filled_entry, Entry, Scripted, IsScript, AreWritten, writes_of, IsWritten, played, sources, AreFewPackets, brought_from, all_played}
+use Rattle.std.proofs.Common.{Option, Some, None}
+use Rattle.std.specs.Prelude.{reverse}
+use Rattle.std.proofs.lemmas.List.{append-nil}
 use Rattle.dmx_calls.specs.Invocation.{Pass}
-use Rattle.dmx_calls.specs.Log.{LogEntry, Sources, filled, filled_act, filled_entry}
-use Rattle.dmx_calls.specs.History.{Entry}
-use Rattle.client_script.specs.Script.{Scripted, IsScript, AreWritten, writes_of}
-use Rattle.client_script.specs.Writes.{IsWritten}
-use Rattle.client_core.specs.Commands.{played}
-use Rattle.script_run.specs.IsRun.{sources}
-use Rattle.report_check.specs.Playing.{AreFewPackets, brought_from}
-use Rattle.report_check.specs.Inside.Parts.{all_played}
 
 -- ------ how many there are
 

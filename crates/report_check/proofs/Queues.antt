@@ -1,13 +1,6 @@
 -- Queues of told entries.
-use Rattle.std.proofs.Common.{◌≡◌, ◌<◌, ◌+◌, ℕ, zero, suc, List, [], ◌∷◌, length, map, get_or, refl, sym, ap, ◌∙◌, Bor, arith, true, false, nat_eq}
-use Rattle.std.proofs.lemmas.List.{map-set, length-map}
-use Rattle.std.proofs.lemmas.Option.{slice_get-map, slice_get-get_or, slice_get_within, get_or_from_slice_get}
-use Rattle.std.specs.Prelude.{Option, Some, None, slice_get, slice_set, option_map}
-use Rattle.dmx_calls.specs.declared.log.Entry.{Entry as ToldEntry}
-use Rattle.dmx_calls.specs.Calls.{told_entry}
-use Rattle.dmx_calls.specs.Log.{LogEntry}
-use Rattle.report_check.specs.Walk.{of_client, queues_in}
-use Rattle.report_check.specs.Inside.Steps.{IsTaken, left_on}
+use Rattle.report_check.proofs.Imports.{◌≡◌, ◌<◌, ◌+◌, ℕ, zero, suc, List, [], ◌∷◌, length, map, get_or, refl, sym, ap, ◌∙◌, Bor, arith, true, false, nat_eq, map-set, length-map, slice_get-map, slice_get-get_or, slice_get_within, get_or_from_slice_get, Option, Some, None, slice_get, slice_set, option_map, ToldEntry, told_entry, LogEntry, of_client, queues_in, IsTaken}
+use Rattle.report_check.specs.Inside.Steps.{left_on}
 
 abbrev pub told_of : Bor (List ToldEntry) → List LogEntry
 told_of q = map told_entry q.now

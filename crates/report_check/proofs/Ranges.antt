@@ -1,34 +1,11 @@
 -- What a client asks for is in range, and where it is a pass its batch is there.
-use Rattle.std.proofs.Common.{◌≡◌, refl, subst, ℕ, ◌+◌, Bool, true, false, List, [], ◌∷◌, ◌++◌, Option, Some, None, nat_eq}
-use Rattle.std.proofs.lemmas.List.Elements.{All-head, All-tail, All-nil, All-cons}
-use Rattle.std.specs.Prelude.{nat_lt, if◌then◌else◌, slice_index_or, option_map, is_some, IsSome}
-use Rattle.std.specs.List.{All}
-use Rattle.dmx_calls.specs.declared.limits.TheConstants.{DEMUX_NODES}
-use Rattle.dmx_calls.specs.declared.reply.Tap.TheVariants.{Keep as KeepTap, Attach as AttachTap, Detach as DetachTap}
-use Rattle.dmx_calls.specs.Response.{Response, Done, Busy, Ready, TapChange}
-use Rattle.ts_batch.specs.Batch.{Packets}
-use Rattle.client_script.specs.Script.{Scripted}
-use Rattle.client_script.specs.declared.line.Line.{Line}
-use Rattle.client_script.specs.declared.line.Line.TheVariants.{Command as CommandLine}
-use Rattle.client_script.specs.declared.line.Target.{Target}
-use Rattle.client_script.specs.declared.line.Target.TheVariants.{Node, Slot, Dvr}
-use Rattle.client_script.specs.declared.line.Verb.{Verb}
+use Rattle.report_check.proofs.Imports.{◌≡◌, refl, subst, ℕ, ◌+◌, Bool, true, false, List, [], ◌∷◌, ◌++◌, nat_eq, All-head, All-tail, All-nil, All-cons, nat_lt, if◌then◌else◌, slice_index_or, option_map, IsSome, All, DEMUX_NODES, KeepTap, AttachTap, DetachTap, Response, Done, Busy, Ready, TapChange, Packets, Scripted, Line, CommandLine, Target, Node, Slot, Verb, Want, Open, Read, IsWantInRange, IsVerbInRange, Batches, batch_at, deed_of, IsDeedInRange, IsDeedOf, Command, Deed, Once, ReadWait, Drain, GetStc, Write, Event, Request, Own, Ending, Made, Bound, AllBusy, commands_in, commands_among, commands_of, plays_of, Slots, Doing, stands, through, once, told, called, opened, read_until, passed, written, done_on, done_at, done_by_slot, done, ends_wait, ends_drain, IsRequestInRange, IsRequestOf, progress_of, Standing, slots_after, progress_from, no_slots, next_event}
+use Rattle.std.proofs.Common.{Option, Some, None}
+use Rattle.std.specs.Prelude.{is_some}
+use Rattle.client_script.specs.declared.line.Target.TheVariants.{Dvr}
 use Rattle.client_script.specs.declared.line.Verb.TheVariants as verb
-use Rattle.client_script.specs.declared.line.Want.{Want}
-use Rattle.client_script.specs.declared.line.Want.TheVariants.{Open, Read}
-use Rattle.client_script.specs.Grammar.{IsWantInRange, IsVerbInRange, IsInRange}
-use Rattle.client_core.specs.Deeds.{Batches, batch_at, deed_of, IsDeedInRange, IsDeedOf}
-use Rattle.client_core.specs.declared.command.Command.{Command}
-use Rattle.client_core.specs.declared.deed.Deed.{Deed}
-use Rattle.client_core.specs.declared.deed.Deed.TheVariants.{Once, ReadWait, Drain, GetStc, Write}
-use Rattle.client_core.specs.declared.event.Event.{Event}
-use Rattle.client_core.specs.declared.event.Request.{Request}
-use Rattle.client_core.specs.declared.event.Request.TheVariants.{Own}
-use Rattle.client_core.specs.declared.task.Ending.{Ending}
-use Rattle.client_core.specs.declared.task.Ending.TheVariants.{Made, Bound, AllBusy}
-use Rattle.client_core.specs.Commands.{commands_in, commands_among, commands_of, plays_of, Slots, Doing, stands, through, once, told, called, opened, read_until, passed, written, done_on, done_at, done_by_slot, done, ends_wait, ends_drain, IsRequestInRange, IsRequestOf}
-use Rattle.client_core.proofs.GoesOn.{progress_of}
-use Rattle.client_core.specs.Events.{Standing, slots_after, progress_from, progress, no_slots, next_event}
+use Rattle.client_script.specs.Grammar.{IsInRange}
+use Rattle.client_core.specs.Events.{progress}
 
 module _ (batches : Batches) where
   -- a call in range, and a pass of a write that has a batch

@@ -1,22 +1,7 @@
 -- The reports of runs are those that are right.
-use Rattle.std.proofs.Common.{◌≡◌, ◌<◌, ◌+◌, refl, sym, ap, subst, ◌∙◌, ℕ, zero, suc, List, [], ◌∷◌, Bool, true, false, nat_eq, length, arith}
-use Rattle.std.proofs.lemmas.Bool.Decides.{nat_tests}
-use Rattle.std.proofs.lemmas.List.Elements.{All-head, All-tail, All-nil, All-cons}
-use Rattle.std.specs.Prelude.{Some, slice_get, nat_le, nat_lt, ◌&&◌}
-use Rattle.std.specs.List.{All, list_any}
-use Rattle.dmx_calls.specs.declared.limits.TheConstants.{DEMUX_NODES}
-use Rattle.dmx_calls.specs.declared.outcome.Outcome.{Outcome}
-use Rattle.dmx_calls.specs.Log.{LogEntry}
-use Rattle.ts_watch.specs.Head.{StreamHead}
-use Rattle.client_script.specs.Script.{Scripted}
-use Rattle.client_core.specs.Outcomes.{outcomes}
-use Rattle.script_run.specs.IsRun.{replies}
-use Rattle.report_text.specs.Entries.{is_of_client}
-use Rattle.report_text.specs.Told.{ToldNode, Told, text_of}
-use Rattle.report_read.specs.Ranges.{IsInRange, IsNodeInRange}
-use Rattle.report_read.specs.Report.{are_placed, are_nodes, are_rows, is_whole_node}
-use Rattle.report_check.specs.Completed.{shown, told_by, renumbered, of_feeder, tiled, feeder_of, complete, completed}
-use Rattle.report_check.specs.Right.{IsRunOf, IsReportOfRun, IsRightReport}
+use Rattle.report_check.proofs.Imports.{◌≡◌, ◌<◌, ◌+◌, refl, sym, ap, subst, ◌∙◌, ℕ, zero, suc, List, [], ◌∷◌, Bool, true, false, nat_eq, length, arith, nat_tests, All-head, All-tail, All-nil, All-cons, Some, slice_get, nat_le, nat_lt, ◌&&◌, All, list_any, DEMUX_NODES, Outcome, LogEntry, StreamHead, Scripted, outcomes, replies, is_of_client, ToldNode, Told, text_of, IsInRange, IsNodeInRange, are_rows, is_whole_node, shown, told_by, renumbered, of_feeder, tiled, feeder_of, complete, IsRunOf, IsReportOfRun, IsRightReport}
+use Rattle.report_read.specs.Report.{are_placed, are_nodes}
+use Rattle.report_check.specs.Completed.{completed}
 use Rattle.report_check.proofs.Shown.{reports_tell}
 use Rattle.report_check.proofs.Idle.{AllZero, runs_are_completed}
 use Rattle.report_check.proofs.Empty.{ArePlain, plain, idle_at, idle_runs, idle_made, uncalled_at}

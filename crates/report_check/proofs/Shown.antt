@@ -1,14 +1,5 @@
 -- A report is the text of what it tells.
-use Rattle.std.proofs.Common.{◌≡◌, refl, ℕ, suc, List, [], ◌∷◌, Bool, true, false}
-use Rattle.std.specs.List.{flat_map, list_any}
-use Rattle.dmx_calls.specs.declared.outcome.Outcome.{Outcome}
-use Rattle.ts_watch.specs.Head.{StreamHead}
-use Rattle.dmx_calls.specs.Log.{LogEntry}
-use Rattle.report_text.specs.Entries.{is_of_client, histories_text}
-use Rattle.report_text.specs.Report.{report_of}
-use Rattle.report_text.specs.Told.{told_node_text, text_of}
-use Rattle.report_check.specs.Completed.{shown}
-use Rattle.report_check.specs.Completed.{told_by}
+use Rattle.report_check.proofs.Imports.{◌≡◌, refl, ℕ, suc, List, [], ◌∷◌, Bool, true, false, flat_map, list_any, Outcome, StreamHead, LogEntry, is_of_client, histories_text, report_of, told_node_text, text_of, shown, told_by}
 
 shown_one : (node : ℕ) (h : List LogEntry) (hs : List (List LogEntry)) → histories_text (suc node) hs ≡ flat_map told_node_text (shown (suc node) hs)
     → (b : Bool) → list_any is_of_client h ≡ b → histories_text node (h ∷ hs) ≡ flat_map told_node_text (shown node (h ∷ hs))

@@ -1,15 +1,5 @@
 -- The packets of which a caller's passes bring some.
-use Rattle.std.proofs.Common.{◌≡◌, ◌<◌, ◌≤◌, ◌⊎◌, inl, inr, refl, sym, ap, subst, ℕ, zero, suc, List, [], ◌∷◌, length, map, arith}
-use Rattle.std.specs.Prelude.{Vec, slice_index_or}
-use Rattle.std.specs.List.{All}
-use Rattle.std.specs.declared.alloc.Global.{Global}
-use Rattle.std.proofs.lemmas.Bool.{cases_lt}
-use Rattle.std.proofs.lemmas.List.{get_or_past}
-use Rattle.std.proofs.lemmas.List.Elements.{All-nil}
-use Rattle.ts_packet.specs.Fields.{IsPacket}
-use Rattle.dmx_calls.specs.declared.params.Input.{Input}
-use Rattle.dmx_calls.specs.declared.params.Input.TheVariants.{Frontend, Dvr}
-use Rattle.report_check.specs.Playing.{AreFewPackets, brought_from}
+use Rattle.report_check.proofs.Imports.{◌≡◌, ◌<◌, ◌≤◌, ◌⊎◌, inl, inr, refl, sym, ap, subst, ℕ, zero, suc, List, [], ◌∷◌, length, map, arith, Vec, slice_index_or, All, Global, cases_lt, get_or_past, All-nil, IsPacket, Input, Frontend, Dvr, AreFewPackets, brought_from}
 
 pub at_caller : (played : List (Vec (List ℕ) Global)) (who : ℕ) (packets : Vec (List ℕ) Global) → who < length played → packets ≡ slice_index_or played who packets
     → slice_index_or (map (λ p. p.items) played) who [] ≡ packets.items

@@ -1,15 +1,5 @@
 -- Histories as they grow, and what a legal one allows in the midst of it.
-use Rattle.std.proofs.Common.{◌≡◌, ◌<◌, ◌+◌, ℕ, List, [], ◌∷◌, ◌++◌, length, map, take, drop, get_or, refl, sym, ap, subst, ◌∙◌, append_assoc, add-one, take-append-drop}
-use Rattle.std.proofs.Math.Seq.{drop-cons}
-use Rattle.std.proofs.lemmas.List.{map-append, reverse-append, length-map, get_or-map, take_more}
-use Rattle.std.proofs.lemmas.List.Elements.{All-get_or}
-use Rattle.std.specs.List.{All}
-use Rattle.dmx_calls.specs.declared.log.Entry.{Entry as ToldEntry}
-use Rattle.dmx_calls.specs.Calls.{response_of, told_entry}
-use Rattle.dmx_calls.specs.History.{History}
-use Rattle.dmx_calls.specs.Legal.{May, IsLegalFor}
-use Rattle.dmx_calls.specs.Log.{LogEntry, Sources, filled, filled_act, filled_entry}
-use Rattle.dmx_calls.specs.Rules.{Rules}
+use Rattle.report_check.proofs.Imports.{◌≡◌, ◌<◌, ◌+◌, ℕ, List, [], ◌∷◌, ◌++◌, length, map, take, drop, get_or, refl, sym, ap, subst, ◌∙◌, append_assoc, add-one, take-append-drop, drop-cons, map-append, reverse-append, length-map, get_or-map, take_more, All-get_or, All, ToldEntry, response_of, told_entry, History, May, IsLegalFor, LogEntry, Sources, filled, filled_act, filled_entry, Rules}
 use Rattle.report_check.specs.Playing.{played}
 
 filled_append : (packets : Sources) (xs ys : List LogEntry) → filled packets (xs ++ ys) ≡ filled packets ys ++ filled packets xs

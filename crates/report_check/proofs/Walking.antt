@@ -1,15 +1,5 @@
 -- One step of a client over its told entries.
-use Rattle.std.proofs.Common.{◌≡◌, sym, ap, subst, ◌∙◌, ℕ, List, [], ◌∷◌, ◌++◌, length}
-use Rattle.std.specs.Prelude.{Option, Some, None, slice_get, slice_set}
-use Rattle.dmx_calls.specs.Log.{LogEntry}
-use Rattle.dmx_calls.specs.Response.{Response}
-use Rattle.client_script.specs.Script.{Scripted}
-use Rattle.client_core.specs.declared.event.Event.{Event}
-use Rattle.client_core.specs.Commands.{plays_of}
-use Rattle.client_core.specs.Events.{next_event}
-use Rattle.script_run.specs.IsRun.{IsEvent}
-use Rattle.report_check.specs.Walk.{IsRest, CanRest}
-use Rattle.report_check.specs.Inside.Steps.{IsTaken}
+use Rattle.report_check.proofs.Imports.{◌≡◌, sym, ap, subst, ◌∙◌, ℕ, List, [], ◌∷◌, ◌++◌, length, Option, Some, None, slice_get, slice_set, LogEntry, Response, Scripted, Event, plays_of, next_event, IsEvent, IsRest, CanRest, IsTaken}
 
 module _ (client : ℕ) (script : Scripted) (done : List Response) (queues : List (List LogEntry)) where
   -- a walk after an entry that was taken, with that entry in front, is one before it

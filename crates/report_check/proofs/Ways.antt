@@ -1,6 +1,5 @@
 -- An answer that says None exactly where a fact holds, of a fact that is the same.
-use Rattle.std.specs.Prelude.{Option, Some, None, MatchOption, Result, Ok, Err, IfOk}
-use Rattle.std.proofs.Common.{◌≡◌, Bool, true, false, not, is_some}
+use Rattle.report_check.proofs.Imports.{Option, Some, None, MatchOption, Result, Ok, Err, IfOk, ◌≡◌, Bool, true, false, not, is_some}
 
 pub by_other : {A : Type 0} (o : Option A) (P Q : Type 0) → (P → Q) → (Q → P) → MatchOption o P (λ _. P → ⊥) → MatchOption o Q (λ _. Q → ⊥)
 by_other None P Q on back is = on is

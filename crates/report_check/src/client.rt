@@ -7,6 +7,7 @@ ghost use Rattle.report_check.specs.Inside.Steps.{left_on};
 ghost use Rattle.report_check.specs.Inside.Parts.{told_nodes, dealt as dealt_to, IsDoneAs, AreDoneAs};
 
 use crate::fault::{FaultKind, Odd};
+use crate::line::first_other;
 use crate::stop::odd_call;
 use crate::walk_check::is_walked;
 use client_core::ClientCore;
@@ -48,6 +49,16 @@ fn are_same(this: &[Outcome], other: &[Outcome]) -> bool
     this == other
 }
 
+// What became of a client's commands is told otherwise than it was done.
+fn odd_outcome(client: u32, told: &[Outcome], done: &[Outcome]) -> Odd {
+    let same = first_other(told, done) as u64;
+    Odd::Client {
+        client,
+        behind: same.saturating_add(1),
+        kind: FaultKind::Outcome,
+    }
+}
+
 // What is wrong where a client's entries aren't just what its commands ask for, or this isn't what became of them.
 fn odd_of(
     alloc: Global,
@@ -65,16 +76,39 @@ fn odd_of(
     let mut core = ClientCore::new(alloc, script, client)?;
     let mut queues = dealt(alloc, nodes)?;
     if !is_walked(&mut core, client, &mut queues) {
-        return Ok(Some(odd_call(&core, client, nodes, &queues)));
+        return Ok(Some(odd_call(&core, client, nodes, &queues, told)));
     }
     if !are_same(told, core.outcomes()) {
-        let kind = FaultKind::Outcome;
-        return Ok(Some(Odd::Client { client, kind }));
+        return Ok(Some(odd_outcome(client, told, core.outcomes())));
     }
     Ok(None)
 }
 
-/// What is wrong with the first client that isn't told as it is done.
+// What stands first in the report of this and of what is wrong with the clients from this one on.
+fn first_odd(
+    alloc: Global,
+    script: &Script,
+    client: u32,
+    nodes: &[(u32, Vec<Entry>)],
+    outcomes: &[Vec<Outcome>],
+    odd: Odd,
+) -> Result<Odd, NoMemory>
+    requires clients { client + length outcomes.now < 4294967295 }
+    requires few { left_on (dealt_to (told_nodes nodes.now)) < 2 ^ 46 }
+{
+    let mut first = odd;
+    'clients: for place in 0..outcomes.len() {
+        let told = &outcomes[place];
+        if let Some(other) = odd_of(alloc, script, client + place as u32, nodes, told)? {
+            if other.is_before(&first) {
+                first = other;
+            }
+        }
+    }
+    Ok(first)
+}
+
+/// What is wrong with the clients that aren't told as they are done, and stands first in the report.
 pub fn odd_client(
     alloc: Global,
     script: &Script,
@@ -91,7 +125,8 @@ pub fn odd_client(
     let mut rest = outcomes;
     'clients: while let [told, after @ ..] = rest {
         if let Some(odd) = odd_of(alloc, script, client, nodes, told)? {
-            return Ok(Some(odd));
+            let first = first_odd(alloc, script, client + 1, nodes, after, odd)?;
+            return Ok(Some(first));
         }
         client += 1;
         rest = after;

@@ -30,7 +30,7 @@ pub enum FaultKind {
     Outcome,
 }
 
-/// What is wrong with a report. The line is counted from 1, and is 0 where no line is known.
+/// What is wrong with a report. The line is counted from 1.
 #[derive(Clone, Copy, Debug, PartialEq, Eq, Drop, Error)]
 #[error("report line {line}: {kind}")]
 pub struct Fault {
@@ -48,10 +48,28 @@ pub enum Odd {
         place: u64,
         kind: FaultKind,
     },
-    /// In what is told of a client of this number.
-    #[error("client {client}: {kind}")]
+    /// In what is told of a client of this number, so many lines behind its own.
+    #[error("client {client}, line {behind}: {kind}")]
     Client {
         client: u32,
+        behind: u64,
         kind: FaultKind,
     },
+}
+
+impl Odd {
+    // Its node and its place. What is told of clients comes behind all entries.
+    fn stands_at(&self) -> (u32, u64) {
+        match self {
+            Odd::Entry { node, place, .. } => (*node, *place),
+            Odd::Client { .. } => (u32::MAX, 0),
+        }
+    }
+
+    /// Whether it stands before another in the order of nodes and places.
+    pub fn is_before(&self, other: &Odd) -> bool {
+        let (node, place) = self.stands_at();
+        let (other_node, other_place) = other.stands_at();
+        node < other_node || (node == other_node && place < other_place)
+    }
 }

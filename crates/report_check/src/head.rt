@@ -2,6 +2,8 @@
 ghost use Rattle.std.specs.Prelude.{◌≡◌, ◌≢◌, true, false};
 ghost use Rattle.ts_watch.specs.Head.{told_head};
 
+use crate::line::{first_other, line_of_end};
+use report_read::Told;
 use ts_watch::{Head, PidRow};
 
 fn are_same_rows(this: &[(u16, PidRow)], other: &[(u16, PidRow)]) -> bool
@@ -19,4 +21,17 @@ pub fn is_same_head(this: &Head, other: &Head) -> bool
     this.tally == other.tally
         && are_same_rows(&this.rows, &other.rows)
         && this.read_fault == other.read_fault
+}
+
+/// The first line of a report that tells the stream otherwise than this head does: that of its tally, the one at which a row of this
+/// head stands or none more does, or the last. Nothing is claimed of it.
+pub fn line_of_head(told: &Told, head: &Head) -> u64 {
+    if told.head.tally != head.tally {
+        return 2;
+    }
+    if told.head.rows.as_slice() != head.rows.as_slice() {
+        let place = first_other(&told.head.rows, &head.rows) as u64;
+        return place.saturating_add(3);
+    }
+    line_of_end(told)
 }

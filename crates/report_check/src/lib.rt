@@ -18,8 +18,8 @@
 //! commands ask, which is in one way only. A report is the report of a run exactly where it is right (`right_are_of_runs`). Where memory
 //! is refused, all answer that.
 //!
-//! What isn't proved: which line and which kind `first_fault` tells; the line is 0 where none is known. What is only tested: that a report
-//! worked out by hand is right, and that line and kind are those of what is changed in it. The cost is linear in the report, the packets
+//! What isn't proved: which line and which kind `first_fault` tells. What is only tested, by `examples/rows`: that a report worked out by
+//! hand is right, and that line and kind are those of what is changed in it. The cost is linear in the report, the packets
 //! that its nodes are passed and the bytes of writes. Memory is what was read of the report, its text once more, the packets that clients
 //! play, and a batch or a buffer at a time.
 #![tactic(auto)]
@@ -36,6 +36,7 @@ mod played;
 mod report;
 pub mod report_runs;
 mod stop;
+mod text;
 pub mod walk_check;
 
 pub use fault::{Fault, FaultKind};

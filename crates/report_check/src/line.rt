@@ -2,6 +2,17 @@
 use dmx_calls::Outcome;
 use report_read::Told;
 
+/// The place of the first of these that isn't the one of the others.
+pub fn first_other<T: PartialEq>(these: &[T], those: &[T]) -> usize {
+    let both = these.len().min(those.len());
+    'places: for place in 0..both {
+        if these[place] != those[place] {
+            return place;
+        }
+    }
+    both
+}
+
 // How many lines tell these clients.
 fn lines_of(outcomes: &[Vec<Outcome>]) -> u64 {
     let mut lines: u64 = 0;
@@ -16,13 +27,24 @@ fn behind_head(told: &Told) -> u64 {
     (told.head.rows.len() as u64).saturating_add(3)
 }
 
-/// The line of a client; the line behind the clients where it isn't told.
-pub fn line_of_client(told: &Told, client: u32) -> u64 {
+/// The line of a client, or so many lines behind it; the line behind the clients where it isn't told.
+pub fn line_of_client(told: &Told, client: u32, behind: u64) -> u64 {
     let before = told.outcomes.len().min(client as usize);
-    behind_head(told).saturating_add(lines_of(&told.outcomes[..before]))
+    behind_head(told)
+        .saturating_add(lines_of(&told.outcomes[..before]))
+        .saturating_add(behind)
 }
 
-/// The line of the entry at this place of a node; the line behind the nodes where the node isn't told.
+/// The last line.
+pub fn line_of_end(told: &Told) -> u64 {
+    let mut line = behind_head(told).saturating_add(lines_of(&told.outcomes));
+    'nodes: for (_, entries) in &told.nodes {
+        line = line.saturating_add(1).saturating_add(entries.len() as u64);
+    }
+    line
+}
+
+/// The line of the entry at this place of a node; the last line where the node isn't told.
 pub fn line_of_entry(told: &Told, node: u32, place: u64) -> u64 {
     let mut line = behind_head(told).saturating_add(lines_of(&told.outcomes));
     'nodes: for (number, entries) in &told.nodes {

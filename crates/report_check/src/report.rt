@@ -11,11 +11,13 @@ ghost use Rattle.report_check.specs.Inside.Parts.{HasPassed};
 
 use crate::client::odd_client;
 use crate::fault::{Fault, FaultKind, Odd};
-use crate::head::is_same_head;
+use crate::head::{is_same_head, line_of_head};
 use crate::line::{line_of_client, line_of_entry};
 use crate::node::odd_node;
 use crate::play::odd_play;
 use crate::played::all_played;
+use crate::stop::first_of_both;
+use crate::text::line_of_text;
 use client_script::Script;
 use report_read::{Told, read_report};
 use std::alloc::{AllocError as NoMemory, Global};
@@ -40,6 +42,7 @@ fn odd_part(
         let kind = FaultKind::Outcome;
         return Ok(Some(Odd::Client {
             client: clients,
+            behind: 0,
             kind,
         }));
     }
@@ -49,7 +52,8 @@ fn odd_part(
         return Ok(Some(odd));
     }
     if let Some(odd) = odd_client(alloc, script, &told.nodes, &told.outcomes)? {
-        return Ok(Some(odd));
+        let reply = odd_play(alloc, &told.nodes, packets, played)?;
+        return Ok(Some(first_of_both(&told.nodes, odd, reply)));
     }
     odd_play(alloc, &told.nodes, packets, played)
 }
@@ -62,7 +66,11 @@ fn fault_at(line: u64, kind: FaultKind) -> Fault {
 fn fault_of(told: &Told, odd: Odd) -> Fault {
     match odd {
         Odd::Entry { node, place, kind } => fault_at(line_of_entry(told, node, place), kind),
-        Odd::Client { client, kind } => fault_at(line_of_client(told, client), kind),
+        Odd::Client {
+            client,
+            behind,
+            kind,
+        } => fault_at(line_of_client(told, client, behind), kind),
     }
 }
 
@@ -87,10 +95,11 @@ pub fn first_fault(
         (λ _. IsRightReport script.now packets.now (told_head head.now) bytes.now → ⊥)) }
 {
     let Some(told) = read_report(alloc, bytes)? else {
-        return Ok(Some(fault_at(0, FaultKind::Text)));
+        let line = line_of_text(alloc, bytes)?;
+        return Ok(Some(fault_at(line, FaultKind::Text)));
     };
     if !is_same_head(&told.head, head) {
-        return Ok(Some(fault_at(0, FaultKind::Head)));
+        return Ok(Some(fault_at(line_of_head(&told, head), FaultKind::Head)));
     }
     // Each line is in the ranges of the grammar, and each write is short, so that each call of a run is one that can be made again.
     let _lines = script.lines();

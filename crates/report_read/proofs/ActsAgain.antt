@@ -1,16 +1,7 @@
 -- Calls are read again.
-use Rattle.std.proofs.Common.{◌≡◌, refl, ℕ, List, ◌++◌, Some, codes, append_assoc}
-use Rattle.std.specs.Fmt.{decimal}
-use Rattle.dmx_calls.specs.declared.params.Input.{Input}
-use Rattle.dmx_calls.specs.declared.params.SectionParams.{SectionParams}
-use Rattle.dmx_calls.specs.declared.params.PesParams.{PesParams}
-use Rattle.dmx_calls.specs.declared.log.Act.{Act}
-use Rattle.dmx_calls.specs.declared.log.Act.TheVariants.{Open as OpenAct, Close as CloseAct, SetFilter as SetFilterAct, SetPes as SetPesAct, AddPid as AddPidAct, RemovePid as RemovePidAct, Start as StartAct, Stop as StopAct, SetSize as SetSizeAct, Read as ReadAct, Poll as PollAct, Pass as PassAct, End as EndAct, Attach as AttachAct, Detach as DetachAct}
-use Rattle.dmx_calls.specs.Names.{input_text, output_text}
-use Rattle.text_forms.specs.Places.{filter_text}
-use Rattle.report_text.specs.Acts.{pids_text, act_text}
+use Rattle.report_read.proofs.Imports.{◌≡◌, refl, ℕ, List, ◌++◌, Some, codes, append_assoc, decimal, Input, SectionParams, PesParams, Act, OpenAct, CloseAct, SetFilterAct, SetPesAct, AddPidAct, RemovePidAct, StartAct, StopAct, SetSizeAct, ReadAct, PollAct, PassAct, EndAct, AttachAct, DetachAct, input_text, output_text, filter_text, pids_text, IsActInRange}
+use Rattle.report_text.specs.Acts.{act_text}
 use Rattle.report_read.specs.Inside.Parts.{section_in, pes_in, pass_in, read_in, attach_in, other_act_in, plain_act_in, act_in}
-use Rattle.report_read.specs.Ranges.{IsActInRange}
 use Rattle.report_read.proofs.WordsAgain.{number16_again, number32_again, number64_again, input_again, output_again}
 use Rattle.report_read.proofs.SetsAgain.{pids_again, filter_again, filter_ends}
 

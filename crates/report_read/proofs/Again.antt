@@ -1,20 +1,9 @@
 -- Lines of a node are read again.
-use Rattle.std.proofs.Common.{◌≡◌, ◌<◌, refl, sym, ap, ◌∙◌, ℕ, List, [], ◌++◌, true, false, length, Some, None, codes, arith, append_assoc, append-nil, length-append}
-use Rattle.std.proofs.lemmas.Fmt.{decimal_nonempty}
-use Rattle.std.specs.Prelude.{◌≢◌}
-use Rattle.std.specs.List.{All, flat_map}
-use Rattle.report_read.specs.Inside.Reading.{Reading, begins_number, many}
-use Rattle.report_read.specs.Report.{IsNoLine}
+use Rattle.report_read.proofs.Imports.{◌≡◌, ◌<◌, refl, sym, ap, ◌∙◌, ℕ, List, [], ◌++◌, true, false, length, Some, None, codes, arith, append_assoc, append-nil, length-append, decimal_nonempty, ◌≢◌, All, flat_map, Reading, begins_number, many, IsNoLine, decimal, LogEntry, who_text, act_text, response_text, entry_text, IsEntryInRange, IsEntryOf}
 use Rattle.report_read.proofs.Many.{IsSpelled, Whatever, all_again}
 use Rattle.report_read.proofs.SetsAgain.{number_begins}
-use Rattle.std.specs.Fmt.{decimal}
-use Rattle.dmx_calls.specs.Log.{LogEntry}
-use Rattle.text_forms.specs.Names.{who_text}
-use Rattle.report_text.specs.Acts.{act_text}
-use Rattle.report_text.specs.Replies.{response_text}
-use Rattle.report_text.specs.Entries.{caller_text, entry_text}
+use Rattle.report_text.specs.Entries.{caller_text}
 use Rattle.report_read.specs.Inside.Entries.{front_in, entry_in}
-use Rattle.report_read.specs.Ranges.{IsEntryInRange, IsEntryOf}
 use Rattle.report_read.proofs.WordsAgain.{number64_again}
 use Rattle.report_read.proofs.ActsAgain.{act_again, then}
 use Rattle.report_read.proofs.RepliesAgain.{who_again, response_again, line_end}

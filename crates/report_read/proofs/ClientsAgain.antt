@@ -1,13 +1,7 @@
 -- Clients are read again.
-use Rattle.std.proofs.Common.{◌≡◌, ◌≤◌, ◌+◌, refl, ℕ, zero, suc, List, [], ◌∷◌, ◌++◌, false, length, Some, codes, arith, append_assoc, length-append}
-use Rattle.std.proofs.lemmas.List.Elements.{All-head, All-tail}
-use Rattle.std.specs.List.{All, flat_map}
-use Rattle.std.specs.Fmt.{decimal}
-use Rattle.dmx_calls.specs.declared.outcome.Outcome.{Outcome}
-use Rattle.report_text.specs.Report.{outcome_text, client_text, clients_text}
-use Rattle.report_read.specs.Inside.Reading.{many, begins_with, number_in}
-use Rattle.report_read.specs.Inside.Whole.{client_in, clients_in}
-use Rattle.report_read.specs.Ranges.{IsOutcomeInRange}
+use Rattle.report_read.proofs.Imports.{◌≡◌, ◌≤◌, ◌+◌, refl, ℕ, zero, suc, List, [], ◌∷◌, ◌++◌, false, length, Some, codes, arith, append_assoc, length-append, All-head, All-tail, All, flat_map, decimal, Outcome, outcome_text, client_text, clients_text, begins_with, number_in, clients_in, IsOutcomeInRange}
+use Rattle.report_read.specs.Inside.Reading.{many}
+use Rattle.report_read.specs.Inside.Whole.{client_in}
 use Rattle.report_read.proofs.WordsAgain.{number_again}
 use Rattle.report_read.proofs.StreamAgain.{outcomes_again}
 

@@ -8,3 +8,4 @@ pub mod ClientsAgain
 pub mod WholeAgain
 pub mod Steps
 pub mod Many
+pub mod Imports

@@ -1,8 +1,6 @@
 -- Lists that are written one after another are read again.
-use Rattle.std.proofs.Common.{◌≡◌, ◌<◌, ◌≤◌, ◌-◌, refl, ap, ◌∙◌, ℕ, zero, suc, List, [], ◌∷◌, ◌++◌, Bool, true, false, length, Some, None, arith, append_assoc, append-nil, length-append}
-use Rattle.std.proofs.lemmas.List.Elements.{All-head, All-tail, All-nil, All-push}
-use Rattle.std.specs.List.{All, flat_map}
-use Rattle.report_read.specs.Inside.Reading.{Reading, onto, many}
+use Rattle.report_read.proofs.Imports.{◌≡◌, ◌<◌, ◌≤◌, ◌-◌, refl, ap, ◌∙◌, ℕ, zero, suc, List, [], ◌∷◌, ◌++◌, Bool, true, false, length, Some, None, arith, append_assoc, append-nil, length-append, All-head, All-tail, All-nil, All-push, All, flat_map, Reading, onto}
+use Rattle.report_read.specs.Inside.Reading.{many}
 
 -- how the text of a value is read: it is read again whatever stands behind it that may end it, it begins as such a text does,
 -- it may end another, and it has a byte

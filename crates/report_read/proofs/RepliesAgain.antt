@@ -1,21 +1,10 @@
 -- Callers and replies are read again.
-use Rattle.std.proofs.Common.{◌≡◌, ◌<◌, ◌^◌, ◌+◌, ◌-◌, refl, ap, ℕ, List, [], ◌∷◌, ◌++◌, Bool, true, false, length, nat_le, Some, None, codes, arith, append_assoc}
-use Rattle.std.proofs.lemmas.Bool.Decides.{nat_tests}
-use Rattle.std.specs.Prelude.{◌==◌}
-use Rattle.std.specs.Fmt.{decimal}
-use Rattle.dmx_calls.specs.declared.reply.Errno.{Errno}
+use Rattle.report_read.proofs.Imports.{◌≡◌, ◌<◌, ◌^◌, ◌+◌, ◌-◌, refl, ap, ℕ, List, [], ◌∷◌, ◌++◌, Bool, true, false, length, nat_le, Some, None, codes, arith, append_assoc, nat_tests, ◌==◌, decimal, Errno, PollError, KeepTap, AttachTap, DetachTap, pending_text, LARGEST_READ, Response, Done, Busy, Refused, NoMemory, Data, Again, Overflow, TimedOut, Ready, Passed, TapChange, hex_text, digit_text, flag_text, behind, choose, number_in, begins_number, IsTapInRange, IsResponseInRange}
 use Rattle.dmx_calls.specs.declared.reply.Errno.TheVariants as errno
-use Rattle.dmx_calls.specs.declared.reply.PollError.{PollError}
-use Rattle.dmx_calls.specs.declared.reply.Tap.TheVariants.{Keep as KeepTap, Attach as AttachTap, Detach as DetachTap}
-use Rattle.dmx_calls.specs.Names.{errno_text, pending_text}
-use Rattle.dmx_calls.specs.declared.limits.TheConstants.{LARGEST_READ}
-use Rattle.dmx_calls.specs.Response.{Response, Done, Busy, Refused, NoMemory, Data, Again, Overflow, TimedOut, Ready, Passed, TapChange}
-use Rattle.text_forms.specs.Hex.{hex_text, digit_text}
+use Rattle.dmx_calls.specs.Names.{errno_text}
 use Rattle.text_forms.specs.Names.{who_text}
-use Rattle.report_text.specs.Replies.{flag_text, data_text, tap_text, response_text}
-use Rattle.report_read.specs.Inside.Reading.{behind, choose, number_in, begins_number}
+use Rattle.report_text.specs.Replies.{data_text, tap_text, response_text}
 use Rattle.report_read.specs.Inside.Parts.{who_in, tap_in, done_in, data_in, overflow_in, timed_out_in, ready_in, other_response_in, refusal_in, response_in}
-use Rattle.report_read.specs.Ranges.{IsTapInRange, IsResponseInRange}
 use Rattle.report_read.proofs.WordsAgain.{number_again, number32_again, number64_again, bytes_again, flag_again, pending_again}
 use Rattle.report_read.proofs.SetsAgain.{pids_again}
 

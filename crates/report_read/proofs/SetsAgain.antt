@@ -1,31 +1,9 @@
 -- Sets of PIDs and filters are read again.
-use Rattle.std.proofs.Common.{◌≡◌, ◌<◌, ◌≤◌, ◌^◌, ◌+◌, ◌/◌, ◌%◌, refl, ap, ◌∙◌, ℕ, zero, suc, List, [], ◌∷◌, ◌++◌, Bool, true, false, length, map, fold, get_or, Some, None, codes, arith, append_assoc, append-nil, length-append}
-use Rattle.std.proofs.Math.Bool.{and-false}
-use Rattle.std.proofs.lemmas.Bool.Decides.{nat_tests}
-use Rattle.std.proofs.lemmas.List.{length-map}
-use Rattle.std.proofs.lemmas.List.Elements.{All-nil, All-get_or, All-from_get_or, All-push, All-head, All-tail, All-map, All-filter}
-use Rattle.std.specs.Prelude.{nat_lt, nat_eq, not, ◌&&◌}
-use Rattle.std.specs.List.{All, filter, flat_map}
-use Rattle.std.specs.Str.{all_ascii_digits}
-use Rattle.std.specs.Char.{is_ascii_digit}
-use Rattle.std.specs.Fmt.{decimal}
-use Rattle.std.proofs.lemmas.Fmt.{decimal_nonempty}
-use Rattle.pid_set.specs.Pids.{has_pid, with_pid}
-use Rattle.pid_set.proofs.Rising.{Above, Below, Rising, rising-from}
-use Rattle.filter_match.specs.declared.filter.SectionFilter.{SectionFilter}
-use Rattle.filter_match.specs.declared.filter.Place.{Place}
-use Rattle.filter_match.specs.Places.{place_at, with_place, filter_with}
-use Rattle.filter_match.specs.Match.{numbers_below}
-use Rattle.text_forms.specs.Hex.{hex_byte, digit_text}
-use Rattle.text_forms.specs.Places.{HasBytes, IsFilter, is_zero, place_text, filter_text, filter_places, filter_words}
-use Rattle.text_forms.proofs.Decimals.{decimal-digits}
-use Rattle.text_forms.proofs.HexPairs.{hex_byte-byte_text}
-use Rattle.text_forms.proofs.PlacesRead.{bytes_behind}
-use Rattle.text_forms.proofs.FiltersRead.{at-HasBytes, below_each, filter_text-words, filter_with-filter_places, length-filter_words}
-use Rattle.report_text.specs.Acts.{next_pid_text, pids_text}
-use Rattle.report_read.specs.Inside.Reading.{behind, choose, number_in, number16, byte_in, begins_number}
-use Rattle.report_read.specs.Inside.Parts.{is_full_for, pid_step, more_pids, pids_in, place_in, begins_place, place_step, more_places, filter_in}
-use Rattle.report_read.specs.Ranges.{IsPidSet}
+use Rattle.report_read.proofs.Imports.{◌≡◌, ◌<◌, ◌≤◌, ◌^◌, ◌+◌, ◌/◌, ◌%◌, refl, ap, ◌∙◌, ℕ, zero, suc, List, [], ◌∷◌, ◌++◌, Bool, true, false, length, map, fold, get_or, Some, None, codes, arith, append_assoc, append-nil, length-append, and-false, nat_tests, length-map, All-nil, All-get_or, All-from_get_or, All-push, All-head, All-tail, All-map, All-filter, nat_lt, nat_eq, not, ◌&&◌, All, filter, flat_map, all_ascii_digits, is_ascii_digit, decimal, decimal_nonempty, has_pid, Above, Below, Rising, rising-from, SectionFilter, Place, place_at, with_place, filter_with, numbers_below, hex_byte, digit_text, HasBytes, IsFilter, is_zero, place_text, filter_text, filter_places, filter_words, decimal-digits, hex_byte-byte_text, bytes_behind, at-HasBytes, below_each, filter_text-words, filter_with-filter_places, length-filter_words, next_pid_text, behind, choose, number_in, number16, begins_number, is_full_for, begins_place, IsPidSet}
+use Rattle.pid_set.specs.Pids.{with_pid}
+use Rattle.report_text.specs.Acts.{pids_text}
+use Rattle.report_read.specs.Inside.Reading.{byte_in}
+use Rattle.report_read.specs.Inside.Parts.{pid_step, more_pids, pids_in, place_in, place_step, more_places, filter_in}
 use Rattle.report_read.proofs.WordsAgain.{first_digit, number_again, number16_again}
 
 -- ------ the first byte of a number

@@ -1,14 +1,7 @@
 -- One step of the readers that go over several parts.
-use Rattle.std.proofs.lemmas.List.{take_all}
-use Rattle.filter_match.specs.declared.filter.Place.{Place}
-use Rattle.filter_match.specs.Places.{with_place}
-use Rattle.text_forms.specs.Places.{IsFilter}
-use Rattle.text_forms.proofs.Filters.{zeros-IsFilter}
-use Rattle.std.proofs.Common.{◌≡◌, ◌<◌, ◌≤◌, ◌-◌, take, drop, get_or, refl, ap, ◌∙◌, ℕ, zero, suc, List, [], ◌∷◌, length, true, false, arith, Some, None, codes, replicate}
-use Rattle.filter_match.specs.declared.filter.SectionFilter.{SectionFilter}
-use Rattle.report_read.specs.Inside.Reading.{behind, choose, bytes_in, with_first}
-use Rattle.text_forms.specs.Hex.{hex_byte}
-use Rattle.report_read.specs.Inside.Parts.{pid_step, more_pids, begins_place, place_step, more_places}
+use Rattle.report_read.proofs.Imports.{take_all, Place, with_place, IsFilter, zeros-IsFilter, ◌≡◌, ◌<◌, ◌≤◌, ◌-◌, take, drop, get_or, refl, ap, ◌∙◌, ℕ, zero, suc, List, [], ◌∷◌, length, true, false, arith, Some, None, codes, replicate, SectionFilter, behind, choose, with_first, hex_byte, pid_step, begins_place, place_step}
+use Rattle.report_read.specs.Inside.Reading.{bytes_in}
+use Rattle.report_read.specs.Inside.Parts.{more_pids, more_places}
 
 pub pids_none : (left : ℕ) (set bytes : List ℕ) → left ≡ 0 → more_pids left set bytes ≡ Some (set, bytes)
 unfolding more_pids

@@ -1,16 +1,8 @@
 -- What a report says of the stream, and the commands of a client, are read again.
-use Rattle.std.proofs.Common.{◌≡◌, refl, ℕ, List, ◌++◌, false, Some, codes, arith, append_assoc}
-use Rattle.std.specs.List.{All, flat_map}
-use Rattle.std.specs.Fmt.{decimal}
-use Rattle.ts_packet.specs.declared.cutter.Tally.{Tally}
-use Rattle.ts_watch.specs.declared.seen.PidRow.{PidRow}
-use Rattle.dmx_calls.specs.declared.outcome.Outcome.{Outcome}
-use Rattle.dmx_calls.specs.declared.outcome.OutcomeKind.{OutcomeKind}
+use Rattle.report_read.proofs.Imports.{◌≡◌, refl, ℕ, List, ◌++◌, false, Some, codes, arith, append_assoc, All, flat_map, decimal, Tally, PidRow, Outcome, OutcomeKind, tally_text, row_text, outcome_text, begins_with, rows_in, outcomes_in, IsTallyInRange, IsRowInRange, IsKindInRange, IsOutcomeInRange}
 use Rattle.dmx_calls.specs.declared.outcome.OutcomeKind.TheVariants as outcome
-use Rattle.report_text.specs.Report.{tally_text, row_text, kind_text, outcome_text}
-use Rattle.report_read.specs.Inside.Reading.{begins_with}
-use Rattle.report_read.specs.Inside.Whole.{tally_in, counts_in, row_in, rows_in, stc_in, kind_in, outcome_in, outcomes_in}
-use Rattle.report_read.specs.Ranges.{IsTallyInRange, IsRowInRange, IsKindInRange, IsOutcomeInRange}
+use Rattle.report_text.specs.Report.{kind_text}
+use Rattle.report_read.specs.Inside.Whole.{tally_in, counts_in, row_in, stc_in, kind_in, outcome_in}
 use Rattle.report_read.proofs.Many.{IsSpelled, Whatever, all_again}
 use Rattle.report_read.proofs.WordsAgain.{number16_again, number32_again, number64_again}
 

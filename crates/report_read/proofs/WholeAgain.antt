@@ -1,22 +1,8 @@
 -- Nodes and whole reports are read again.
-use Rattle.std.proofs.Common.{◌≡◌, ◌<◌, ◌≤◌, refl, ◌∙◌, ℕ, List, [], ◌∷◌, ◌++◌, Bool, true, false, length, Some, None, codes, arith, append_assoc}
-use Rattle.std.proofs.lemmas.Bool.Decides.{nat_tests}
-use Rattle.std.proofs.lemmas.Fmt.{decimal_nonempty}
-use Rattle.std.specs.Prelude.{◌≢◌, ◌==◌}
-use Rattle.std.specs.List.{All, flat_map}
-use Rattle.std.specs.Str.{all_ascii_digits}
-use Rattle.std.specs.Char.{is_ascii_digit}
-use Rattle.std.specs.Fmt.{decimal}
-use Rattle.dmx_calls.specs.declared.outcome.Outcome.{Outcome}
+use Rattle.report_read.proofs.Imports.{◌≡◌, ◌<◌, ◌≤◌, refl, ◌∙◌, ℕ, List, [], ◌∷◌, ◌++◌, Bool, true, false, length, Some, None, codes, arith, append_assoc, nat_tests, decimal_nonempty, ◌≢◌, ◌==◌, All, flat_map, all_ascii_digits, is_ascii_digit, decimal, Outcome, decimal-digits, entry_text, row_text, clients_text, ToldNode, Told, told_node_text, text_of, Reading, behind, choose, number_in, begins_number, begins_with, nodes_in, IsNodeInRange, IsInRange, are_rows, are_nodes, IsNoReport}
 use Rattle.text_forms.specs.Names.{node_text}
-use Rattle.text_forms.proofs.Decimals.{decimal-digits}
-use Rattle.report_text.specs.Entries.{entry_text}
-use Rattle.report_text.specs.Report.{row_text, clients_text, end_text}
-use Rattle.report_text.specs.Told.{ToldNode, Told, told_node_text, text_of}
-use Rattle.report_read.specs.Inside.Reading.{Reading, behind, choose, number_in, begins_number, begins_with}
-use Rattle.report_read.specs.Inside.Whole.{node_name_in, node_in, nodes_in, end_in, told_in}
-use Rattle.report_read.specs.Ranges.{IsNodeInRange, IsInRange}
-use Rattle.report_read.specs.Report.{are_rows, are_nodes, IsNoReport}
+use Rattle.report_text.specs.Report.{end_text}
+use Rattle.report_read.specs.Inside.Whole.{node_name_in, node_in, end_in, told_in}
 use Rattle.report_read.proofs.Many.{IsSpelled, all_again}
 use Rattle.report_read.proofs.WordsAgain.{first_digit, number_again}
 use Rattle.report_read.proofs.Again.{node_again, one_value}

@@ -1,25 +1,12 @@
 -- Numbers, bytes and words are read again.
-use Rattle.std.proofs.Common.{◌≡◌, ◌<◌, ◌≤◌, ◌^◌, refl, ℕ, List, [], ◌∷◌, ◌++◌, Bool, true, false, length, Some, None, arith}
-use Rattle.std.proofs.lemmas.Bool.Decides.{nat_tests}
-use Rattle.std.proofs.lemmas.List.Elements.{All-head, All-tail}
-use Rattle.std.proofs.Math.Seq.{take-append_seam, drop-append_seam}
-use Rattle.std.specs.Prelude.{◌&&◌}
-use Rattle.std.specs.List.{All}
-use Rattle.std.specs.Str.{all_ascii_digits}
-use Rattle.std.specs.Char.{is_ascii_digit}
-use Rattle.std.specs.Fmt.{decimal}
-use Rattle.dmx_calls.specs.declared.params.Input.{Input}
+use Rattle.report_read.proofs.Imports.{◌≡◌, ◌<◌, ◌≤◌, ◌^◌, refl, ℕ, List, [], ◌∷◌, ◌++◌, Bool, true, false, length, Some, None, arith, nat_tests, All-head, All-tail, take-append_seam, drop-append_seam, ◌&&◌, All, all_ascii_digits, is_ascii_digit, decimal, Input, Output, PollError, byte_text, hex_text, decimal-digits, number_between-decimal, hex_byte-byte_text, digits, number16, number32, number64, begins_number}
 use Rattle.dmx_calls.specs.declared.params.Input.TheVariants as input
-use Rattle.dmx_calls.specs.declared.params.Output.{Output}
 use Rattle.dmx_calls.specs.declared.params.Output.TheVariants as output
-use Rattle.dmx_calls.specs.declared.reply.PollError.{PollError}
 use Rattle.dmx_calls.specs.declared.reply.PollError.TheVariants as pending
 use Rattle.dmx_calls.specs.Names.{input_text, output_text, pending_text}
-use Rattle.text_forms.specs.Hex.{hex_digit, hex_byte, byte_text, hex_text}
-use Rattle.text_forms.proofs.Decimals.{decimal-digits, number_between-decimal}
-use Rattle.text_forms.proofs.HexPairs.{hex_byte-byte_text}
+use Rattle.text_forms.specs.Hex.{hex_digit, hex_byte}
 use Rattle.report_text.specs.Replies.{flag_text}
-use Rattle.report_read.specs.Inside.Reading.{digits, number_in, number16, number32, number64, byte_in, bytes_in, begins_number}
+use Rattle.report_read.specs.Inside.Reading.{number_in, byte_in, bytes_in}
 use Rattle.report_read.specs.Inside.Parts.{input_in, output_in, flag_in, pending_in}
 
 -- ------ numbers

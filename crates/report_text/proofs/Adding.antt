@@ -1,17 +1,5 @@
 -- The sums over nodes.
-use Rattle.std.proofs.Common.{ℕ, suc, ◌+◌, ◌≤◌, ◌≡◌, ◌∙◌, refl, sym, ap, ap₂, Bool, true, false, List, [], ◌∷◌, length, map, take, drop, Some, slice_get, sum_by, arith, nat_lt, if◌then◌else◌, take-add, length-append, length-drop}
-use Rattle.std.proofs.lemmas.List.{length-map}
-use Rattle.std.proofs.lemmas.List.Sums.{sum_by-append, sum_by-cons, sum_by-take-drop}
-use Rattle.dmx_calls.specs.declared.histories.Fed.{Fed}
-use Rattle.dmx_calls.specs.declared.log.Entry.{Entry as ToldEntry}
-use Rattle.dmx_calls.specs.Calls.{told_entry}
-use Rattle.dmx_calls.specs.declared.log.Act.{Act}
-use Rattle.dmx_calls.specs.declared.log.Act.TheVariants.{End as EndAct}
-use Rattle.dmx_calls.specs.Log.{LogEntry}
-use Rattle.dmx_calls.specs.Response.{Response, Passed}
-use Rattle.dmx_calls.specs.Histories.{pass_act, feeder_acts, feeder_entry, feeder_entries, before_entry, woven_from, woven}
-use Rattle.dmx_calls.proofs.Weaving.{woven-length}
-use Rattle.report_text.specs.Summary.{sums_text}
+use Rattle.report_text.proofs.Imports.{ℕ, suc, ◌+◌, ◌≤◌, ◌≡◌, ◌∙◌, refl, sym, ap, ap₂, Bool, true, false, List, [], ◌∷◌, length, map, take, drop, Some, slice_get, sum_by, arith, nat_lt, if◌then◌else◌, take-add, length-append, length-drop, length-map, sum_by-append, sum_by-cons, sum_by-take-drop, Fed, ToldEntry, told_entry, Act, EndAct, LogEntry, Response, Passed, pass_act, feeder_acts, feeder_entry, feeder_entries, before_entry, woven_from, woven, woven-length, sums_text}
 use Rattle.report_text.proofs.Wholes.{drop-more}
 
 -- ------ the feeder's calls add nothing

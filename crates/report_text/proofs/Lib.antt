@@ -5,3 +5,4 @@ pub mod Turning
 pub mod Wholes
 pub mod Writing
 pub mod Adding
+pub mod Imports

@@ -1,14 +1,5 @@
 -- Texts that are written in pieces out of a buffer.
-use Rattle.std.proofs.Common.{◌≡◌, ◌<◌, ◌≤◌, ◌+◌, ℕ, List, [], ◌∷◌, ◌++◌, length, take, drop, refl, sym, ap, ◌∙◌, subst, arith, get_or, append_assoc, append-nil, length-append}
-use Rattle.std.specs.Prelude.{Option, Result, Ok, Err, OnOk, OnErr}
-use Rattle.std.specs.List.{flat_map}
-use Rattle.std.proofs.lemmas.List.{flat_map_more, take_more, take-append-drop}
-use Rattle.std.proofs.lemmas.Grind.{flat_map-append}
-use Rattle.std.specs.Io.KnownBytes.{Appends}
-use Rattle.std.proofs.KnownBytes.{Appends-trans, Appends-nil}
-use Rattle.std.proofs.Math.Seq.{take-append-add}
-use Rattle.std.proofs.lemmas.List.{take-append-le}
-use Rattle.report_text.specs.Inside.Pieces.{Adds, AddsPart, AddsSome}
+use Rattle.report_text.proofs.Imports.{◌≡◌, ◌<◌, ◌≤◌, ◌+◌, ℕ, List, [], ◌∷◌, ◌++◌, length, take, drop, refl, sym, ap, ◌∙◌, subst, arith, get_or, append_assoc, append-nil, length-append, Option, Result, Ok, Err, OnOk, OnErr, flat_map, flat_map_more, take_more, take-append-drop, flat_map-append, Appends, Appends-trans, Appends-nil, take-append-add, take-append-le, Adds, AddsPart, AddsSome}
 
 -- a text that waits, all of it
 pub waits_too : {now : Option (List ℕ)} {waited waits : List ℕ} (text : List ℕ) → waits ≡ waited ++ text → Adds now now waited waits text

@@ -1,21 +1,8 @@
 -- How the lines of a node grow by one line.
-use Rattle.std.proofs.Common.{ℕ, zero, suc, ◌+◌, ◌<◌, ◌≤◌, ◌≡◌, ◌∙◌, ◌⊎◌, inl, inr, refl, sym, ap, Bool, true, false, ◌||◌, List, [], ◌∷◌, ◌++◌, length, map, drop, arith, append_assoc, append-nil, codes, nat_lt, if◌then◌else◌, get_or}
-use Rattle.std.specs.List.{flat_map, list_any}
-use Rattle.std.proofs.lemmas.Bool.Decides.{nat_tests}
-use Rattle.std.proofs.Math.Seq.{drop-nil}
-use Rattle.dmx_calls.specs.declared.histories.Fed.{Fed}
-use Rattle.dmx_calls.specs.declared.log.Entry.{Entry as ToldEntry}
-use Rattle.dmx_calls.specs.Calls.{told_entry}
-use Rattle.dmx_calls.specs.declared.log.Act.{Act}
-use Rattle.dmx_calls.specs.Log.{LogEntry}
-use Rattle.dmx_calls.specs.Histories.{feeder_acts, feeder_entry, feeder_entries, before_entry, woven_from, woven}
+use Rattle.report_text.proofs.Imports.{ℕ, zero, suc, ◌+◌, ◌<◌, ◌≤◌, ◌≡◌, ◌∙◌, ◌⊎◌, inl, inr, refl, sym, ap, Bool, true, false, ◌||◌, List, [], ◌∷◌, ◌++◌, length, map, drop, arith, append_assoc, append-nil, codes, nat_lt, if◌then◌else◌, get_or, flat_map, list_any, nat_tests, drop-nil, Fed, ToldEntry, told_entry, Act, LogEntry, feeder_acts, feeder_entry, feeder_entries, before_entry, woven_from, woven, Passed, node_text, act_text, response_text, entry_text, is_of_client, history_text, tail_text, turn, Told}
 use Rattle.std.specs.Fmt.{decimal}
-use Rattle.dmx_calls.specs.Response.{Passed}
-use Rattle.text_forms.specs.Names.{node_text, who_text}
-use Rattle.report_text.specs.Acts.{act_text}
-use Rattle.report_text.specs.Replies.{response_text}
-use Rattle.report_text.specs.Entries.{caller_text, entry_text, is_of_client, history_text}
-use Rattle.report_text.specs.Inside.Turns.{tail_text, turn, Told}
+use Rattle.text_forms.specs.Names.{who_text}
+use Rattle.report_text.specs.Entries.{caller_text}
 
 -- ------ a line of the feeder
 

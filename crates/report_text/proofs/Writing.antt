@@ -1,17 +1,5 @@
 -- How the lines of a node are written.
-use Rattle.std.proofs.Common.{ℕ, suc, ◌+◌, ◌<◌, ◌≤◌, ◌≡◌, ◌∙◌, ◌⊎◌, refl, sym, ap, subst, false, true, List, [], ◌∷◌, ◌++◌, length, map, drop, append_assoc, codes, get_or, arith}
-use Rattle.std.specs.Prelude.{Option}
-use Rattle.std.specs.List.{flat_map, list_any}
-use Rattle.dmx_calls.specs.declared.histories.Fed.{Fed}
-use Rattle.dmx_calls.specs.declared.log.Entry.{Entry as ToldEntry}
-use Rattle.dmx_calls.specs.declared.log.Act.{Act}
-use Rattle.dmx_calls.specs.Calls.{told_entry}
-use Rattle.dmx_calls.specs.Log.{LogEntry}
-use Rattle.dmx_calls.specs.Histories.{feeder_acts, feeder_entry, feeder_entries, before_entry, woven_from, woven}
-use Rattle.text_forms.specs.Names.{node_text}
-use Rattle.report_text.specs.Entries.{entry_text, is_of_client, history_text}
-use Rattle.report_text.specs.Inside.Pieces.{Adds, AddsPart, AddsSome}
-use Rattle.report_text.specs.Inside.Turns.{turn, BreaksBefore, Told}
+use Rattle.report_text.proofs.Imports.{ℕ, suc, ◌+◌, ◌<◌, ◌≤◌, ◌≡◌, ◌∙◌, ◌⊎◌, refl, sym, ap, subst, false, true, List, [], ◌∷◌, ◌++◌, length, map, drop, append_assoc, codes, get_or, arith, Option, flat_map, list_any, Fed, ToldEntry, Act, told_entry, LogEntry, feeder_acts, feeder_entry, feeder_entries, before_entry, woven_from, woven, node_text, entry_text, is_of_client, history_text, Adds, AddsPart, AddsSome, turn, BreaksBefore, Told}
 use Rattle.report_text.proofs.Pieces.{adds_nothing, adds_both, part_behind, part_before}
 use Rattle.report_text.proofs.Turning.{IsTelling, IsEnding, IsWeaving, telling-more, telling-done, ending-more, ending-done, weaving-more, calls-more, calls-none, untold, told_whole}
 

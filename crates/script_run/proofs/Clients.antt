@@ -1,11 +1,6 @@
 -- A script has all clients that its lines name.
-use Rattle.std.proofs.Common.{ℕ, ◌≤◌, List, [], ◌∷◌, fold, max, arith}
-use Rattle.std.specs.List.{All}
-use Rattle.std.proofs.lemmas.List.Elements.{All-nil, All-cons, All-head, All-tail}
-use Rattle.client_script.specs.Script.{clients_of, clients_in, Scripted}
-use Rattle.client_script.specs.Grammar.{IsInRange}
-use Rattle.client_script.specs.declared.line.Line.{Line}
-use Rattle.client_script.specs.declared.line.Line.TheVariants.{Feed, Tick, Command}
+use Rattle.script_run.proofs.Imports.{ℕ, ◌≤◌, List, [], ◌∷◌, fold, max, arith, All, All-nil, All-cons, All-head, All-tail, clients_of, clients_in, Scripted, IsInRange, Line, Feed, Tick}
+use Rattle.client_script.specs.declared.line.Line.TheVariants.{Command}
 
 most_first : (m : ℕ) (lines : List Line) → m ≤ fold (λ most line. max most (clients_of line)) m lines
 most_first m [] = omega arith

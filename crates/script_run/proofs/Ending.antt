@@ -1,15 +1,6 @@
 -- A run so far that is over is a run, and its histories are accounted.
-use Rattle.std.proofs.Common.{refl, ℕ, Bool, true, false, nat_lt}
-use Rattle.std.specs.Prelude.{if◌then◌else◌}
-use Rattle.dmx_calls.specs.declared.limits.TheConstants.{DEMUX_NODES}
-use Rattle.dmx_calls.specs.Accounted.{IsAccounted}
-use Rattle.dmx_calls.specs.History.{History}
-use Rattle.dmx_calls.specs.Legal.{IsLegalFor}
-use Rattle.dmx_calls.specs.Log.{filled}
-use Rattle.dmx_calls.specs.Rules.{demux, dvr, rules_at}
-use Rattle.node_laws.proofs.LawsHold.{demux_accounted, dvr_accounted}
-use Rattle.script_run.specs.IsRun.{sources}
-use Rattle.script_run.specs.SoFar.{RunsEnd, RunsAreAccounted}
+use Rattle.script_run.proofs.Imports.{refl, ℕ, Bool, true, false, nat_lt, if◌then◌else◌, DEMUX_NODES, IsAccounted, History, IsLegalFor, filled, demux, dvr, demux_accounted, dvr_accounted, sources, RunsEnd, RunsAreAccounted}
+use Rattle.dmx_calls.specs.Rules.{rules_at}
 
 pub runs_end : RunsEnd
 runs_end payers script most stream hs s over = (

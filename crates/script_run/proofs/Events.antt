@@ -1,26 +1,7 @@
 -- What the calls of a client bring: some of the packets that it plays.
-use Rattle.std.proofs.Common.{refl, sym, subst, ℕ, zero, suc, ◌+◌, ◌≤◌, List, [], ◌∷◌, length, drop, Option, Some, None, add-one, arith, length-take}
-use Rattle.std.specs.List.{All}
-use Rattle.std.specs.Option.{IfSome}
-use Rattle.std.proofs.lemmas.List.Elements.{All-head, All-tail, All-nil}
-use Rattle.ts_packet.specs.Fields.{IsPacket}
-use Rattle.ts_batch.specs.Batch.{Packets}
-use Rattle.client_core.specs.PlayLaws.{StandsAmong}
-use Rattle.client_core.specs.Plays.{joined}
-use Rattle.client_core.proofs.Joining.{are_packets, are_placed}
-use Rattle.dmx_calls.specs.declared.params.Input.{Input}
-use Rattle.dmx_calls.specs.declared.params.Input.TheVariants.{Frontend, Dvr}
-use Rattle.dmx_calls.specs.declared.log.Act.{Act}
+use Rattle.script_run.proofs.Imports.{refl, sym, subst, ℕ, zero, suc, ◌+◌, ◌≤◌, List, [], ◌∷◌, length, drop, Option, Some, None, add-one, arith, length-take, All, IfSome, All-head, All-tail, All-nil, IsPacket, Packets, StandsAmong, joined, are_packets, are_placed, Input, Frontend, Act, brought, IsFrom, filled_act, Scripted, writes_of, Open, Request, Own, Pass, Batches, batch_at, call_of, pass_of, played, plays_of, sources}
+use Rattle.dmx_calls.specs.declared.params.Input.TheVariants.{Dvr}
 use Rattle.dmx_calls.specs.declared.log.Act.TheVariants as act
-use Rattle.dmx_calls.specs.Invocation.{brought}
-use Rattle.dmx_calls.specs.Log.{IsFrom, filled_act}
-use Rattle.client_script.specs.Script.{Scripted, writes_of}
-use Rattle.client_script.specs.declared.line.Want.TheVariants.{Open}
-use Rattle.client_core.specs.declared.event.Request.{Request}
-use Rattle.client_core.specs.declared.event.Request.TheVariants.{Own, Pass}
-use Rattle.client_core.specs.Deeds.{Batches, batch_at}
-use Rattle.client_core.specs.Commands.{call_of, pass_of, played, plays_of}
-use Rattle.script_run.specs.IsRun.{sources}
 
 -- ------ the packets
 

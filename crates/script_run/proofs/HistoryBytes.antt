@@ -1,24 +1,7 @@
 -- The packets that a node's history brings and the bytes that it answers, entry by entry.
-use Rattle.std.proofs.Common.{◌≡◌, refl, sym, ap, subst, ℕ, suc, ◌+◌, ◌*◌, ◌≤◌, Bool, true, false, nat_eq, nat_lt, List, [], ◌∷◌, ◌++◌, length, map, filter, drop, arith, length-append}
-use Rattle.std.specs.Prelude.{sum, if◌then◌else◌}
-use Rattle.std.specs.List.{All}
-use Rattle.std.proofs.lemmas.List.{reverse-append, length-map}
-use Rattle.std.proofs.lemmas.List.Sums.{sum_by-cons}
-use Rattle.std.proofs.lemmas.List.Elements.{All-nil, All-append, All-take, All-drop, All-head, All-tail}
-use Rattle.ts_packet.specs.Fields.{IsPacket}
-use Rattle.dmx_calls.specs.declared.log.Act.{Act}
+use Rattle.script_run.proofs.Imports.{◌≡◌, refl, sym, ap, subst, ℕ, suc, ◌+◌, ◌*◌, ◌≤◌, Bool, true, false, nat_eq, nat_lt, List, [], ◌∷◌, ◌++◌, length, map, filter, drop, arith, length-append, sum, if◌then◌else◌, All, reverse-append, length-map, sum_by-cons, All-nil, All-append, All-take, All-drop, All-head, All-tail, IsPacket, Act, DEMUX_NODES, brought, Entry, History, brought_by, LogEntry, Sources, filled, filled_act, filled_entry, Input, demux, dvr, IsLegalFor, bytes_answered, demux_answers_fit, dvr_answers_fit, bytes_in, Batch, Step, feeding, steps_of}
 use Rattle.dmx_calls.specs.declared.log.Act.TheVariants as act
-use Rattle.dmx_calls.specs.declared.limits.TheConstants.{DEMUX_NODES}
-use Rattle.dmx_calls.specs.Invocation.{brought}
-use Rattle.dmx_calls.specs.History.{Entry, History, brought_by}
-use Rattle.dmx_calls.specs.Log.{LogEntry, Sources, filled, filled_act, filled_entry}
-use Rattle.dmx_calls.specs.declared.params.Input.{Input}
-use Rattle.dmx_calls.specs.Rules.{demux, dvr, rules_at}
-use Rattle.dmx_calls.specs.Legal.{IsLegalFor}
-use Rattle.node_laws.specs.Bytes.{bytes_answered}
-use Rattle.node_laws.proofs.Bytes.{demux_answers_fit, dvr_answers_fit}
-use Rattle.script_run.specs.Budget.{bytes_in}
-use Rattle.script_run.specs.IsRun.{Batch, Step, feeding, steps_of}
+use Rattle.dmx_calls.specs.Rules.{rules_at}
 use Rattle.script_run.proofs.Events.{brings_few, count_of}
 use Rattle.script_run.proofs.Counting.{sum_of, weigh_append, weigh_reverse, weigh_map}
 use Rattle.script_run.proofs.ReadReplies.{bytes_same}

@@ -10,3 +10,4 @@ pub mod Passing
 pub mod Played
 pub mod Paying
 pub mod Ending
+pub mod Imports

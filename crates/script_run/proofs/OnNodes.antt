@@ -1,12 +1,5 @@
 -- The calls of a client on a node are the entries that the node's history has of it.
-use Rattle.std.proofs.Common.{◌≡◌, refl, sym, ap, ◌∙◌, ℕ, suc, ◌+◌, ◌<◌, Bool, true, false, nat_eq, List, [], ◌∷◌, filter, Some, slice_get, inl, inr, arith}
-use Rattle.std.specs.Prelude.{◌⊎◌, if◌then◌else◌}
-use Rattle.std.proofs.lemmas.Bool.Decides.{nat_tests}
-use Rattle.lemmas.specs.Lists.{Has}
-use Rattle.lemmas.proofs.Lists.{has_at, one_value}
-use Rattle.dmx_calls.specs.Log.{LogEntry}
-use Rattle.client_script.specs.Script.{Scripted}
-use Rattle.script_run.specs.IsRun.{HasDone}
+use Rattle.script_run.proofs.Imports.{◌≡◌, refl, sym, ap, ◌∙◌, ℕ, suc, ◌+◌, ◌<◌, Bool, true, false, nat_eq, List, [], ◌∷◌, filter, Some, slice_get, inl, inr, arith, ◌⊎◌, if◌then◌else◌, nat_tests, Has, has_at, one_value, LogEntry, Scripted, HasDone}
 use Rattle.script_run.proofs.Lists.{has_filter}
 
 -- ------ members

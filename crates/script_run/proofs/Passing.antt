@@ -1,46 +1,9 @@
 -- The passes of a client: each is of a write whose poll was Ready, and passes the nodes one after another.
-use Rattle.std.proofs.Common.{◌≡◌, refl, sym, ap, ◌∙◌, ℕ, zero, suc, ◌+◌, ◌<◌, ◌≤◌, Bool, true, false, nat_eq, List, [], ◌∷◌, ◌++◌, append_assoc, append-nil, Option, Some, None, length, length-append, map, filter, take, min, slice_get, arith}
-use Rattle.std.specs.Prelude.{nat_lt, if◌then◌else◌, slice_index_or, option_map, filter_map, is_some, unwrap_or}
-use Rattle.std.specs.List.{flat_map, cons_option}
-use Rattle.std.proofs.lemmas.Bool.Decides.{nat_tests}
-use Rattle.std.proofs.lemmas.Grind.{flat_map-append}
-use Rattle.std.proofs.lemmas.List.{map-append, take_all}
-use Rattle.std.proofs.lemmas.List.Elements.{filter-append}
-use Rattle.std.proofs.lemmas.Option.{none-some}
-use Rattle.lemmas.proofs.Lists.{at_place}
-use Rattle.lemmas.proofs.Options.{same_some}
-use Rattle.ts_batch.specs.Batch.{Packets}
-use Rattle.dmx_calls.specs.declared.limits.TheConstants.{DEMUX_NODES}
-use Rattle.dmx_calls.specs.declared.reply.Tap.TheVariants.{Keep as KeepTap, Attach as AttachTap, Detach as DetachTap}
-use Rattle.dmx_calls.specs.Log.{LogEntry, act_of, filled_act}
-use Rattle.dmx_calls.proofs.Telling.{fills}
-use Rattle.dmx_calls.specs.Response.{Response, Done, Busy, Ready, TapChange}
-use Rattle.client_script.specs.Script.{Scripted}
-use Rattle.client_script.specs.declared.line.Line.{Line}
-use Rattle.client_script.specs.declared.line.Line.TheVariants.{Feed, Tick, Command as CommandLine}
-use Rattle.client_script.specs.declared.line.Verb.{Verb}
+use Rattle.script_run.proofs.Imports.{◌≡◌, refl, sym, ap, ◌∙◌, ℕ, zero, suc, ◌+◌, ◌<◌, ◌≤◌, Bool, true, false, nat_eq, List, [], ◌∷◌, ◌++◌, append_assoc, append-nil, Option, Some, None, length, length-append, map, filter, take, min, slice_get, arith, if◌then◌else◌, slice_index_or, option_map, filter_map, is_some, unwrap_or, flat_map, cons_option, nat_tests, flat_map-append, map-append, take_all, filter-append, none-some, at_place, same_some, Packets, DEMUX_NODES, KeepTap, AttachTap, DetachTap, LogEntry, act_of, filled_act, fills, Response, Done, Busy, Ready, TapChange, Scripted, Line, Feed, Tick, CommandLine, Verb, Target, Node, Slot, Dvr, Want, Open, Command, Deed, Once, ReadWait, Drain, GetStc, Write, Event, Request, Own, Attach, Detach, Pass, Ending, Made, Bound, AllBusy, Batches, batch_at, deed_of, Slots, Doing, stands, through, once, told, called, opened, passed, written, read_until, done_on, done_at, done_by_slot, done, ends_wait, ends_drain, call_of, commands_among, commands_in, commands_of, pass_of, plays_of, Standing, slots_after, progress_from, no_slots, next_event, repeats_in, progress_of, Onward, IsFirst, done_on_more, done_none, some_of, IsEvent, replies, sources, played_at, played_from, played_in, played_on, WritesPass, from_the_dvr}
+use Rattle.std.specs.Prelude.{nat_lt}
 use Rattle.client_script.specs.declared.line.Verb.TheVariants as verb
-use Rattle.client_script.specs.declared.line.Target.{Target}
-use Rattle.client_script.specs.declared.line.Target.TheVariants.{Node, Slot, Dvr}
-use Rattle.client_script.specs.declared.line.Want.{Want}
-use Rattle.client_script.specs.declared.line.Want.TheVariants.{Open}
-use Rattle.client_core.specs.declared.command.Command.{Command}
-use Rattle.client_core.specs.declared.deed.Deed.{Deed}
-use Rattle.client_core.specs.declared.deed.Deed.TheVariants.{Once, ReadWait, Drain, GetStc, Write}
-use Rattle.client_core.specs.declared.event.Event.{Event}
-use Rattle.client_core.specs.declared.event.Request.{Request}
-use Rattle.client_core.specs.declared.event.Request.TheVariants.{Own, Attach, Detach, Pass}
-use Rattle.client_core.specs.declared.task.Ending.{Ending}
-use Rattle.client_core.specs.declared.task.Ending.TheVariants.{Made, Bound, AllBusy}
-use Rattle.client_core.specs.Deeds.{Batches, batch_at, deed_of}
-use Rattle.client_core.specs.Commands.{Slots, Doing, stands, through, once, told, called, opened, passed, written, read_until, done_on, done_at, done_by_slot, done, ends_wait, ends_drain, call_of, commands_among, commands_in, commands_of, pass_of, plays_of}
-use Rattle.client_core.specs.Events.{Standing, slots_after, progress_from, progress, no_slots, next_event}
-use Rattle.client_core.specs.Repeats.{repeats_in}
-use Rattle.client_core.proofs.GoesOn.{progress_of}
-use Rattle.client_core.proofs.More.{Onward, IsFirst, done_on_more, done_none, some_of}
-use Rattle.script_run.specs.IsRun.{IsEvent, replies, sources}
-use Rattle.client_core.specs.Passes.{played_at, played_from, played_in, played_on, played_writes}
-use Rattle.script_run.specs.Passing.{WritesPass, from_the_dvr}
+use Rattle.client_core.specs.Events.{progress}
+use Rattle.client_core.specs.Passes.{played_writes}
 use Rattle.script_run.proofs.Counting.{sum_of, weigh_append}
 use Rattle.script_run.proofs.Events.{from_client}
 use Rattle.script_run.proofs.Lists.{take_next}

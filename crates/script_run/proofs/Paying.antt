@@ -1,36 +1,7 @@
 -- At each moment of a run, the commands and the bytes pay for the calls of a client: a repeat that follows bytes is paid for by
 -- them, and a repeat that follows Again by the entry right behind the read, which is the feeder's or adds no repeat to its own client's.
-use Rattle.std.proofs.Common.{◌≡◌, ◌≢◌, refl, sym, ap, subst, ◌∙◌, ℕ, zero, suc, ◌+◌, ◌*◌, ◌<◌, ◌≤◌, Bool, true, false, nat_eq, List, [], ◌∷◌, ◌++◌, Option, Some, None, length, filter, take, slice_get, inl, inr, arith}
-use Rattle.std.specs.Prelude.{◌⊎◌, if◌then◌else◌}
-use Rattle.std.specs.List.{All}
-use Rattle.std.proofs.lemmas.Bool.Decides.{nat_tests}
-use Rattle.std.proofs.lemmas.List.Elements.{All-weaker}
-use Rattle.std.proofs.lemmas.Option.{slice_get_within}
-use Rattle.lemmas.specs.Lists.{Has}
-use Rattle.lemmas.proofs.Lists.{at_place, one_value, has_at}
-use Rattle.ts_packet.specs.Fields.{IsPacket}
-use Rattle.dmx_calls.specs.declared.reply.Errno.TheVariants.{Ebadf}
-use Rattle.dmx_calls.specs.Log.{LogEntry, Sources, act_of, filled_act, filled_entry}
-use Rattle.node_laws.specs.Owning.{HasRead}
-use Rattle.dmx_calls.specs.Response.{Response, Refused}
-use Rattle.client_script.specs.declared.line.Line.{Line}
-use Rattle.client_script.specs.declared.line.Line.TheVariants.{Feed, Tick, Command}
-use Rattle.client_script.specs.declared.line.Target.{Target}
-use Rattle.client_script.specs.declared.line.Verb.{Verb}
-use Rattle.client_script.specs.Script.{clients_in, Scripted}
-use Rattle.client_core.specs.declared.command.Command.{Command as ClientCommand}
-use Rattle.client_core.specs.declared.event.Event.{Event}
-use Rattle.client_core.specs.declared.event.Request.{Request}
-use Rattle.client_core.specs.declared.event.Request.TheVariants.{Own, Pass}
-use Rattle.client_script.specs.declared.line.Want.TheVariants.{Open}
-use Rattle.ts_batch.specs.Batch.{Packets}
-use Rattle.client_core.specs.PlayLaws.{packets_in}
-use Rattle.client_core.specs.Deeds.{Batches, batch_at, deed_of}
-use Rattle.client_core.specs.Commands.{call_of, commands_among, commands_of, ends_drain, pass_of, played, plays_of}
-use Rattle.client_core.specs.Events.{next_event, no_slots}
-use Rattle.script_run.specs.Budget.{all_commands, bytes_in, most_calls}
-use Rattle.script_run.specs.IsRun.{IsEvent, StandsIn, replies, sources}
-use Rattle.script_run.specs.SoFar.{Payers, feeder, others, MayPay, IsPaidBehind, HasDoneSoFar, IsSoFar, commands_for, CallsArePaid}
+use Rattle.script_run.proofs.Imports.{◌≡◌, ◌≢◌, refl, sym, ap, subst, ◌∙◌, ℕ, zero, suc, ◌+◌, ◌*◌, ◌<◌, ◌≤◌, Bool, true, false, nat_eq, List, [], ◌∷◌, ◌++◌, Option, Some, None, length, filter, take, slice_get, inl, inr, arith, ◌⊎◌, if◌then◌else◌, All, nat_tests, All-weaker, slice_get_within, Has, at_place, one_value, has_at, IsPacket, Ebadf, LogEntry, Sources, act_of, filled_act, filled_entry, HasRead, Response, Refused, Line, Feed, Tick, Target, Verb, clients_in, Scripted, ClientCommand, Event, Request, Own, Pass, Open, Packets, packets_in, Batches, batch_at, deed_of, call_of, commands_among, commands_of, ends_drain, pass_of, played, plays_of, next_event, no_slots, all_commands, bytes_in, most_calls, IsEvent, StandsIn, replies, sources, Payers, feeder, others, MayPay, IsPaidBehind, HasDoneSoFar, IsSoFar, commands_for, CallsArePaid}
+use Rattle.client_script.specs.declared.line.Line.TheVariants.{Command}
 use Rattle.script_run.proofs.Lists.{has_filter}
 use Rattle.script_run.proofs.Counting.{total, total_le, total_add, total_same, total_33, total_but, total_one, one_at, but, sum_of, Pool, both, all_pools, HaveTokens, counts_fit, weigh_places, weight_at, weight_got}
 use Rattle.script_run.proofs.ReadReplies.{read_there, next_is_refused}

@@ -1,24 +1,7 @@
 -- The packets that the writes complete which a script's lines name.
-use Rattle.std.proofs.Common.{◌≡◌, refl, sym, ap, subst, ◌∙◌, ℕ, zero, suc, ◌+◌, ◌*◌, ◌≤◌, Bool, true, false, nat_eq, List, [], ◌∷◌, ◌++◌, length, map, None, arith, length-append}
-use Rattle.std.specs.Prelude.{sum, if◌then◌else◌}
-use Rattle.std.specs.List.{flat_map, range_with_len}
-use Rattle.std.proofs.Math.Seq.{get_or-append_seam}
+use Rattle.script_run.proofs.Imports.{◌≡◌, refl, sym, ap, subst, ◌∙◌, ℕ, zero, suc, ◌+◌, ◌*◌, ◌≤◌, Bool, true, false, nat_eq, List, [], ◌∷◌, ◌++◌, length, map, None, arith, length-append, sum, if◌then◌else◌, flat_map, range_with_len, get_or-append_seam, sum_by-cons, plays, joined, cut_of, packets_in, few_in, are_joined, are_counted, Line, Feed, Tick, CommandLine, Verb, Scripted, writes_of, named_by, named_in, named_among, Command, Deed, Once, ReadWait, Drain, GetStc, Write, Batches, batch_at, deed_of, played, plays_of, commands_in, commands_among, bytes_written}
 use Rattle.std.proofs.lemmas.List.{append_assoc}
-use Rattle.std.proofs.lemmas.List.Sums.{sum_by-cons}
-use Rattle.client_core.specs.Plays.{plays, joined, cut_of}
-use Rattle.client_core.specs.PlayLaws.{packets_in}
-use Rattle.client_core.proofs.Joining.{few_in, are_joined, are_counted}
-use Rattle.client_script.specs.declared.line.Line.{Line}
-use Rattle.client_script.specs.declared.line.Line.TheVariants.{Feed, Tick, Command as CommandLine}
-use Rattle.client_script.specs.declared.line.Verb.{Verb}
 use Rattle.client_script.specs.declared.line.Verb.TheVariants as verb
-use Rattle.client_script.specs.Script.{Scripted, writes_of, named_by, named_in, named_among}
-use Rattle.client_core.specs.declared.command.Command.{Command}
-use Rattle.client_core.specs.declared.deed.Deed.{Deed}
-use Rattle.client_core.specs.declared.deed.Deed.TheVariants.{Once, ReadWait, Drain, GetStc, Write}
-use Rattle.client_core.specs.Deeds.{Batches, batch_at, deed_of}
-use Rattle.client_core.specs.Commands.{played, plays_of, commands_in, commands_among}
-use Rattle.script_run.specs.Budget.{bytes_written}
 use Rattle.script_run.proofs.Counting.{total, total_le, total_same, total_first, sum_of}
 use Rattle.script_run.proofs.Passing.{worth_of}
 

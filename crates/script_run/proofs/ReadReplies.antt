@@ -1,30 +1,11 @@
 -- What a node answers to a read, the bytes of a reply, and what it answers to the call of another behind a read.
-use Rattle.std.proofs.Common.{◌≡◌, refl, sym, ap, subst, ◌∙◌, ℕ, zero, suc, ◌<◌, Bool, true, false, nat_lt, List, [], ◌∷◌, ◌++◌, map, slice_get, Option, Some, None, ◌⊎◌, inl, inr, arith, append_assoc}
-use Rattle.std.specs.Prelude.{◌≢◌, if◌then◌else◌, reverse}
-use Rattle.std.proofs.lemmas.List.{reverse-append}
-use Rattle.dmx_calls.specs.declared.log.Act.TheVariants.{Read as ReadAct}
-use Rattle.dmx_calls.specs.declared.limits.TheConstants.{DEMUX_NODES}
-use Rattle.dmx_calls.specs.declared.reply.Errno.{Errno}
+use Rattle.script_run.proofs.Imports.{◌≡◌, refl, sym, ap, subst, ◌∙◌, ℕ, zero, suc, ◌<◌, Bool, true, false, nat_lt, List, [], ◌∷◌, ◌++◌, map, slice_get, Option, Some, None, inl, inr, arith, append_assoc, if◌then◌else◌, reverse, reverse-append, ReadAct, DEMUX_NODES, Errno, Invocation, Response, Done, Busy, Refused, NoMemory, Data, Again, Overflow, TimedOut, Ready, Passed, Entry, History, Since, event, entry_of, has_ended, Rules, demux, dvr, answered_in, ledger_of, ledger_at, ReadTerms, read_terms, with_call, response_unless, refusal_to, response_of_read, expired_of, May, IsLegalFor, OverflowNamesAByte, read_each, ends_drain, bytes_in, LogEntry, Sources, filled, filled_act, filled_entry, HasRead, demux_keeps, dvr_keeps, names_a_byte, readers_call_between, at_map}
+use Rattle.std.proofs.Common.{◌⊎◌}
+use Rattle.std.specs.Prelude.{◌≢◌}
 use Rattle.dmx_calls.specs.Invocation as call
-use Rattle.dmx_calls.specs.Invocation.{Invocation}
-use Rattle.dmx_calls.specs.Response.{Response, Done, Busy, Refused, NoMemory, Data, Again, Overflow, TimedOut, Ready, Passed}
-use Rattle.dmx_calls.specs.History.{Entry, History, Since, event, entry_of}
-use Rattle.dmx_calls.specs.Tenure.{has_ended}
-use Rattle.dmx_calls.specs.Rules.{Rules, demux, dvr, rules_at}
-use Rattle.dmx_calls.specs.Ledger.{answered_in}
-use Rattle.dmx_calls.specs.Facts.{facts, ledger_of, ledger_at}
-use Rattle.dmx_calls.specs.Answer.{ReadTerms, read_terms, answer, with_call, response_unless, refusal_to, response_of_read, expired_of}
-use Rattle.dmx_calls.specs.Legal.{May, IsLegalFor}
-use Rattle.node_laws.specs.Bytes.{OverflowNamesAByte}
-use Rattle.dmx_calls.proofs.Reading.{read_each}
-use Rattle.client_core.specs.Commands.{ends_drain}
-use Rattle.script_run.specs.Budget.{bytes_in}
-use Rattle.dmx_calls.specs.Log.{LogEntry, Sources, filled, filled_act, filled_entry}
-use Rattle.node_laws.specs.Owning.{HasRead}
-use Rattle.dmx_calls.proofs.Nodes.{demux_keeps, dvr_keeps}
-use Rattle.node_laws.proofs.Pending.{names_a_byte}
-use Rattle.node_laws.proofs.Owning.{readers_call_between}
-use Rattle.lemmas.proofs.Lists.{at_map}
+use Rattle.dmx_calls.specs.Rules.{rules_at}
+use Rattle.dmx_calls.specs.Facts.{facts}
+use Rattle.dmx_calls.specs.Answer.{answer}
 
 -- a reply to a read, where the stream has ended or not
 abbrev pub IsReadReply : (ended : Bool) → Response → Type 0

@@ -1,31 +1,10 @@
 -- How often a client repeats a read, by its log: each repeat follows a read that gave bytes, named some as lost, or was
 -- answered Again, after which the client waits on the same node.
-use Rattle.std.proofs.Common.{◌≡◌, refl, sym, ap, subst, ◌∙◌, ℕ, zero, suc, ◌+◌, ◌-◌, ◌*◌, ◌<◌, ◌≤◌, Bool, true, false, List, [], ◌∷◌, ◌++◌, Option, Some, None, length, take, slice_get, inl, inr, arith}
-use Rattle.std.specs.Prelude.{◌⊎◌, if◌then◌else◌, IsSome}
-use Rattle.std.proofs.lemmas.List.{map-append}
-use Rattle.dmx_calls.specs.declared.log.Act.{Act}
-use Rattle.dmx_calls.specs.declared.log.Act.TheVariants.{Read as ReadAct}
-use Rattle.dmx_calls.specs.Log.{LogEntry, act_of}
-use Rattle.dmx_calls.specs.Response.{Response, Done, Busy, Refused, NoMemory, Data, Again, Overflow, TimedOut, Ready, Passed}
-use Rattle.client_script.specs.Script.{Scripted}
-use Rattle.client_core.specs.declared.event.Event.{Event}
-use Rattle.client_core.specs.declared.event.Request.{Request}
-use Rattle.client_core.specs.declared.event.Request.TheVariants.{Own, Pass}
-use Rattle.client_script.specs.declared.line.Want.TheVariants.{Open}
-use Rattle.ts_batch.specs.Batch.{Packets}
-use Rattle.client_core.specs.Deeds.{Batches, batch_at}
-use Rattle.client_core.specs.Commands.{call_of, commands_of, ends_drain, pass_of, plays_of}
-use Rattle.client_core.specs.Events.{Standing, progress, next_event, waits_on, no_slots}
-use Rattle.script_run.specs.IsRun.{IsEvent, replies}
+use Rattle.script_run.proofs.Imports.{◌≡◌, refl, sym, ap, subst, ◌∙◌, ℕ, zero, suc, ◌+◌, ◌-◌, ◌*◌, ◌<◌, ◌≤◌, Bool, true, false, List, [], ◌∷◌, ◌++◌, Option, Some, None, length, take, slice_get, inl, inr, arith, ◌⊎◌, if◌then◌else◌, IsSome, map-append, Act, ReadAct, LogEntry, act_of, Response, Done, Busy, Refused, NoMemory, Data, Again, Overflow, TimedOut, Ready, Passed, Scripted, Event, Request, Own, Pass, Open, Packets, Batches, batch_at, call_of, commands_of, ends_drain, pass_of, plays_of, Standing, progress, next_event, waits_on, no_slots, IsEvent, replies, bytes_in, added_by, one_reply_more, some_of, repeats_none, at_place, first_calls, stays_on}
 use Rattle.client_core.specs.Repeats.{repeats}
-use Rattle.script_run.specs.Budget.{bytes_in}
-use Rattle.client_core.specs.Inside.More.{added_by}
-use Rattle.client_core.proofs.More.{one_reply_more, some_of, repeats_none}
 use Rattle.script_run.proofs.Counting.{total, total_le, total_add, weigh, weight_at, weigh_places, weight_got}
-use Rattle.lemmas.proofs.Lists.{at_place}
 use Rattle.script_run.proofs.Lists.{take_next, length_taken}
 use Rattle.script_run.proofs.ReadReplies.{IsOpenAgain, not_ended, IsAnyReadReply}
-use Rattle.client_core.proofs.FirstCalls.{first_calls, stays_on}
 
 -- ------ one entry
 

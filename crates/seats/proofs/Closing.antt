@@ -1,18 +1,5 @@
 -- A seat closes no node that it doesn't hold.
-use Rattle.std.proofs.Common.{◌≡◌, ◌≤◌, ℕ, true, List, [], ◌∷◌, ◌++◌, map, Some, ap, sym, ◌∙◌, subst}
-use Rattle.std.specs.Prelude.{slice_get}
-use Rattle.std.proofs.lemmas.List.{append-nil, append_assoc}
-use Rattle.dmx_calls.specs.declared.limits.TheConstants.{DEMUX_NODES}
-use Rattle.dmx_calls.specs.declared.log.Act.TheVariants.{Close as CloseAct, Attach as AttachAct, Detach as DetachAct}
-use Rattle.dmx_calls.specs.declared.reply.Tap.TheVariants.{Keep as KeepTap, Attach as AttachTap, Detach as DetachTap}
-use Rattle.dmx_calls.specs.Calls.{response_of}
-use Rattle.dmx_calls.specs.Log.{LogEntry}
-use Rattle.dmx_calls.specs.Response.{TapChange}
-use Rattle.seats.specs.declared.seat.Seat.{Seat}
-use Rattle.seats.specs.Answered.{act_by_tap, IsBehind}
-use Rattle.seats.specs.Doing.{DoesCommand, ClosesHeld}
-use Rattle.seats.specs.Holding.{holds, CloseHeld}
-use Rattle.seats.specs.Seated.{log_of, told_made, GoesOn}
+use Rattle.seats.proofs.Imports.{◌≡◌, ◌≤◌, ℕ, true, List, [], ◌∷◌, ◌++◌, map, Some, ap, sym, ◌∙◌, subst, slice_get, append-nil, append_assoc, DEMUX_NODES, CloseAct, AttachAct, DetachAct, KeepTap, AttachTap, DetachTap, response_of, LogEntry, TapChange, Seat, act_by_tap, IsBehind, DoesCommand, ClosesHeld, holds, CloseHeld, log_of, told_made, GoesOn}
 use Rattle.seats.proofs.Doing.{log_more}
 use Rattle.seats.proofs.Keeping.{the_calls}
 use Rattle.seats.proofs.Marking.{marked_is}

@@ -1,33 +1,6 @@
 -- From what a seat has made to what it has done for a request.
-use Rattle.std.proofs.Common.{◌≡◌, ◌≢◌, ◌⊎◌, ℕ, suc, ◌+◌, ◌<◌, Bool, true, false, List, [], ◌∷◌, ◌++◌, length, map, get_or, Option, Some, None, inl, inr, refl, ap, sym, ◌∙◌, subst, arith, length-append}
-use Rattle.std.specs.Prelude.{slice_get}
-use Rattle.std.proofs.lemmas.List.{map-append, append-nil, append_assoc, append_cancel_left}
-use Rattle.std.proofs.lemmas.Option.{slice_get_within, slice_get_read}
-use Rattle.lemmas.proofs.Lists.{one_value, at_last, at_before, at_end}
-use Rattle.dmx_calls.specs.Calls.{response_of, told_entry}
-use Rattle.dmx_calls.specs.Log.{LogEntry, act_of}
-use Rattle.dmx_calls.specs.Response.{Response, Done, Busy, Refused, NoMemory, Data, Again, Overflow, TimedOut, Ready, Passed}
-use Rattle.dmx_calls.specs.declared.log.Act.{Act}
-use Rattle.dmx_calls.specs.declared.log.Act.TheVariants.{Open as OpenAct, Close as CloseAct}
-use Rattle.dmx_calls.specs.declared.log.Entry.{Entry as ToldEntry}
-use Rattle.dmx_calls.specs.declared.limits.TheConstants.{DEMUX_NODES}
-use Rattle.dmx_calls.specs.declared.outcome.Outcome.{Outcome}
-use Rattle.client_core.specs.Commands.{own_call}
-use Rattle.client_script.specs.declared.line.Want.{Want}
-use Rattle.seats.specs.declared.serve_frames.ask.Ask.{Ask}
-use Rattle.seats.specs.declared.serve_frames.ask.Ask.TheVariants.{OpenDemux, Call, Leave, Refused as RefusedAsk}
-use Rattle.seats.specs.declared.serve_frames.numbers.TheConstants.{EMFILE, ENOMEM}
-use Rattle.seats.specs.declared.serve_frames.tell.Tell.{Tell}
-use Rattle.seats.specs.Tells.{told_of, data_of}
-use Rattle.seats.specs.declared.made.Made.{Made}
-use Rattle.seats.specs.declared.seat.Seat.{Seat}
-use Rattle.seats.specs.Answered.{act_behind, IsBehind, IsCommand, is_busy, AreBusy, IsClosing, AreClosings, refusal, told_opened, IsOpened, IsFull, IsAnsweredBy, IsAnswered}
-use Rattle.seats.specs.Calls.{MakesCalls}
-use Rattle.seats.specs.Doing.{HasMade, Does, MakesOne, DoesCommand, HasAnswered, HasGone, KeepsBy}
-use Rattle.seats.specs.Holding.{AreMarked, CloseHeld}
-use Rattle.seats.specs.Seated.{log_of, told_made, GoesOn}
-use Rattle.seats.specs.Spelled.{commands_done_by, AreKept}
-use Rattle.seats.specs.Told.{data_read, call_at}
+use Rattle.seats.proofs.Imports.{◌≡◌, ◌≢◌, ◌⊎◌, ℕ, suc, ◌+◌, ◌<◌, Bool, true, false, List, [], ◌∷◌, ◌++◌, length, map, get_or, Option, Some, None, inl, inr, refl, ap, sym, ◌∙◌, subst, arith, length-append, slice_get, map-append, append-nil, append_assoc, append_cancel_left, slice_get_within, slice_get_read, at_before, response_of, told_entry, LogEntry, act_of, Response, Done, Busy, Refused, NoMemory, Data, Again, Overflow, TimedOut, Ready, Passed, Act, OpenAct, CloseAct, ToldEntry, DEMUX_NODES, Outcome, own_call, Want, Ask, OpenDemux, Call, Leave, RefusedAsk, EMFILE, ENOMEM, Tell, told_of, data_of, Made, Seat, act_behind, IsBehind, IsCommand, is_busy, AreBusy, IsClosing, AreClosings, refusal, told_opened, IsOpened, IsFull, IsAnsweredBy, IsAnswered, MakesCalls, HasMade, Does, MakesOne, DoesCommand, HasAnswered, HasGone, KeepsBy, AreMarked, CloseHeld, log_of, told_made, GoesOn, commands_done_by, AreKept, data_read, call_at}
+use Rattle.lemmas.proofs.Lists.{one_value, at_last, at_end}
 
 -- ------ the last calls
 

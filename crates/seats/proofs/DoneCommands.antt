@@ -1,31 +1,7 @@
 -- Each command that a request spells is done by its calls, as a script's command is.
-use Rattle.std.proofs.Common.{◌≡◌, ◌≢◌, ℕ, zero, suc, ◌+◌, ◌<◌, ◌≤◌, Bool, true, false, nat_lt, eq-eqb, ne_eqb, List, [], ◌∷◌, ◌++◌, length, take, Some, None, IsTrue, refl, ap, sym, ◌∙◌, subst, arith}
-use Rattle.std.specs.Prelude.{slice_get, if◌then◌else◌}
-use Rattle.std.proofs.lemmas.Bool.Decides.{nat_tests}
-use mathlib.Core.Logic.{dite}
-use native.Mathlib.Decide.{ℕ_discrete}
-use Rattle.dmx_calls.specs.declared.limits.TheConstants.{DEMUX_NODES}
-use Rattle.dmx_calls.specs.declared.log.Act.TheVariants.{Open as OpenAct}
-use Rattle.dmx_calls.specs.declared.outcome.OutcomeKind.TheVariants.{Done as WasDone, Emfile as WasEmfile}
-use Rattle.dmx_calls.specs.declared.reply.Tap.TheVariants.{Keep as KeepTap, Attach as AttachTap, Detach as DetachTap}
-use Rattle.dmx_calls.specs.Log.{LogEntry, act_of}
-use Rattle.dmx_calls.specs.Response.{Response, TapChange, Done, Busy, Refused, NoMemory, Data, Again, Overflow, TimedOut, Ready, Passed}
-use Rattle.client_script.specs.declared.line.Target.TheVariants.{Node, Dvr}
-use Rattle.client_script.specs.declared.line.Want.{Want}
-use Rattle.client_script.specs.declared.line.Want.TheVariants.{Open, Close, Section, Pes, Add, Remove, Start, Stop, Size, Read, Poll}
-use Rattle.client_core.specs.declared.deed.Deed.TheVariants.{Once}
-use Rattle.client_core.specs.declared.event.Event.{Event}
-use Rattle.client_core.specs.declared.event.Request.{Request}
-use Rattle.client_core.specs.declared.event.Request.TheVariants.{Own, Attach, Detach}
-use Rattle.client_core.specs.declared.task.Ending.{Ending}
-use Rattle.client_core.specs.declared.task.Ending.TheVariants.{Made as WasMade, Bound, AllBusy}
-use Rattle.client_core.specs.Deeds.{Batches}
-use Rattle.client_core.specs.Commands.{Doing, stands, through, Slots, told, called, opened, done, own_call, call_of}
-use Rattle.client_core.specs.Outcomes.{Counters, kind_by}
-use Rattle.script_run.specs.IsRun.{IsEvent, replies}
-use Rattle.script_run.specs.WholeRun.{IsGiven}
-use Rattle.seats.specs.Answered.{act_by_tap, act_behind, IsBehind, is_busy}
-use Rattle.seats.specs.Spelled.{DoneCommand, done_command, target_of, opened_kind}
+use Rattle.seats.proofs.Imports.{◌≡◌, ◌≢◌, ℕ, zero, suc, ◌+◌, ◌<◌, ◌≤◌, Bool, true, false, nat_lt, eq-eqb, ne_eqb, List, [], ◌∷◌, ◌++◌, length, take, Some, None, IsTrue, refl, ap, sym, ◌∙◌, subst, arith, slice_get, if◌then◌else◌, nat_tests, dite, ℕ_discrete, DEMUX_NODES, OpenAct, WasDone, WasEmfile, KeepTap, AttachTap, DetachTap, LogEntry, act_of, Response, TapChange, Done, Busy, Refused, NoMemory, Data, Again, Overflow, TimedOut, Ready, Passed, Node, Dvr, Want, Open, Close, Section, Pes, Add, Remove, Size, Once, Event, Request, Own, Ending, WasMade, Bound, AllBusy, Batches, Doing, stands, through, Slots, told, called, opened, done, own_call, call_of, Counters, kind_by, IsEvent, replies, IsGiven, act_by_tap, act_behind, IsBehind, is_busy, DoneCommand, done_command, target_of, opened_kind}
+use Rattle.client_script.specs.declared.line.Want.TheVariants.{Start, Stop, Read, Poll}
+use Rattle.client_core.specs.declared.event.Request.TheVariants.{Attach, Detach}
 
 -- ------ what a command does by the replies to these calls
 

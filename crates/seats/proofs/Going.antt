@@ -1,26 +1,8 @@
 -- A seat goes on, call by call.
-use Rattle.std.proofs.Common.{◌≡◌, ◌+◌, ◌≤◌, ◌^◌, ℕ, List, [], ◌∷◌, ◌++◌, length, map, Some, refl, ap, sym, ◌∙◌, subst, arith, length-append}
-use Rattle.std.proofs.lemmas.List.{map-append, append-nil, append_assoc, length-map}
-use Rattle.std.proofs.lemmas.List.Elements.{All-nil}
-use Rattle.std.proofs.lemmas.Option.{slice_get-map}
-use Rattle.std.specs.Prelude.{slice_get, option_map}
-use Rattle.atomic_table.specs.Seated.{TableId}
-use Rattle.dmx_calls.specs.Calls.{told_entry}
-use Rattle.dmx_calls.specs.Log.{LogEntry}
-use Rattle.dmx_calls.specs.declared.log.Entry.{Entry as ToldEntry}
-use Rattle.dmx_calls.specs.declared.limits.TheConstants.{DEMUX_NODES}
-use Rattle.adapter.specs.Callers.{Caller, AreFreshCallers}
-use Rattle.adapter.specs.Rows.{Fits}
-use Rattle.adapter.proofs.Pairs.{caller_fits}
-use Rattle.seats.specs.Calls.{MakesCalls}
-use Rattle.seats.specs.Holding.{AreMarked, KnowsItsNodes}
+use Rattle.seats.proofs.Imports.{◌≡◌, ◌+◌, ◌≤◌, ◌^◌, ℕ, List, [], ◌∷◌, ◌++◌, length, map, Some, refl, ap, sym, ◌∙◌, subst, arith, length-append, map-append, append-nil, append_assoc, length-map, All-nil, slice_get-map, slice_get, option_map, TableId, told_entry, LogEntry, ToldEntry, DEMUX_NODES, Caller, AreFreshCallers, Fits, caller_fits, MakesCalls, AreMarked, KnowsItsNodes, Desk, Made, Seat, told_made, log_of, AreOnNodes, IsFit, IsNew, IsReady, AreReady, GoesOn}
 use Rattle.seats.proofs.Holding.{knows_none}
 use Rattle.seats.proofs.Marking.{marked_none}
 use Rattle.seats.proofs.Lists.{mapped}
-use Rattle.seats.specs.declared.run.Desk.{Desk}
-use Rattle.seats.specs.declared.made.Made.{Made}
-use Rattle.seats.specs.declared.seat.Seat.{Seat}
-use Rattle.seats.specs.Seated.{told_made, log_of, AreOnNodes, IsFit, IsNew, IsReady, AreReady, GoesOn}
 
 -- ------ calls
 

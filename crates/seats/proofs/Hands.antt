@@ -1,23 +1,5 @@
 -- Seats that hand their calls over, request by request.
-use Rattle.std.proofs.Common.{◌≡◌, ◌+◌, ◌≤◌, ◌^◌, ℕ, Bool, true, false, List, [], ◌∷◌, ◌++◌, length, map, Some, refl, ap, sym, ◌∙◌, subst, arith, length-append}
-use Rattle.std.proofs.lemmas.List.{append-nil, append_assoc}
-use Rattle.std.proofs.lemmas.List.Concat.{flat_map-append}
-use Rattle.std.proofs.lemmas.List.Elements.{All-nil, All-append}
-use Rattle.emu_io.specs.Ends.{SourceEnd, SinkEnd}
-use Rattle.dmx_calls.specs.declared.limits.TheConstants.{DEMUX_NODES}
-use Rattle.dmx_calls.specs.declared.outcome.Outcome.{Outcome}
-use Rattle.dmx_calls.specs.Log.{LogEntry}
-use Rattle.adapter.specs.Callers.{Caller}
-use Rattle.seats.specs.Asks.{ask_of}
-use Rattle.seats.specs.declared.seat.Seat.{Seat}
-use Rattle.seats.specs.Answered.{AreClosings}
-use Rattle.seats.specs.Calls.{MakesCalls}
-use Rattle.seats.specs.Doing.{Does, HasGone}
-use Rattle.seats.specs.Holding.{holds, AreMarked, GivesBack}
-use Rattle.seats.specs.Numbered.{numbered}
-use Rattle.seats.specs.Seated.{log_of, told_made, AreOnNodes, GoesOn}
-use Rattle.seats.specs.Spelled.{outcomes_by}
-use Rattle.seats.specs.Turns.{Turn, IsTurn, calls_of, spelled, MakesTurns, MakesTurn, MakesLast, IsAsked, IsTold, IsCutOff, AreTold, IsLast, HasTurned, HasAnsweredAll}
+use Rattle.seats.proofs.Imports.{◌≡◌, ◌+◌, ◌≤◌, ◌^◌, ℕ, Bool, true, false, List, [], ◌∷◌, ◌++◌, length, map, Some, refl, ap, sym, ◌∙◌, subst, arith, length-append, append-nil, append_assoc, flat_map-append, All-nil, All-append, SourceEnd, SinkEnd, DEMUX_NODES, Outcome, LogEntry, Caller, ask_of, Seat, AreClosings, MakesCalls, Does, HasGone, holds, AreMarked, GivesBack, numbered, log_of, told_made, AreOnNodes, GoesOn, outcomes_by, Turn, IsTurn, calls_of, spelled, MakesTurns, MakesTurn, MakesLast, IsAsked, IsTold, IsCutOff, AreTold, IsLast, HasTurned, HasAnsweredAll}
 use Rattle.seats.proofs.Doing.{log_more}
 use Rattle.seats.proofs.Going.{calls_trans}
 use Rattle.seats.proofs.Keeping.{the_calls}

@@ -1,29 +1,10 @@
 -- Which nodes a caller has left, behind a call of its own.
-use Rattle.std.proofs.Common.{◌≡◌, ◌≢◌, ℕ, Bool, true, false, List, [], ◌∷◌, reverse, set, Option, Some, None, inl, inr, refl, ap, sym, ◌∙◌, subst, arith, eq-eqb}
-use Rattle.std.specs.Prelude.{slice_get, if◌then◌else◌}
-use Rattle.std.proofs.lemmas.Option.{slice_get_within}
-use mathlib.Core.Logic.{dite}
-use native.Mathlib.Decide.{ℕ_discrete}
-use Rattle.atomic_table.specs.Seated.{TableId}
-use Rattle.node_lock.specs.declared.view.View.{View}
-use Rattle.node_lock.specs.Passes.{KnowsItsCalls}
-use Rattle.node_lock.specs.Inside.Seats.{fresh}
-use Rattle.dmx_calls.specs.Entries.{caller_of}
-use Rattle.dmx_calls.specs.Facts.{Facts, Ledger, facts}
-use Rattle.dmx_calls.specs.declared.node.NodeKind.{NodeKind}
-use Rattle.dmx_calls.specs.declared.node.NodeKind.TheVariants.{Demux, Dvr}
-use Rattle.dmx_calls.specs.History.{Entry, History, event, entry_of}
-use Rattle.dmx_calls.specs.Invocation.{Invocation, Open, Close, SetFilter, SetPes, AddPid, RemovePid, Start, Stop, SetSize, Read, Poll, Pass, End, Attach, Detach}
-use Rattle.dmx_calls.specs.Log.{act_of}
-use Rattle.dmx_calls.specs.Response.{Response, TapChange, is_accepted}
-use Rattle.dmx_calls.specs.Rules.{Rules, rules_at}
-use Rattle.dmx_calls.specs.Answer.{answer, answer_by, with_call, done_dropping, tap_of_done, is_owned_by}
-use Rattle.dmx_calls.specs.Legal.{May, IsLegalFor}
-use Rattle.dmx_calls.specs.Tenure.{opens, closes, tenure, owner}
-use Rattle.adapter.specs.Callers.{Caller, IsFreshCaller}
-use Rattle.adapter.specs.Nodes.{MakesEntry, IsLegalAt}
-use Rattle.adapter.proofs.Lists.{at_place, set_there, set_elsewhere, one_value}
-use Rattle.seats.specs.Holding.{HasLeft, has_then, IsOwnPass, KnowsItsNodes}
+use Rattle.seats.proofs.Imports.{◌≡◌, ◌≢◌, ℕ, Bool, true, false, List, [], ◌∷◌, reverse, set, Option, Some, None, inl, inr, refl, ap, sym, ◌∙◌, subst, arith, eq-eqb, slice_get, if◌then◌else◌, slice_get_within, dite, ℕ_discrete, TableId, View, KnowsItsCalls, fresh, caller_of, Facts, Ledger, NodeKind, Demux, Entry, History, event, entry_of, Invocation, SetFilter, SetPes, AddPid, RemovePid, Start, Stop, SetSize, Read, Poll, Pass, End, Attach, Detach, act_of, Response, TapChange, is_accepted, Rules, rules_at, answer_by, with_call, done_dropping, tap_of_done, is_owned_by, May, IsLegalFor, opens, closes, Caller, IsFreshCaller, MakesEntry, IsLegalAt, at_place, set_there, set_elsewhere, one_value, HasLeft, has_then, IsOwnPass, KnowsItsNodes}
+use Rattle.dmx_calls.specs.Facts.{facts}
+use Rattle.dmx_calls.specs.declared.node.NodeKind.TheVariants.{Dvr}
+use Rattle.dmx_calls.specs.Invocation.{Open, Close}
+use Rattle.dmx_calls.specs.Answer.{answer}
+use Rattle.dmx_calls.specs.Tenure.{tenure, owner}
 use Rattle.seats.proofs.Owning.{owner_refused, owner_closed, still_own, owned_before, behind, owned_still, turned}
 
 -- ------ calls

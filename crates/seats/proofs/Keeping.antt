@@ -1,26 +1,6 @@
 -- What a seat keeps of the commands that it has done.
-use Rattle.std.proofs.Common.{◌≡◌, ℕ, ◌+◌, ◌<◌, false, List, [], ◌∷◌, ◌++◌, length, map, get_or, refl, ap, sym, ◌∙◌, subst, arith, length-append}
-use Rattle.std.proofs.lemmas.List.{append-nil, append_assoc, append_cancel_left, map-append}
-use Rattle.dmx_calls.specs.Calls.{response_of}
-use Rattle.dmx_calls.specs.Log.{LogEntry}
-use Rattle.dmx_calls.specs.declared.log.Act.{Act}
-use Rattle.dmx_calls.specs.declared.log.Act.TheVariants.{Open as OpenAct, Close as CloseAct}
-use Rattle.dmx_calls.specs.declared.limits.TheConstants.{DEMUX_NODES}
-use Rattle.dmx_calls.specs.declared.outcome.Outcome.{Outcome}
-use Rattle.dmx_calls.specs.declared.outcome.OutcomeKind.{OutcomeKind}
-use Rattle.dmx_calls.specs.declared.outcome.OutcomeKind.TheVariants.{Done as WasDone, Emfile as WasEmfile}
-use Rattle.client_script.specs.declared.line.Target.{Target}
-use Rattle.client_script.specs.declared.line.Target.TheVariants.{Slot}
-use Rattle.client_script.specs.declared.line.Want.{Want}
-use Rattle.client_script.specs.declared.line.Want.TheVariants.{Open, Close}
-use Rattle.seats.specs.declared.serve_frames.ask.Ask.{Ask}
-use Rattle.seats.specs.declared.serve_frames.ask.Ask.TheVariants.{OpenDemux, Call, Leave, Refused}
-use Rattle.seats.specs.declared.made.Made.{Made}
-use Rattle.seats.specs.declared.seat.Seat.{Seat}
-use Rattle.seats.specs.Answered.{IsCommand, is_busy, IsClosing, AreClosings}
-use Rattle.seats.specs.Doing.{Does, DoesCommand, Keeps, KeepsOne, KeepsOpened, KeepsClosed}
-use Rattle.seats.specs.Seated.{log_of, told_made}
-use Rattle.seats.specs.Spelled.{DoneCommand, done_command, calls_in, target_of, done_command_by, opened_kind, Closings, closings, commands_done_by, outcome_at, outcomes_by, AreKept}
+use Rattle.seats.proofs.Imports.{◌≡◌, ℕ, ◌+◌, ◌<◌, false, List, [], ◌∷◌, ◌++◌, length, map, get_or, refl, ap, sym, ◌∙◌, subst, arith, length-append, append-nil, append_assoc, append_cancel_left, map-append, response_of, LogEntry, Act, OpenAct, CloseAct, DEMUX_NODES, Outcome, OutcomeKind, WasDone, WasEmfile, Target, Slot, Want, Open, Close, Ask, OpenDemux, Call, Leave, Made, Seat, IsCommand, is_busy, IsClosing, AreClosings, Does, DoesCommand, Keeps, KeepsOne, KeepsOpened, KeepsClosed, log_of, told_made, DoneCommand, done_command, calls_in, target_of, done_command_by, opened_kind, Closings, closings, commands_done_by, outcome_at, outcomes_by, AreKept}
+use Rattle.seats.specs.declared.serve_frames.ask.Ask.TheVariants.{Refused}
 use Rattle.seats.proofs.Doing.{log_more, made_kept, made_trans, read_at, HaveTried}
 use Rattle.seats.proofs.Going.{log_long}
 use Rattle.seats.proofs.DoneCommands.{kind_busy, kind_free}

@@ -15,3 +15,4 @@ pub mod Ranges
 pub mod Spelling
 pub mod Turning
 pub mod Wiring
+pub mod Imports

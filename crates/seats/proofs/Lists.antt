@@ -1,10 +1,5 @@
 -- Lists: one member more, what is made of each member, and a part that is written.
-use Rattle.std.proofs.Common.{◌≡◌, ⊎_elim, ℕ, zero, suc, ◌+◌, ◌≤◌, List, [], ◌∷◌, ◌++◌, length, map, take, Some, refl, ap, sym, ◌∙◌, subst}
-use Rattle.std.specs.Prelude.{slice_get}
-use Rattle.std.proofs.lemmas.List.{length-take-le, take-append-le}
-use Rattle.std.proofs.Math.Seq.{take-append-add}
-use borrow.Rule.Slice.PartMut.{put_mid, post_of}
-use Rattle.adapter.proofs.Lists.{at_end}
+use Rattle.seats.proofs.Imports.{◌≡◌, ⊎_elim, ℕ, zero, suc, ◌+◌, ◌≤◌, List, [], ◌∷◌, ◌++◌, length, map, take, Some, refl, ap, sym, ◌∙◌, subst, slice_get, length-take-le, take-append-le, take-append-add, put_mid, post_of, at_end}
 
 -- a fact of each member
 pub each_more : {A : Type 0} (P : ℕ → A → Type 0) (xs new : List A) (a : A) (n : ℕ) → new ≡ xs ++ a ∷ [] → n ≡ length xs → ((k : ℕ) (x : A) → slice_get xs k ≡ Some x → P k x) → P n a → (k : ℕ) (x : A) → slice_get new k ≡ Some x → P k x

@@ -1,17 +1,6 @@
 -- The nodes that a seat has marked are those that it holds by its calls.
-use Rattle.std.proofs.Common.{◌≡◌, ◌≢◌, ℕ, ◌+◌, ◌≤◌, nat_eq, Bool, false, true, eq-eqb, ne_eqb, List, [], ◌∷◌, ◌++◌, length, replicate, set, Some, get_or, refl, ap, sym, ◌∙◌, subst, arith}
-use Rattle.std.specs.Prelude.{slice_get, if◌then◌else◌}
-use Rattle.std.proofs.lemmas.List.{append_assoc, length-replicate, get_or-replicate}
-use Rattle.std.proofs.lemmas.List.Sums.{fold-append}
-use Rattle.std.proofs.lemmas.Option.{slice_get_within, slice_get-get_or, get_or_from_slice_get}
-use mathlib.Core.Logic.{dite}
-use native.Mathlib.Decide.{ℕ_discrete}
-use Rattle.adapter.proofs.Lists.{set_there, set_elsewhere, one_value}
-use Rattle.dmx_calls.specs.declared.limits.TheConstants.{DEMUX_NODES}
-use Rattle.dmx_calls.specs.Invocation.{Invocation, Open, Close, SetFilter, SetPes, AddPid, RemovePid, Start, Stop, SetSize, Read, Poll, Pass, End, Attach, Detach}
-use Rattle.dmx_calls.specs.Log.{LogEntry, act_of}
-use Rattle.dmx_calls.specs.Response.{Response}
-use Rattle.seats.specs.Holding.{has_then, holds, AreMarked}
+use Rattle.seats.proofs.Imports.{◌≡◌, ◌≢◌, ℕ, ◌+◌, ◌≤◌, nat_eq, Bool, false, true, eq-eqb, ne_eqb, List, [], ◌∷◌, ◌++◌, length, replicate, set, Some, get_or, refl, ap, sym, ◌∙◌, subst, arith, slice_get, if◌then◌else◌, append_assoc, length-replicate, get_or-replicate, fold-append, slice_get_within, slice_get-get_or, get_or_from_slice_get, dite, ℕ_discrete, set_there, set_elsewhere, one_value, DEMUX_NODES, Invocation, SetFilter, SetPes, AddPid, RemovePid, Start, Stop, SetSize, Read, Poll, Pass, End, Attach, Detach, LogEntry, act_of, Response, has_then, holds, AreMarked}
+use Rattle.dmx_calls.specs.Invocation.{Open, Close}
 
 -- before the first call
 pub marked_none : (held : List Bool) → held ≡ replicate (DEMUX_NODES + 1) false → AreMarked [] held

@@ -1,21 +1,7 @@
 -- Calls with other numbers: what is said of the calls for a request holds whatever their numbers are.
-use Rattle.std.proofs.Common.{◌≡◌, ⊎_elim, inl, inr, ℕ, zero, suc, ◌+◌, ◌<◌, ◌≤◌, Bool, true, List, [], ◌∷◌, ◌++◌, length, Option, Some, None, refl, ap, sym, ◌∙◌, subst, arith}
-use Rattle.std.specs.Prelude.{slice_get, if◌then◌else◌, nat_eq}
-use Rattle.std.proofs.lemmas.List.{append-nil, append_assoc}
-use Rattle.std.proofs.lemmas.List.Elements.{All-nil, All-cons, All-head, All-tail}
-use Rattle.dmx_calls.specs.declared.log.Act.{Act}
-use Rattle.dmx_calls.specs.declared.log.Act.TheVariants.{Open as OpenAct, Close as CloseAct}
-use Rattle.dmx_calls.specs.declared.limits.TheConstants.{DEMUX_NODES}
-use Rattle.dmx_calls.specs.Log.{LogEntry}
-use Rattle.adapter.specs.Callers.{Caller}
-use Rattle.seats.specs.declared.serve_frames.ask.Ask.{Ask}
-use Rattle.seats.specs.declared.serve_frames.ask.Ask.TheVariants.{OpenDemux, Call, Leave, Refused}
-use Rattle.seats.specs.declared.serve_frames.tell.Tell.{Tell}
-use Rattle.seats.specs.Answered.{act_behind, IsBehind, IsCommand, is_busy, AreBusy, IsClosing, AreClosings, told_opened, IsOpened, IsFull, IsAnsweredBy, IsAnswered}
-use Rattle.seats.specs.Calls.{MakesCall, MakesCalls}
-use Rattle.seats.specs.Holding.{has_then, holds, CloseHeld}
-use Rattle.seats.specs.Numbered.{numbered}
-use Rattle.seats.specs.Seated.{AreOnNodes}
+use Rattle.seats.proofs.Imports.{◌≡◌, ⊎_elim, inl, inr, ℕ, zero, suc, ◌+◌, ◌<◌, ◌≤◌, Bool, true, List, [], ◌∷◌, ◌++◌, length, Option, Some, None, refl, ap, sym, ◌∙◌, subst, arith, slice_get, if◌then◌else◌, append-nil, append_assoc, All-nil, All-cons, All-head, All-tail, Act, OpenAct, CloseAct, DEMUX_NODES, LogEntry, Caller, Ask, OpenDemux, Call, Leave, Tell, act_behind, IsBehind, IsCommand, is_busy, AreBusy, IsClosing, AreClosings, told_opened, IsOpened, IsFull, IsAnsweredBy, IsAnswered, MakesCall, MakesCalls, has_then, holds, CloseHeld, numbered, AreOnNodes}
+use Rattle.std.specs.Prelude.{nat_eq}
+use Rattle.seats.specs.declared.serve_frames.ask.Ask.TheVariants.{Refused}
 use Rattle.seats.proofs.Marking.{holds_more}
 
 -- ------ lists

@@ -1,22 +1,7 @@
 -- Who owns a node, by the entries that a pass has seen.
-use Rattle.std.proofs.Common.{◌≡◌, ◌≢◌, ⊎_elim, ℕ, Bool, true, false, ◌+◌, ◌≤◌, List, [], ◌∷◌, ◌++◌, reverse, length, Option, Some, None, inl, refl, ap, sym, ◌∙◌, subst, arith, length-append}
-use Rattle.std.specs.Prelude.{option_map}
-use Rattle.std.proofs.lemmas.List.{append-nil, append_assoc, reverse-append}
-use mathlib.Core.Option.{some}
-use lib.ListN.{get_elem?}
-use Rattle.atomic_table.specs.Seated.{TableId}
-use Rattle.atomic_table.proofs.Lists.{at_last}
-use Rattle.lemmas.specs.Lists.{Has}
-use Rattle.lemmas.proofs.Lists.{has_either}
-use Rattle.node_lock.specs.declared.view.View.{View}
-use Rattle.node_lock.proofs.Views.{at_below, prefix_at}
-use Rattle.dmx_calls.specs.Entries.{caller_of}
-use Rattle.dmx_calls.specs.History.{Entry, Event, History, Since, also, event}
-use Rattle.dmx_calls.specs.Response.{is_accepted}
-use Rattle.dmx_calls.specs.Tenure.{opens, closes, tenure, owner}
-use Rattle.dmx_calls.proofs.Going.{tenure_refused, tenure_opened, tenure_closed, tenure_also}
-use Rattle.adapter.specs.Rows.{OneMore}
-use Rattle.seats.specs.Holding.{IsOwnPass}
+use Rattle.seats.proofs.Imports.{◌≡◌, ◌≢◌, ⊎_elim, ℕ, Bool, true, false, ◌+◌, ◌≤◌, List, [], ◌∷◌, ◌++◌, reverse, length, Option, Some, None, inl, refl, ap, sym, ◌∙◌, subst, arith, length-append, option_map, append-nil, append_assoc, reverse-append, some, get_elem?, TableId, at_last, Has, has_either, View, at_below, prefix_at, caller_of, Entry, History, Since, also, event, is_accepted, opens, closes, tenure_refused, tenure_opened, tenure_closed, tenure_also, OneMore, IsOwnPass}
+use Rattle.dmx_calls.specs.History.{Event}
+use Rattle.dmx_calls.specs.Tenure.{tenure, owner}
 
 -- ------ one entry more
 

@@ -1,18 +1,5 @@
 -- A line whose requests were answered is what a client's commands do, where these are the ones that the requests spell.
-use Rattle.std.proofs.Common.{◌≡◌, ℕ, Bool, List, [], ◌∷◌, ◌++◌, All, refl, ap, sym, ◌∙◌, subst}
-use Rattle.std.proofs.lemmas.List.{append_assoc}
-use Rattle.std.proofs.lemmas.List.Concat.{flat_map-append}
-use Rattle.std.proofs.lemmas.List.Elements.{All-nil, All-cons, All-append}
-use Rattle.emu_io.specs.Ends.{SourceEnd, SinkEnd}
-use Rattle.dmx_calls.specs.declared.outcome.Outcome.{Outcome}
-use Rattle.dmx_calls.specs.Log.{LogEntry}
-use Rattle.client_script.specs.Script.{Scripted}
-use Rattle.client_core.specs.Commands.{commands_of}
-use Rattle.adapter.specs.Callers.{Caller}
-use Rattle.seats.specs.Scripts.{IsPlayed}
-use Rattle.seats.specs.Seated.{AreOnNodes}
-use Rattle.seats.specs.Spelled.{DoneCommand, calls_in, commands_by, outcomes_by}
-use Rattle.seats.specs.Turns.{Turn, IsTurn, calls_of, spelled, AreTold, IsLast, HasAnsweredAll}
+use Rattle.seats.proofs.Imports.{◌≡◌, ℕ, Bool, List, [], ◌∷◌, ◌++◌, All, refl, ap, sym, ◌∙◌, subst, append_assoc, flat_map-append, All-nil, All-cons, All-append, SourceEnd, SinkEnd, Outcome, LogEntry, Scripted, commands_of, Caller, IsPlayed, AreOnNodes, DoneCommand, calls_in, commands_by, outcomes_by, Turn, IsTurn, calls_of, spelled, AreTold, IsLast, HasAnsweredAll}
 use Rattle.seats.proofs.Spelling.{spelled_commands, lines_are_played}
 
 commands_none : (n : ℕ) (ds : List DoneCommand) → commands_by n ds ≡ [] → ds ≡ []

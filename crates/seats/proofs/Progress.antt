@@ -1,23 +1,5 @@
 -- How far a client is whose commands were done one after another.
-use Rattle.std.proofs.Common.{◌≡◌, ◌≢◌, ◌⊎◌, ⊎_elim, ℕ, zero, suc, ◌+◌, ◌<◌, ◌≤◌, Bool, false, List, [], ◌∷◌, ◌++◌, length, map, take, Some, None, inl, inr, refl, ap, sym, ◌∙◌, subst, arith}
-use Rattle.std.specs.Prelude.{slice_get}
-use Rattle.std.proofs.lemmas.List.{map-append, take-append-le}
-use Rattle.std.proofs.lemmas.Option.{slice_get_within}
-use Rattle.std.proofs.Math.Seq.{take-append-add}
-use Rattle.dmx_calls.specs.declared.outcome.Outcome.{Outcome}
-use Rattle.dmx_calls.specs.declared.outcome.OutcomeKind.{OutcomeKind}
-use Rattle.dmx_calls.specs.Log.{LogEntry}
-use Rattle.dmx_calls.specs.Response.{Response, Again}
-use Rattle.client_core.specs.declared.command.Command.{Command}
-use Rattle.client_core.specs.declared.deed.Deed.TheVariants.{Once}
-use Rattle.client_core.specs.declared.event.Event.{Event}
-use Rattle.client_core.specs.Commands.{stands, Slots, done}
-use Rattle.client_core.specs.Events.{Standing, Ended, Progress, with_ended, slots_after, progress_from, waits_after}
-use Rattle.client_core.specs.Outcomes.{Counters, outcome_by}
-use Rattle.client_core.proofs.GoesOn.{progress_of, waits_not}
-use Rattle.script_run.specs.IsRun.{replies}
-use Rattle.script_run.specs.WholeRun.{IsGiven}
-use Rattle.seats.specs.Spelled.{DoneCommand, calls_in, line_behind, commands_by, outcomes_by}
+use Rattle.seats.proofs.Imports.{◌≡◌, ◌≢◌, ◌⊎◌, ⊎_elim, ℕ, zero, suc, ◌+◌, ◌<◌, ◌≤◌, Bool, false, List, [], ◌∷◌, ◌++◌, length, map, take, Some, None, inl, inr, refl, ap, sym, ◌∙◌, subst, arith, slice_get, map-append, take-append-le, slice_get_within, take-append-add, Outcome, OutcomeKind, LogEntry, Response, Again, Command, Once, Event, stands, Slots, done, Standing, Ended, Progress, with_ended, slots_after, progress_from, waits_after, Counters, outcome_by, progress_of, waits_not, replies, IsGiven, DoneCommand, calls_in, line_behind, commands_by, outcomes_by}
 use Rattle.seats.proofs.DoneCommands.{IsDone, IsEventOf}
 
 -- each of these was done

@@ -1,12 +1,6 @@
 -- What a request asks for is in the range of a client's requests, and passes no packets.
-use Rattle.std.proofs.Common.{ℕ}
-use Rattle.dmx_calls.specs.Log.{act_of}
-use Rattle.client_script.specs.declared.line.Want.{Want}
+use Rattle.seats.proofs.Imports.{ℕ, act_of, Want, IsRequestInRange, own_call, Own, IsWantInRange, PassesNone}
 use Rattle.client_script.specs.declared.line.Want.TheVariants as want
-use Rattle.client_core.specs.Commands.{IsRequestInRange, own_call}
-use Rattle.client_core.specs.declared.event.Request.TheVariants.{Own}
-use Rattle.seats.specs.Asks.{IsWantInRange}
-use Rattle.seats.specs.Calls.{PassesNone}
 
 pub in_range : (w : Want) → IsWantInRange w → IsRequestInRange (Own w)
 in_range want.Open r = tt

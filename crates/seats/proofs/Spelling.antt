@@ -1,42 +1,8 @@
 -- What was answered on a line is what the commands that it spells do.
-use Rattle.std.proofs.Common.{◌≡◌, ℕ, zero, suc, ◌+◌, ◌≤◌, Bool, true, false, eq-eqb, ne_eqb, List, [], ◌∷◌, ◌++◌, length, map, take, Option, Some, None, IsTrue, All, inl, inr, refl, ap, sym, ◌∙◌, subst, arith}
-use Rattle.std.specs.Prelude.{slice_get, option_map, if◌then◌else◌}
-use Rattle.std.specs.List.{flat_map}
-use Rattle.std.proofs.lemmas.List.{append-nil, map-append}
-use Rattle.std.proofs.lemmas.List.Concat.{flat_map-append}
-use Rattle.std.proofs.lemmas.Option.{slice_get_within}
-use mathlib.Core.Logic.{dite}
-use native.Mathlib.Decide.{ℕ_discrete}
-use Rattle.lemmas.proofs.Lists.{all_front, all_behind, at_place}
-use Rattle.dmx_calls.specs.declared.limits.TheConstants.{DEMUX_NODES}
-use Rattle.dmx_calls.specs.declared.log.Act.TheVariants.{Close as CloseAct}
-use Rattle.dmx_calls.specs.declared.outcome.OutcomeKind.{OutcomeKind}
-use Rattle.dmx_calls.specs.declared.outcome.OutcomeKind.TheVariants.{Done as WasDone, Emfile as WasEmfile}
-use Rattle.dmx_calls.specs.declared.reply.Tap.TheVariants.{Keep as KeepTap, Attach as AttachTap, Detach as DetachTap}
-use Rattle.dmx_calls.specs.Log.{LogEntry, act_of}
-use Rattle.dmx_calls.specs.Response.{Response, TapChange, Done, Busy, Refused, NoMemory, Data, Again, Overflow, TimedOut, Ready, Passed}
-use Rattle.client_script.specs.Script.{Scripted}
-use Rattle.client_script.specs.declared.line.Target.{Target}
-use Rattle.client_script.specs.declared.line.Target.TheVariants.{Slot}
-use Rattle.client_script.specs.declared.line.Want.{Want}
-use Rattle.client_script.specs.declared.line.Want.TheVariants.{Open, Close}
-use Rattle.client_core.specs.declared.command.Command.{Command}
-use Rattle.client_core.specs.declared.task.Ending.TheVariants.{AllBusy}
-use Rattle.client_core.specs.Commands.{commands_of, own_call, plays_of}
-use Rattle.client_core.specs.Events.{Standing, Ended, Progress, progress, progress_from, no_slots, next_event, waits_on, waits_after}
-use Rattle.client_core.specs.Outcomes.{outcome_by, counters_after}
-use Rattle.client_core.proofs.GoesOn.{last_counts}
-use Rattle.script_run.specs.IsRun.{IsEvent, replies}
-use Rattle.script_run.specs.WholeRun.{IsGiven}
-use Rattle.seats.specs.Asks.{ask_of}
-use Rattle.seats.specs.declared.serve_frames.ask.Ask.{Ask}
-use Rattle.seats.specs.declared.serve_frames.ask.Ask.TheVariants.{OpenDemux, Call, Leave, Refused as RefusedAsk}
-use Rattle.seats.specs.declared.serve_frames.tell.Tell.{Tell}
-use Rattle.seats.specs.Answered.{act_by_tap, act_behind, IsBehind, IsCommand, AreBusy, IsClosing, AreClosings, IsOpened, IsAnsweredBy, IsAnswered}
-use Rattle.seats.specs.Seated.{AreOnNodes}
-use Rattle.seats.specs.Scripts.{IsPlayed, LinesArePlayed}
-use Rattle.seats.specs.Spelled.{DoneCommand, done_command, calls_in, target_of, done_command_by, opened_kind, is_close, Closings, closings, with_call, commands_done_by, commands_by, outcomes_by}
-use Rattle.seats.specs.Turns.{Turn, IsTurn, calls_of, spelled}
+use Rattle.seats.proofs.Imports.{◌≡◌, ℕ, zero, suc, ◌+◌, ◌≤◌, Bool, true, false, eq-eqb, ne_eqb, List, [], ◌∷◌, ◌++◌, length, map, take, Option, Some, None, IsTrue, All, inl, inr, refl, ap, sym, ◌∙◌, subst, arith, slice_get, option_map, if◌then◌else◌, flat_map, append-nil, map-append, flat_map-append, slice_get_within, dite, ℕ_discrete, all_front, all_behind, DEMUX_NODES, CloseAct, OutcomeKind, WasDone, WasEmfile, KeepTap, AttachTap, DetachTap, LogEntry, act_of, Response, TapChange, Done, Busy, Refused, NoMemory, Data, Again, Overflow, TimedOut, Ready, Passed, Scripted, Target, Slot, Want, Open, Close, Command, AllBusy, commands_of, own_call, plays_of, Standing, Ended, Progress, progress_from, no_slots, next_event, waits_on, waits_after, outcome_by, counters_after, last_counts, IsEvent, replies, IsGiven, ask_of, Ask, OpenDemux, Call, Leave, RefusedAsk, Tell, act_by_tap, act_behind, IsBehind, IsCommand, AreBusy, IsClosing, AreClosings, IsOpened, IsAnsweredBy, IsAnswered, AreOnNodes, IsPlayed, LinesArePlayed, DoneCommand, done_command, calls_in, target_of, done_command_by, opened_kind, is_close, Closings, closings, commands_done_by, commands_by, outcomes_by, Turn, IsTurn, calls_of, spelled}
+use Rattle.lemmas.proofs.Lists.{at_place}
+use Rattle.client_core.specs.Events.{progress}
+use Rattle.seats.specs.Spelled.{with_call}
 use Rattle.seats.proofs.DoneCommands.{IsDone, AreBusyFrom, command_done, given_call, replied_opened, fits_free, fits_full, kind_busy, kind_free}
 use Rattle.seats.proofs.Progress.{AreDone, done_both, outcomes_are, Stands, stands_before}
 

@@ -1,26 +1,5 @@
 -- The turns of a line.
-use Rattle.std.proofs.Common.{◌≡◌, ◌+◌, ℕ, Bool, true, false, List, [], ◌∷◌, ◌++◌, length, map, IsTrue, refl, ap, sym, ◌∙◌, subst, arith, length-append}
-use Rattle.std.proofs.lemmas.List.{append-nil, append_assoc}
-use Rattle.std.proofs.lemmas.List.Concat.{flat_map-append}
-use Rattle.emu_io.specs.Ends.{SourceEnd, SinkEnd}
-use Rattle.dmx_calls.specs.declared.limits.TheConstants.{DEMUX_NODES}
-use Rattle.dmx_calls.specs.Log.{LogEntry}
-use Rattle.seats.specs.Asks.{ask_of}
-use Rattle.seats.specs.declared.serve_frames.ask.Ask.{Ask}
-use Rattle.seats.specs.declared.serve_frames.numbers.TheConstants.{REQUEST_LEN}
-use Rattle.seats.specs.declared.serve_frames.tell.Tell.{Tell}
-use Rattle.seats.specs.declared.seat.Seat.{Seat}
-use Rattle.seats.specs.Answered.{AreClosings, IsAnswered}
-use Rattle.dmx_calls.specs.declared.outcome.Outcome.{Outcome}
-use Rattle.adapter.specs.Callers.{Caller}
-use Rattle.seats.specs.Calls.{MakesCalls}
-use Rattle.seats.specs.Doing.{Does, HasAnswered, HasGone, KeepsClosed}
-use Rattle.seats.specs.Holding.{AreMarked, CloseHeld}
-use Rattle.seats.specs.Line.{Takes, RunsOut, Writes, BreaksOff}
-use Rattle.seats.specs.Seated.{log_of, told_made, GoesOn}
-use Rattle.seats.specs.Told.{reply_bytes}
-use Rattle.seats.specs.Spelled.{DoneCommand, calls_in, closings, commands_done_by, AreKept}
-use Rattle.seats.specs.Turns.{Turn, IsTurn, calls_of, spelled_by, MakesTurns, MakesTurn, MakesLast, IsAsked, IsTold, IsCutOff, AreTold, IsLast, HasTurned, HasAnsweredAll}
+use Rattle.seats.proofs.Imports.{◌≡◌, ◌+◌, ℕ, Bool, true, false, List, [], ◌∷◌, ◌++◌, length, map, IsTrue, refl, ap, sym, ◌∙◌, subst, arith, length-append, append-nil, append_assoc, flat_map-append, SourceEnd, SinkEnd, DEMUX_NODES, LogEntry, ask_of, Ask, REQUEST_LEN, Tell, Seat, AreClosings, IsAnswered, Outcome, Caller, MakesCalls, Does, HasAnswered, HasGone, KeepsClosed, AreMarked, CloseHeld, Takes, RunsOut, Writes, BreaksOff, log_of, told_made, GoesOn, reply_bytes, DoneCommand, calls_in, closings, commands_done_by, AreKept, Turn, IsTurn, calls_of, spelled_by, MakesTurns, MakesTurn, MakesLast, IsAsked, IsTold, IsCutOff, AreTold, IsLast, HasTurned, HasAnsweredAll}
 use Rattle.seats.proofs.Doing.{log_more}
 use Rattle.seats.proofs.Keeping.{the_calls, kept_none, kept_trans}
 use Rattle.seats.proofs.Spelling.{answered_calls}

@@ -1,12 +1,8 @@
 -- Reads and writes of a line, one behind another.
-use Rattle.std.proofs.Common.{◌≡◌, ◌+◌, ◌<◌, ◌≤◌, inl, inr, ℕ, Bool, true, false, List, [], ◌∷◌, ◌++◌, length, take, drop, Result, Ok, Err, is_ok, OnOk, OnErr, refl, ap, sym, ◌∙◌, subst, arith, length-append, length-drop, append_assoc, take-append-drop}
-use Rattle.std.proofs.lemmas.List.{length-take-le}
-use Rattle.std.proofs.KnownBytes.{Appends-trans, Appends-kept, Consumes-kept, Consumes-trans}
+use Rattle.seats.proofs.Imports.{◌≡◌, ◌+◌, ◌<◌, ◌≤◌, inl, inr, ℕ, Bool, true, false, List, [], ◌∷◌, ◌++◌, length, take, drop, Result, Ok, Err, is_ok, OnOk, OnErr, refl, ap, sym, ◌∙◌, subst, arith, length-append, take-append-drop, length-take-le, Appends-trans, Appends-kept, Consumes-kept, Consumes-trans, Appends, Consumes, IsAtEnd, raised, SourceEnd, SinkEnd, Takes, HasStopped, RunsOut, Writes, BreaksOff}
+use Rattle.std.proofs.Common.{length-drop, append_assoc}
 use Rattle.std.specs.Prelude.{Option, Some, None}
-use Rattle.std.specs.Io.KnownBytes.{Appends, Consumes, Keeps, IsAtEnd}
-use Rattle.emu_io.specs.Causes.{raised}
-use Rattle.emu_io.specs.Ends.{SourceEnd, SinkEnd}
-use Rattle.seats.specs.Line.{Takes, HasStopped, RunsOut, Writes, BreaksOff}
+use Rattle.std.specs.Io.KnownBytes.{Keeps}
 
 -- ------ reads
 

@@ -1,8 +1,5 @@
 -- Eight bits at once.
-use Rattle.std.proofs.Common.{◌≡◌, ℕ, zero, suc, ◌+◌, ◌*◌, ◌/◌, ◌%◌, ◌^◌, ◌<◌, fold, refl, sym, ap, ◌∙◌, arith, bit_xor}
-use Rattle.std.specs.Int.Bits.{xor_zero_l, xor_zero_r}
-use Rattle.std.proofs.lemmas.Nat.{xor_lt, xor_block}
-use Rattle.section_crc.specs.Crc.{after_bit, bits_of, bit_at}
+use Rattle.section_crc.proofs.Imports.{◌≡◌, ℕ, zero, suc, ◌+◌, ◌*◌, ◌/◌, ◌%◌, ◌^◌, ◌<◌, fold, refl, sym, ap, ◌∙◌, arith, bit_xor, xor_zero_l, xor_zero_r, xor_lt, xor_block, after_bit, bits_of, bit_at}
 use Rattle.section_crc.proofs.Linear.{shifted, shift_low, shifted-xor, after_bit-lt, step-sum}
 
 -- n bits of 0

@@ -1,9 +1,7 @@
 -- Each entry of the eight tables is as its rule says: the checker works them all out.
-use Rattle.std.proofs.Common.{◌≡◌, ℕ, zero, suc, ◌+◌, ◌<◌, List, [], ◌∷◌, fold, length, refl, ap, ◌∙◌, arith, slice_index, zero-add}
-use Rattle.section_crc.specs.Crc.{after_bit, bits_of}
-use Rattle.section_crc.specs.Inside.Tables.{entry_of, IsRow, AreRows}
+use Rattle.section_crc.proofs.Imports.{◌≡◌, ℕ, zero, suc, ◌+◌, ◌<◌, List, [], ◌∷◌, fold, length, refl, ap, ◌∙◌, arith, slice_index, zero-add, bits_of, entry_of, IsRow, AreRows, ROWS, ROW_0, ROW_1, ROW_2, ROW_3, ROW_4, ROW_5, ROW_6, ROW_7}
+use Rattle.section_crc.specs.Crc.{after_bit}
 use Rattle.section_crc.proofs.Zeros.{entry-more}
-use Rattle.section_crc.specs.declared.rows.TheConstants.{ROWS, ROW_0, ROW_1, ROW_2, ROW_3, ROW_4, ROW_5, ROW_6, ROW_7}
 
 -- the entries of count bytes from the byte on, with no byte of 0
 entries : (byte count : ℕ) → List ℕ

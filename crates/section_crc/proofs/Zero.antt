@@ -1,9 +1,6 @@
 -- A CRC behind its own bytes leaves a register of 0.
-use Rattle.std.proofs.Common.{◌≡◌, ℕ, ◌*◌, ◌/◌, ◌%◌, ◌^◌, ◌<◌, List, fold, refl, sym, ap, ◌∙◌, arith, bit_xor}
-use Rattle.std.specs.Int.Bits.{xor_zero_l, xor_self}
-use Rattle.std.specs.List.{flat_map}
-use Rattle.std.proofs.lemmas.Grind.{flat_map-append, fold-append}
-use Rattle.section_crc.specs.Crc.{crc, after_bit, bits_of, carried, WithItsCrcIsZero}
+use Rattle.section_crc.proofs.Imports.{◌≡◌, ℕ, ◌*◌, ◌/◌, ◌%◌, ◌^◌, ◌<◌, List, fold, refl, sym, ap, ◌∙◌, arith, bit_xor, xor_zero_l, xor_self, flat_map, flat_map-append, fold-append, bits_of, carried, WithItsCrcIsZero}
+use Rattle.section_crc.specs.Crc.{crc, after_bit}
 use Rattle.section_crc.proofs.Linear.{fold-lt}
 use Rattle.section_crc.proofs.Bits.{entry, byte-by-entry}
 

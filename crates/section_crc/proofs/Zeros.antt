@@ -1,12 +1,5 @@
 -- Bytes of 0, and several bytes at once.
-use Rattle.std.proofs.Common.{◌≡◌, ℕ, zero, suc, ◌+◌, ◌*◌, ◌/◌, ◌%◌, ◌^◌, ◌<◌, List, [], ◌∷◌, fold, replicate, length, take, drop, slice_index, refl, sym, ap, ◌∙◌, arith, bit_xor}
-use Rattle.std.specs.List.{flat_map}
-use Rattle.std.specs.Int.Bits.{xor_assoc, xor_zero_l, xor_zero_r}
-use Rattle.std.proofs.lemmas.Nat.{xor_lt}
-use Rattle.std.proofs.lemmas.List.{take_more, take-append-drop}
-use Rattle.std.proofs.lemmas.Grind.{flat_map-append, fold-append}
-use Rattle.section_crc.specs.Crc.{after_bit, bits_of}
-use Rattle.section_crc.specs.Inside.Tables.{entry_of}
+use Rattle.section_crc.proofs.Imports.{◌≡◌, ℕ, zero, suc, ◌+◌, ◌*◌, ◌/◌, ◌%◌, ◌^◌, ◌<◌, List, [], ◌∷◌, fold, replicate, length, take, drop, slice_index, refl, sym, ap, ◌∙◌, arith, bit_xor, flat_map, xor_assoc, xor_zero_l, xor_zero_r, xor_lt, take_more, take-append-drop, flat_map-append, fold-append, after_bit, bits_of, entry_of}
 use Rattle.section_crc.proofs.Bits.{shifted_by, shifted_by-lt, shifted_by-xor, shifted_by-low, eight-bits, split-sum, top-xor}
 
 -- the register after so many bytes of 0

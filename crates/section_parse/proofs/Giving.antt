@@ -1,12 +1,5 @@
 -- What giving a section leaves.
-use Rattle.std.specs.Prelude.{slice_get}
-use Rattle.std.proofs.Common.{◌≡◌, ℕ, ◌+◌, true, List, [], ◌∷◌, ◌++◌, length, take, drop, Option, Some, None, refl, sym, ◌∙◌, arith}
-use Rattle.std.proofs.lemmas.List.{append-nil}
-use Rattle.std.proofs.lemmas.List.Sums.{sum_by-cons}
-use Rattle.lemmas.proofs.Lists.{not_all}
-use Rattle.section_parse.specs.Sections.{section_length, read_sections, sections, IsSection}
-use Rattle.section_parse.specs.Inside.Keeping.{Assembly, Assembled, without_first, sections_of_open, left_of_open, bytes_kept}
-use Rattle.section_parse.specs.Inside.Held.{Advances, is_drained}
+use Rattle.section_parse.proofs.Imports.{slice_get, ◌≡◌, ℕ, ◌+◌, true, List, [], ◌∷◌, ◌++◌, length, take, drop, Option, Some, None, refl, sym, ◌∙◌, arith, append-nil, sum_by-cons, not_all, section_length, read_sections, sections, IsSection, Assembly, Assembled, without_first, sections_of_open, left_of_open, bytes_kept, Advances, is_drained}
 use Rattle.section_parse.proofs.Reading.{read-first, left-first, first-is, open-drained}
 use Rattle.section_parse.proofs.Assembled.{Assembled-next}
 

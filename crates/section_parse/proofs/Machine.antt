@@ -1,11 +1,6 @@
 -- The sections of runs, packet by packet.
-use Rattle.std.proofs.Common.{◌≡◌, ℕ, Bool, true, false, List, [], ◌∷◌, ◌++◌, Option, Some, None, refl, sym, ap, ◌∙◌, append_assoc, ◌&&◌}
-use Rattle.std.proofs.lemmas.List.{append-nil}
-use Rattle.ts_packet.specs.Fields.{unit_start}
-use Rattle.ts_packet.specs.Clean.{carried, joins}
-use Rattle.section_parse.specs.Segments.{in_front, pointed, is_pointed, rest_of_segment, segments}
-use Rattle.section_parse.specs.Sections.{sections_of_run}
-use Rattle.section_parse.specs.Inside.Keeping.{sections_of_open, longer, opened, sections_of_runs, sections_behind}
+use Rattle.section_parse.proofs.Imports.{◌≡◌, ℕ, Bool, true, false, List, [], ◌∷◌, ◌++◌, Option, Some, None, refl, sym, ap, ◌∙◌, append_assoc, ◌&&◌, append-nil, unit_start, carried, joins, in_front, pointed, is_pointed, sections_of_run, sections_of_open, longer, opened, sections_of_runs, sections_behind}
+use Rattle.section_parse.specs.Segments.{rest_of_segment, segments}
 
 longer-append : (o : Option (List ℕ)) (xs ys : List ℕ) → longer o (xs ++ ys) ≡ longer (longer o xs) ys
 longer-append None xs ys = refl

@@ -1,18 +1,5 @@
 -- A segment's bytes in two pieces: those that it has of its own, and those in the last packet.
-use Rattle.std.specs.Prelude.{min}
-use Rattle.std.proofs.Common.{◌≡◌, ◌≢◌, ◌⊎◌, inl, inr, ℕ, ◌+◌, ◌-◌, ◌<◌, ◌≤◌, Bool, true, false, List, [], ◌++◌, length, take, drop, get_or, Option, Some, None, refl, sym, ap, ◌∙◌, arith, append_assoc, length-append, length-drop}
-use Rattle.std.proofs.lemmas.List.{append-nil, drop-take, take-append-drop, take-take, drop-drop, take_all, length-take, get_or_append_left}
-use Rattle.std.proofs.Math.Seq.{drop-append_seam, take-append_seam}
-use Rattle.std.proofs.lemmas.Bool.{cases_lt}
-use Rattle.std.proofs.lemmas.Bool.Decides.{nat_tests}
-use Rattle.section_parse.specs.Sections.{section_length, has_section}
-use Rattle.std.specs.Option.{option_map}
-use Rattle.std.specs.Prelude.{IfSome, MatchOption}
-use Rattle.ts_packet.specs.Fields.{payload_start}
-use Rattle.ts_packet.specs.Clean.{carried}
-use Rattle.section_parse.specs.Segments.{pointed}
-use Rattle.section_parse.specs.Inside.Keeping.{Assembly, is_stopped, sections_of_open, left_of_open, longer, opened, taken}
-use Rattle.section_parse.specs.Inside.Held.{Held, unread, between, Advances}
+use Rattle.section_parse.proofs.Imports.{min, ◌≡◌, ◌≢◌, ◌⊎◌, inl, inr, ℕ, ◌+◌, ◌-◌, ◌<◌, ◌≤◌, Bool, true, false, List, [], ◌++◌, length, take, drop, get_or, Option, Some, None, refl, sym, ap, ◌∙◌, arith, append_assoc, length-append, length-drop, append-nil, drop-take, take-append-drop, take-take, drop-drop, take_all, length-take, get_or_append_left, drop-append_seam, take-append_seam, cases_lt, nat_tests, section_length, has_section, option_map, IfSome, MatchOption, payload_start, carried, pointed, Assembly, is_stopped, sections_of_open, left_of_open, longer, opened, taken, Held, unread, between, Advances}
 use Rattle.section_parse.proofs.Reading.{HasSection-from, has_section-from, section_length-append, stopped-none}
 
 -- the bytes between two places, cut

@@ -1,13 +1,8 @@
 -- What a packet does to what is kept, and what giving a section does.
-use Rattle.std.specs.Prelude.{if◌then◌else◌}
-use Rattle.std.proofs.Common.{◌≡◌, ℕ, Bool, true, false, List, [], ◌∷◌, ◌++◌, Option, Some, None, refl, sym, append_assoc, ◌||◌, not}
-use Rattle.std.proofs.lemmas.List.{append-nil}
-use Rattle.std.specs.List.{filter}
-use Rattle.ts_packet.specs.Fields.{unit_start}
-use Rattle.ts_packet.specs.Clean.{carried, is_usable, repeats, without_repeats_after, joins}
-use Rattle.ts_packet.proofs.CleanLemmas.{without-repeat}
-use Rattle.section_parse.specs.Segments.{runs, pointed, rest_of_segment}
-use Rattle.section_parse.specs.Inside.Keeping.{Assembly, sections_of_open, left_of_open, longer, opened, repeats_last, joins_last, taken, after_packet, sections_of_runs, sections_behind, sections_to_come}
+use Rattle.section_parse.proofs.Imports.{if◌then◌else◌, ◌≡◌, ℕ, Bool, true, false, List, [], ◌∷◌, ◌++◌, Option, Some, None, refl, sym, append_assoc, ◌||◌, not, append-nil, filter, unit_start, carried, is_usable, repeats, joins, without-repeat, pointed, rest_of_segment, Assembly, sections_of_open, left_of_open, longer, opened, repeats_last, joins_last, taken, sections_of_runs, sections_behind, sections_to_come}
+use Rattle.ts_packet.specs.Clean.{without_repeats_after}
+use Rattle.section_parse.specs.Segments.{runs}
+use Rattle.section_parse.specs.Inside.Keeping.{after_packet}
 use Rattle.section_parse.proofs.Reading.{open-append, open-left}
 use Rattle.section_parse.proofs.Machine.{sections-front, sections-break, sections-unit, sections-more}
 

@@ -1,17 +1,8 @@
 -- The laws of sections over whole lists of packets.
-use Rattle.std.specs.Prelude.{if◌then◌else◌}
-use Rattle.std.proofs.Common.{◌≡◌, ℕ, ◌+◌, ◌≤◌, Bool, true, false, List, [], ◌∷◌, ◌++◌, length, take, drop, Some, None, refl, sym, ap, ◌∙◌, arith, length-drop, get_or}
-use Rattle.std.proofs.lemmas.List.{append-nil}
-use Rattle.std.proofs.lemmas.Grind.{flat_map-append}
-use Rattle.std.proofs.lemmas.List.Elements.{All-append, All-nil, filter-append}
-use Rattle.std.specs.List.{All, filter, flat_map, fold, last_or}
-use Rattle.ts_packet.specs.Fields.{IsPacket, has_adaptation}
-use Rattle.ts_packet.specs.Clean.{carried, is_usable, without_repeats_after, clean, joins}
-use Rattle.ts_packet.proofs.CleanLemmas.{clean-append, last-clean, clean-apart}
-use Rattle.section_parse.specs.Segments.{in_front, runs, segments}
-use Rattle.section_parse.specs.Sections.{section_length, has_section, read_sections, sections_of_run, sections, IsSection}
-use Rattle.section_parse.specs.Inside.Keeping.{sections_to_come, cleared}
-use Rattle.section_parse.specs.Laws.{SectionsLieEndToEnd, SectionsStay, IsApart, SectionsRecover, SectionsAreWhole, SectionsFitThePackets}
+use Rattle.section_parse.proofs.Imports.{if◌then◌else◌, ◌≡◌, ℕ, ◌+◌, ◌≤◌, Bool, true, false, List, [], ◌∷◌, ◌++◌, length, take, drop, Some, None, refl, sym, ap, ◌∙◌, arith, length-drop, get_or, append-nil, flat_map-append, All-append, All-nil, filter-append, All, filter, flat_map, fold, last_or, IsPacket, has_adaptation, carried, is_usable, joins, clean-append, last-clean, clean-apart, in_front, segments, section_length, has_section, sections_of_run, IsSection, sections_to_come, cleared, SectionsLieEndToEnd, SectionsStay, IsApart, SectionsRecover, SectionsAreWhole, SectionsFitThePackets}
+use Rattle.ts_packet.specs.Clean.{without_repeats_after, clean}
+use Rattle.section_parse.specs.Segments.{runs}
+use Rattle.section_parse.specs.Sections.{read_sections, sections}
 use Rattle.section_parse.proofs.Reading.{read-first, read-none, each-is}
 use Rattle.section_parse.proofs.Assembled.{AreFew, next_kept, keeps-all}
 

@@ -1,22 +1,9 @@
 -- Which calls leave the packets of a node and its end as they were.
-use Rattle.std.proofs.Common.{◌≡◌, refl, ap, ◌∙◌, ℕ, Bool, true, false, [], ◌∷◌, Option, Some, None}
-use Rattle.std.specs.Prelude.{◌||◌}
+use Rattle.serial_core.proofs.Imports.{◌≡◌, refl, ap, ◌∙◌, ℕ, Bool, true, false, [], ◌∷◌, Option, Some, None, ◌||◌, Invocation, Response, Passed, is_accepted, History, event, entry_of, is_end, has_ended, Rules, has_ended_refused, has_ended_after, Request, Own, Batches, batch_at, Packets, Open, call_of, pass_of, from_frontend}
 use Rattle.dmx_calls.specs.Invocation as call
-use Rattle.dmx_calls.specs.Invocation.{Invocation}
-use Rattle.dmx_calls.specs.Response.{Response, Passed, is_accepted}
-use Rattle.dmx_calls.specs.History.{History, event, entry_of}
-use Rattle.dmx_calls.specs.Tenure.{is_end, has_ended}
-use Rattle.dmx_calls.specs.Rules.{Rules}
 use Rattle.dmx_calls.specs.Facts.{facts}
 use Rattle.dmx_calls.specs.Answer.{answer}
-use Rattle.dmx_calls.proofs.Going.{has_ended_refused, has_ended_after}
-use Rattle.client_core.specs.declared.event.Request.{Request}
-use Rattle.client_core.specs.declared.event.Request.TheVariants.{Own, Pass}
-use Rattle.client_core.specs.Deeds.{Batches, batch_at}
-use Rattle.ts_batch.specs.Batch.{Packets}
-use Rattle.client_script.specs.declared.line.Want.TheVariants.{Open}
-use Rattle.client_core.specs.Commands.{call_of, pass_of}
-use Rattle.serial_core.specs.Inside.Legal.{from_frontend}
+use Rattle.client_core.specs.declared.event.Request.TheVariants.{Pass}
 
 -- ------ calls of the feeder and of clients
 

@@ -1,10 +1,7 @@
 -- The feeder's turns, one after another, make up what a line asks for.
-use Rattle.std.proofs.Common.{◌≡◌, refl, sym, ap, ◌∙◌, ℕ, suc, ◌+◌, ◌-◌, ◌/◌, ◌%◌, ◌<◌, ◌≤◌, ◌==◌, min, Bool, true, false, ◌∷◌, length, nat_lt, nat_eq, if◌then◌else◌, length-drop, arith, inl, inr}
-use Rattle.std.proofs.lemmas.Bool.{cases_lt}
-use Rattle.std.proofs.lemmas.Bool.Decides.{nat_tests}
+use Rattle.serial_core.proofs.Imports.{◌≡◌, refl, sym, ap, ◌∙◌, ℕ, suc, ◌+◌, ◌-◌, ◌/◌, ◌%◌, ◌<◌, ◌≤◌, ◌==◌, min, Bool, true, false, ◌∷◌, length, nat_lt, nat_eq, length-drop, arith, inl, inr, cases_lt, nat_tests, div-eq_of_lt, mod-eq_of_lt, add-div_right, add-mod_right, Run, passed, batch_sizes, all_passed, ended, fed, turned, finished}
+use Rattle.std.proofs.Common.{if◌then◌else◌}
 use Rattle.std.proofs.Math.Numerals.{add-one}
-use Rattle.std.proofs.Math.Nat.{div-eq_of_lt, mod-eq_of_lt, add-div_right, add-mod_right}
-use Rattle.serial_core.specs.SerialRun.{Run, passed, batch_sizes, all_passed, ended, fed, turned, finished}
 
 -- ------ batches
 

@@ -1,36 +1,7 @@
 -- Wherever the serial run of a script has come: its nodes, its feeder and its clients.
-use Rattle.std.proofs.Common.{◌≡◌, ◌≢◌, refl, sym, ap, subst, ◌∙◌, ℕ, ◌+◌, ◌<◌, ◌≤◌, Bool, true, false, nat_eq, List, [], ◌∷◌, ◌++◌, Option, Some, None, length, length-append, take, drop, min, ◌⊎◌, inl, inr, arith, length-take-le, length-drop}
-use Rattle.std.specs.Prelude.{IsSome, is_some, if◌then◌else◌, slice_get, slice_index_or}
-use Rattle.std.specs.List.{All}
-use Rattle.std.proofs.lemmas.Bool.Decides.{nat_tests}
-use Rattle.std.proofs.lemmas.List.{length-map, length-set, get_or-set_same, get_or-set_other, drop-drop}
-use Rattle.std.proofs.lemmas.List.Elements.{All-nil}
-use Rattle.std.proofs.lemmas.List.FromFn.{get_or-map-range_with_len}
-use Rattle.lemmas.proofs.Lists.{at_last}
-use Rattle.dmx_calls.specs.declared.limits.TheConstants.{DEMUX_NODES}
-use Rattle.dmx_calls.specs.declared.params.Input.TheVariants.{Frontend}
+use Rattle.serial_core.proofs.Imports.{◌≡◌, ◌≢◌, refl, sym, ap, subst, ◌∙◌, ℕ, ◌+◌, ◌<◌, ◌≤◌, Bool, true, false, nat_eq, List, [], ◌∷◌, ◌++◌, Option, Some, None, length, length-append, take, drop, min, ◌⊎◌, inl, inr, arith, length-take-le, length-drop, IsSome, is_some, if◌then◌else◌, slice_get, slice_index_or, All, nat_tests, length-map, length-set, get_or-set_same, get_or-set_other, drop-drop, All-nil, get_or-map-range_with_len, at_last, DEMUX_NODES, Frontend, Invocation, Response, Again, is_accepted, entry_of, rules_at, PassAct, IsFrom, LogEntry, act_of, IsInRange, Scripted, Event, Batches, call_of, plays_of, Standing, progress, next_event, waits_after, waits_on, sources, steps_of, last_counts, next_is_numbered, same_some, from_client, Node, uncalled, history_of, answer_by, answered, Run, begun, fed_to_all, passed, ended, turned, ticked, node_at, replies_of, reply_to, called, after_waiting, IsSerialRun, IsMoment}
 use Rattle.dmx_calls.specs.Invocation as call
-use Rattle.dmx_calls.specs.Invocation.{Invocation}
-use Rattle.dmx_calls.specs.Response.{Response, Again, is_accepted}
-use Rattle.dmx_calls.specs.History.{entry_of}
 use Rattle.dmx_calls.specs.Tenure.{has_ended}
-use Rattle.dmx_calls.specs.Rules.{rules_at}
-use Rattle.dmx_calls.specs.declared.log.Act.TheVariants.{Pass as PassAct}
-use Rattle.dmx_calls.specs.Log.{IsFrom, LogEntry, act_of}
-use Rattle.client_script.specs.Grammar.{IsInRange}
-use Rattle.client_script.specs.Script.{Scripted}
-use Rattle.client_core.specs.declared.event.Event.{Event}
-use Rattle.client_core.specs.Deeds.{Batches}
-use Rattle.client_core.specs.Commands.{call_of, plays_of}
-use Rattle.client_core.specs.Events.{Standing, progress, next_event, waits_after, waits_on}
-use Rattle.script_run.specs.IsRun.{sources, steps_of}
-use Rattle.client_core.proofs.GoesOn.{last_counts}
-use Rattle.client_core.proofs.Numbering.{next_is_numbered}
-use Rattle.lemmas.proofs.Options.{same_some}
-use Rattle.script_run.proofs.Events.{from_client}
-use Rattle.serial_core.specs.Nodes.{Node, uncalled, history_of, answer_by, answered}
-use Rattle.serial_core.specs.SerialRun.{Run, begun, fed_to_all, passed, ended, turned, ticked, node_at, replies_of, reply_to, called, after_waiting, IsSerialRun}
-use Rattle.serial_core.specs.Budget.{IsMoment}
 use Rattle.serial_core.proofs.Answering.{end_answer, end_stays, ends, no_end}
 use Rattle.serial_core.proofs.Logs.{fed_at, called_at, IsCalledAt, entries_of, entries_at, entry_for, entries_answered}
 use Rattle.serial_core.proofs.Sound.{IsSound, answer_open, sound_answered}

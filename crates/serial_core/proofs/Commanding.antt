@@ -1,21 +1,6 @@
 -- How the calls of a command bring the run further.
-use Rattle.std.proofs.Common.{◌≡◌, refl, sym, ap, subst, ◌∙◌, ℕ, ◌<◌, ◌≤◌, Bool, true, false, [], ◌∷◌, ◌++◌, Option, Some, None, length, if◌then◌else◌, arith}
-use Rattle.std.specs.Prelude.{is_some, slice_index_or}
-use Rattle.std.proofs.lemmas.List.{get_or-set_same, get_or-set_other, length-set}
-use Rattle.emu_io.specs.Ends.{SourceEnd}
-use Rattle.client_script.specs.Script.{Scripted}
-use Rattle.client_core.specs.declared.event.Event.{Event}
-use Rattle.client_core.specs.Deeds.{Batches}
-use Rattle.client_core.specs.Commands.{plays_of}
-use Rattle.client_core.specs.Inside.Core.{Core, IsAfter}
-use Rattle.client_core.specs.Events.{next_of_line, waits_on}
-use Rattle.serial_core.specs.declared.nodes.Nodes.{Nodes}
-use Rattle.serial_core.specs.declared.runner.Runner.{Runner}
-use Rattle.serial_core.specs.SerialRun.{Run, replies_of, called, made, reply_to, after_waiting, turned, calls}
-use Rattle.serial_core.specs.Budget.{no_call}
-use Rattle.serial_core.specs.Inside.Standing.{AreCounted, IsNodes}
-use Rattle.serial_core.specs.Inside.Moving.{one_if, IsSound, Moves, ComesByCalls}
-use Rattle.feed_pull.proofs.Drawing.{draws_none}
+use Rattle.serial_core.proofs.Imports.{◌≡◌, refl, sym, ap, subst, ◌∙◌, ℕ, ◌<◌, ◌≤◌, Bool, true, false, [], ◌∷◌, ◌++◌, Option, Some, None, length, arith, is_some, slice_index_or, get_or-set_same, get_or-set_other, length-set, SourceEnd, Scripted, Event, Batches, plays_of, Core, IsAfter, next_of_line, waits_on, Nodes, Runner, Run, replies_of, called, made, reply_to, after_waiting, turned, calls, no_call, AreCounted, IsNodes, one_if, IsSound, Moves, ComesByCalls, draws_none}
+use Rattle.std.proofs.Common.{if◌then◌else◌}
 use Rattle.serial_core.proofs.Keeping.{begun_on, waiting_replies}
 
 -- ------ one call

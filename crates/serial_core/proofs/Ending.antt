@@ -1,40 +1,7 @@
 -- What a run leaves.
-use Rattle.std.proofs.Common.{◌^◌, length-append, Result, Ok, Err, IfOk, ◌≡◌, refl, sym, ap, subst, ◌∙◌, ℕ, suc, ◌+◌, ◌≤◌, ◌<◌, true, List, [], ◌∷◌, ◌++◌, length, map, add-one, append-nil, arith}
-use Rattle.std.specs.Prelude.{All, slice_index_or}
-use Rattle.std.specs.List.{range_with_len}
-use Rattle.std.proofs.lemmas.List.{length-map, get_or-replicate, get_or_append_left}
-use Rattle.ts_packet.specs.Fields.{IsPacket}
-use Rattle.ts_packet.specs.Cut.{cut}
-use Rattle.std.proofs.lemmas.Simd.{map-map}
-use Rattle.std.proofs.lemmas.List.FromFn.{length-range_with_len}
-use Rattle.dmx_calls.specs.declared.limits.TheConstants.{DEMUX_NODES}
-use Rattle.dmx_calls.specs.Calls.{told_entry}
-use Rattle.dmx_calls.specs.declared.log.Act.{Act}
-use Rattle.dmx_calls.specs.Histories.{feeder_acts, histories_of, woven, woven_nodes}
-use Rattle.emu_io.specs.Ends.{SourceEnd}
-use Rattle.client_script.specs.Grammar.{IsInRange}
-use Rattle.client_script.specs.Script.{AreNumbered, Scripted}
-use Rattle.serial_core.specs.declared.seat.Seat.{Seat}
-use Rattle.serial_core.specs.declared.nodes.Nodes.{Nodes}
-use Rattle.client_core.specs.Inside.Core.{Core, IsAfter}
-use Rattle.client_core.specs.Outcomes.{outcomes}
-use Rattle.script_run.specs.Budget.{all_commands, bytes_written, most_calls}
-use Rattle.ts_watch.specs.Head.{told_head, head_of}
-use Rattle.feed_pull.specs.Pulling.{Pulls, IsDone}
-use Rattle.feed_pull.proofs.PullLemmas.{Pulls-done, Pulls-front, Pulls-size}
-use Rattle.serial_core.specs.declared.run.Left.{Left}
-use Rattle.serial_core.specs.declared.runner.Runner.{Runner}
-use Rattle.serial_core.specs.Nodes.{Node, log_of}
-use Rattle.serial_core.specs.SerialRun.{Run, begun, replies_of, IsSerialRun}
-use Rattle.serial_core.specs.Inside.Standing.{Pairs, IsSeat, IsNodes, acts_on, acts_of}
-use Rattle.serial_core.specs.Inside.Legal.{AreLegal}
-use Rattle.serial_core.specs.Inside.Moving.{IsAt, Moves}
-use Rattle.serial_core.specs.Inside.Lines.{AreAfter, IsWholeBy, AllOverrunBy}
-use Rattle.serial_core.specs.Left.{IsLeftBy, IsFreshRunner, AreFreshCores, histories_in}
-use Rattle.feed_pull.specs.Streams.{OfStream}
-use Rattle.feed_pull.proofs.CutPackets.{are_packets}
+use Rattle.serial_core.proofs.Imports.{◌^◌, length-append, Result, Ok, Err, IfOk, ◌≡◌, refl, sym, ap, subst, ◌∙◌, ℕ, suc, ◌+◌, ◌≤◌, ◌<◌, true, List, [], ◌∷◌, ◌++◌, length, map, add-one, append-nil, arith, slice_index_or, range_with_len, length-map, get_or-replicate, get_or_append_left, IsPacket, cut, map-map, length-range_with_len, DEMUX_NODES, told_entry, Act, feeder_acts, histories_of, woven, woven_nodes, SourceEnd, IsInRange, AreNumbered, Scripted, Seat, Nodes, Core, IsAfter, outcomes, all_commands, bytes_written, most_calls, told_head, head_of, Pulls, IsDone, Pulls-done, Pulls-front, Pulls-size, Left, Runner, Node, log_of, Run, begun, replies_of, IsSerialRun, Pairs, IsSeat, IsNodes, acts_on, acts_of, AreLegal, IsAt, Moves, AreAfter, IsWholeBy, AllOverrunBy, IsLeftBy, IsFreshRunner, AreFreshCores, histories_in, OfStream, are_packets, commands_shared}
+use Rattle.std.specs.Prelude.{All}
 use Rattle.serial_core.proofs.Lawful.{serial_legal}
-use Rattle.script_run.proofs.Paying.{commands_shared}
 use Rattle.serial_core.proofs.Runs.{within_budget}
 
 -- ------ histories

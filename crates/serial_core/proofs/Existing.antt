@@ -1,23 +1,5 @@
 -- A script and a stream have a serial run: within the budget of its client each command ends.
-use Rattle.std.proofs.Common.{◌≡◌, refl, ap, ◌∙◌, ℕ, zero, suc, ◌+◌, ◌-◌, ◌*◌, ◌<◌, ◌≤◌, List, [], ◌∷◌, ◌++◌, Option, Some, None, length, arith, length-append}
-use Rattle.std.specs.Prelude.{slice_index_or}
-use Rattle.std.specs.List.{All}
-use Rattle.std.proofs.lemmas.List.{length-set, get_or-set_same}
-use Rattle.std.proofs.lemmas.List.Elements.{All-head, All-tail}
-use Rattle.ts_packet.specs.Fields.{IsPacket}
-use Rattle.client_script.specs.Grammar.{IsInRange}
-use Rattle.client_script.specs.Script.{clients_in, Scripted}
-use Rattle.client_script.specs.declared.line.Line.{Line}
-use Rattle.client_script.specs.declared.line.Line.TheVariants.{Feed, Tick, Command}
-use Rattle.client_core.specs.declared.event.Event.{Event}
-use Rattle.client_core.specs.Commands.{commands_of, plays_of}
-use Rattle.client_core.specs.Events.{next_of_line}
-use Rattle.script_run.specs.Budget.{most_calls}
-use Rattle.script_run.proofs.Counting.{total}
-use Rattle.script_run.proofs.Paying.{plays_by}
-use Rattle.serial_core.specs.SerialRun.{Run, begun, fed, ticked, replies_of, reply_to, called, after_waiting, IsWorked, through, calls, AreDone, finished}
-use Rattle.serial_core.specs.Budget.{IsBegun, no_call, one_call, IsOnTheWay, IsMoment}
-use Rattle.serial_core.specs.Runs.{HaveSerialRuns}
+use Rattle.serial_core.proofs.Imports.{◌≡◌, refl, ap, ◌∙◌, ℕ, zero, suc, ◌+◌, ◌-◌, ◌*◌, ◌<◌, ◌≤◌, List, [], ◌∷◌, ◌++◌, Option, Some, None, length, arith, length-append, slice_index_or, All, length-set, get_or-set_same, All-head, All-tail, IsPacket, IsInRange, clients_in, Scripted, Line, Feed, Tick, Command, Event, commands_of, plays_of, next_of_line, most_calls, total, plays_by, Run, begun, fed, ticked, replies_of, reply_to, called, after_waiting, IsWorked, through, calls, AreDone, finished, IsBegun, no_call, one_call, IsOnTheWay, IsMoment, HaveSerialRuns}
 use Rattle.serial_core.proofs.Keeping.{fed_replies, waiting_replies, way_fed, way_ticked, way_worked, way_begun}
 use Rattle.serial_core.proofs.Runs.{moments_bounded}
 

@@ -1,13 +1,5 @@
 -- The feeder's call on one demux node after the other.
-use Rattle.std.proofs.Common.{◌≡◌, refl, sym, ap, subst, ◌∙◌, ℕ, zero, suc, ◌+◌, ◌-◌, ◌<◌, ◌≤◌, ◌^◌, List, [], ◌∷◌, ◌++◌, length, map, replicate, get_or, set, add-one, arith}
-use Rattle.std.proofs.lemmas.List.{length-replicate, get_or-replicate}
-use Rattle.dmx_calls.specs.declared.limits.TheConstants.{DEMUX_NODES}
-use Rattle.dmx_calls.specs.Invocation.{Invocation}
-use Rattle.dmx_calls.specs.declared.log.Act.{Act}
-use Rattle.dmx_calls.specs.Log.{act_of}
-use Rattle.serial_core.specs.declared.seat.Seat.{Seat}
-use Rattle.serial_core.specs.Nodes.{Node, answered}
-use Rattle.serial_core.specs.Inside.Standing.{Pairs, IsSeat, IsUnder, AreUnder, entries_in}
+use Rattle.serial_core.proofs.Imports.{◌≡◌, refl, sym, ap, subst, ◌∙◌, ℕ, zero, suc, ◌+◌, ◌-◌, ◌<◌, ◌≤◌, ◌^◌, List, [], ◌∷◌, ◌++◌, length, map, replicate, get_or, set, add-one, arith, length-replicate, get_or-replicate, DEMUX_NODES, Invocation, Act, act_of, Seat, Node, answered, Pairs, IsSeat, IsUnder, AreUnder, entries_in}
 use Rattle.serial_core.proofs.Pairs.{map_replicate, same_length}
 
 -- ------ lists of which a front has come to stand in another relation

@@ -1,17 +1,5 @@
 -- All packets pass each node in the same batches, one after another, and then End.
-use Rattle.std.proofs.Common.{◌≡◌, ◌≢◌, refl, sym, ap, ◌∙◌, ℕ, suc, ◌+◌, ◌≤◌, Bool, true, false, nat_eq, List, [], ◌∷◌, ◌++◌, length, map, filter, arith, length-append}
-use Rattle.std.specs.Prelude.{sum}
-use Rattle.std.specs.List.{All}
-use Rattle.std.proofs.lemmas.List.{map-append}
-use Rattle.std.proofs.lemmas.List.Sums.{sum_by-append, sum_by-cons}
-use Rattle.std.proofs.lemmas.List.Elements.{All-nil, All-cons, All-append, filter-append}
-use Rattle.std.proofs.lemmas.Bool.Decides.{nat_tests}
-use Rattle.dmx_calls.specs.declared.params.Input.TheVariants.{Frontend}
-use Rattle.dmx_calls.specs.declared.limits.TheConstants.{DEMUX_NODES}
-use Rattle.dmx_calls.specs.declared.log.Act.TheVariants.{Pass as PassAct, End as EndAct}
-use Rattle.dmx_calls.specs.Log.{LogEntry}
-use Rattle.script_run.specs.IsRun.{Batch, Step, feeding, steps_of}
-use Rattle.serial_core.specs.Inside.Moving.{one_if}
+use Rattle.serial_core.proofs.Imports.{◌≡◌, ◌≢◌, refl, sym, ap, ◌∙◌, ℕ, suc, ◌+◌, ◌≤◌, Bool, true, false, nat_eq, List, [], ◌∷◌, ◌++◌, length, map, filter, arith, length-append, sum, All, map-append, sum_by-append, sum_by-cons, All-nil, All-cons, All-append, filter-append, nat_tests, Frontend, DEMUX_NODES, PassAct, EndAct, LogEntry, Batch, Step, feeding, steps_of, one_if}
 
 -- ------ the feeder's calls in a log
 

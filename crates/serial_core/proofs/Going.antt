@@ -1,12 +1,5 @@
 -- What a call does to the nodes.
-use Rattle.std.proofs.Common.{◌≡◌, refl, sym, ap, subst, ◌∙◌, ℕ, ◌+◌, ◌<◌, ◌≤◌, false, List, [], ◌++◌, length, replicate, take, drop, get_or, set, arith}
-use Rattle.std.proofs.lemmas.List.{length-replicate, get_or-replicate, take-append-le, take_all}
-use Rattle.dmx_calls.specs.declared.limits.TheConstants.{DEMUX_NODES}
-use Rattle.serial_core.specs.declared.seat.Seat.{Seat}
-use Rattle.serial_core.specs.declared.nodes.Nodes.{Nodes}
-use Rattle.serial_core.specs.Nodes.{Node}
-use Rattle.serial_core.specs.SerialRun.{Run, begun}
-use Rattle.serial_core.specs.Inside.Standing.{Pairs, IsSeat, IsNodes, IsUnder, AreUnder, acts_on, entries_in}
+use Rattle.serial_core.proofs.Imports.{◌≡◌, refl, sym, ap, subst, ◌∙◌, ℕ, ◌+◌, ◌<◌, ◌≤◌, false, List, [], ◌++◌, length, replicate, take, drop, get_or, set, arith, length-replicate, get_or-replicate, take-append-le, take_all, DEMUX_NODES, Seat, Nodes, Node, Run, begun, Pairs, IsSeat, IsNodes, IsUnder, AreUnder, acts_on, entries_in}
 use Rattle.serial_core.proofs.Pairs.{pair_at, same_length, same_set, same_weaker}
 
 -- ------ before the first call

@@ -1,28 +1,6 @@
 -- What each step of a serial run keeps, the whole run keeps.
-use Rattle.std.proofs.Common.{◌≡◌, ◌≢◌, ◌⊎◌, inl, inr, refl, sym, ap, subst, ◌∙◌, ℕ, zero, suc, ◌+◌, ◌/◌, ◌%◌, ◌==◌, ◌<◌, ◌≤◌, Bool, true, false, nat_lt, nat_eq, List, [], ◌∷◌, ◌++◌, append-nil, Some, None, length, drop, fold, replicate, min, zero-add, arith, length-drop}
-use Rattle.std.specs.Prelude.{if◌then◌else◌, sum, is_some, slice_index_or}
-use Rattle.std.proofs.lemmas.Bool.Decides.{nat_tests}
-use Rattle.std.proofs.lemmas.List.Sums.{sum_by-append, sum_by-cons}
-use Rattle.std.proofs.lemmas.List.Folds.{sum_by-replicate}
-use Rattle.std.proofs.lemmas.Nat.{div-add-mod'}
+use Rattle.serial_core.proofs.Imports.{◌≡◌, ◌≢◌, ◌⊎◌, inl, inr, refl, sym, ap, subst, ◌∙◌, ℕ, zero, suc, ◌+◌, ◌/◌, ◌%◌, ◌==◌, ◌<◌, ◌≤◌, Bool, true, false, nat_lt, nat_eq, List, [], ◌∷◌, ◌++◌, append-nil, Some, None, length, drop, fold, replicate, min, zero-add, arith, length-drop, if◌then◌else◌, sum, is_some, slice_index_or, nat_tests, sum_by-append, sum_by-cons, sum_by-replicate, div-add-mod', All, All-head, All-tail, clients_of, clients_in, Scripted, Line, Feed, Tick, Command, Target, Verb, get_or-set_other, Event, plays_of, progress, next_event, next_of_line, waits_on, ended_waits_not, before_first, none-some, clients_within, IsBegun, no_call, one_call, AreBegun, IsOnTheWay, IsMoment, Run, begun, fed_to_all, passed, batch_sizes, all_passed, ended, fed, turned, ticked, replies_of, reply_to, called, after_waiting, IsWorked, through, calls, AreDone, IsSerialRun}
 use Rattle.dmx_calls.specs.Invocation as call
-use Rattle.std.specs.List.{All}
-use Rattle.std.proofs.lemmas.List.Elements.{All-head, All-tail}
-use Rattle.client_script.specs.Script.{clients_of, clients_in, Scripted}
-use Rattle.client_script.specs.declared.line.Line.{Line}
-use Rattle.client_script.specs.declared.line.Line.TheVariants.{Feed, Tick, Command}
-use Rattle.client_script.specs.declared.line.Target.{Target}
-use Rattle.client_script.specs.declared.line.Verb.{Verb}
-use Rattle.std.proofs.lemmas.List.{get_or-set_other}
-use Rattle.client_core.specs.declared.event.Event.{Event}
-use Rattle.client_core.specs.Commands.{plays_of}
-use Rattle.client_core.specs.Events.{progress, next_event, next_of_line, waits_on}
-use Rattle.client_core.proofs.Ended.{ended_waits_not}
-use Rattle.client_core.proofs.GoesOn.{none_waits as before_first}
-use Rattle.std.proofs.lemmas.Option.{none-some}
-use Rattle.script_run.proofs.Clients.{clients_within}
-use Rattle.serial_core.specs.Budget.{IsBegun, no_call, one_call, AreBegun, IsOnTheWay, IsMoment}
-use Rattle.serial_core.specs.SerialRun.{Run, begun, fed_to_all, passed, batch_sizes, all_passed, ended, fed, turned, ticked, replies_of, reply_to, called, after_waiting, IsWorked, through, calls, AreDone, IsSerialRun}
 use Rattle.serial_core.proofs.Replies.{index_set, next_at_line, none_said}
 
 -- ------ sizes

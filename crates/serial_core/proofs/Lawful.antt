@@ -1,22 +1,7 @@
 -- The histories of the serial run are legal, and the packets that have passed a node are followed by those that are left.
-use Rattle.std.proofs.Common.{◌≡◌, refl, sym, ap, ◌∙◌, ℕ, zero, suc, ◌+◌, Bool, true, false, List, [], ◌∷◌, ◌++◌, length, map, take, drop, replicate, get_or, inl, append-nil, arith}
-use Rattle.std.specs.Prelude.{if◌then◌else◌}
-use Rattle.std.specs.List.{All, range_with_len}
-use Rattle.std.proofs.lemmas.List.{append_assoc, take-append-drop}
-use Rattle.std.proofs.lemmas.List.Elements.{All-head, All-tail, All-map, All-weaker, All-set}
-use Rattle.std.proofs.Math.Seq.{map-set_same}
-use Rattle.dmx_calls.specs.declared.limits.TheConstants.{DEMUX_NODES}
+use Rattle.serial_core.proofs.Imports.{◌≡◌, refl, sym, ap, ◌∙◌, ℕ, zero, suc, ◌+◌, Bool, true, false, List, [], ◌∷◌, ◌++◌, length, map, take, drop, replicate, get_or, inl, append-nil, arith, if◌then◌else◌, All, range_with_len, take-append-drop, All-head, All-tail, All-map, All-weaker, All-set, map-set_same, DEMUX_NODES, Invocation, rules_at, IsLegalFor, clients_in, Scripted, Batches, call_of, plays_of, Node, uncalled, history_of, answered, Run, fed_to_all, ended, all_passed, node_at, after_waiting, IsSerialRun, HistoriesAreLegal, PacketsPass, AreLegal, from_frontend, packets_through}
+use Rattle.std.proofs.lemmas.List.{append_assoc}
 use Rattle.dmx_calls.specs.Invocation as call
-use Rattle.dmx_calls.specs.Invocation.{Invocation}
-use Rattle.dmx_calls.specs.Rules.{rules_at}
-use Rattle.dmx_calls.specs.Legal.{IsLegalFor}
-use Rattle.client_script.specs.Script.{clients_in, Scripted}
-use Rattle.client_core.specs.Deeds.{Batches}
-use Rattle.client_core.specs.Commands.{call_of, plays_of}
-use Rattle.serial_core.specs.Nodes.{Node, uncalled, history_of, answered}
-use Rattle.serial_core.specs.SerialRun.{Run, fed_to_all, ended, all_passed, node_at, after_waiting, IsSerialRun}
-use Rattle.serial_core.specs.Laws.{HistoriesAreLegal, PacketsPass}
-use Rattle.serial_core.specs.Inside.Legal.{AreLegal, from_frontend, packets_through}
 use Rattle.serial_core.proofs.Answering.{none_brought}
 use Rattle.serial_core.proofs.Keeping.{IsKept, all_below, kept, none_left}
 

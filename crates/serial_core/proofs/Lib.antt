@@ -22,3 +22,4 @@ pub mod Lining
 pub mod Ending
 pub mod Existing
 mod Worked
+pub mod Imports

@@ -1,24 +1,5 @@
 -- What a line does to the run, and lines one after another.
-use Rattle.std.proofs.Common.{◌^◌, ◌≡◌, ◌≢◌, refl, sym, ap, subst, ◌∙◌, ℕ, ◌+◌, ◌*◌, ◌<◌, ◌≤◌, Bool, true, false, List, [], ◌∷◌, length, drop, nat_eq, get_or, set, arith}
-use Rattle.std.specs.Prelude.{slice_index_or}
-use Rattle.std.proofs.lemmas.List.{drop_all, get_or-set_same, get_or-set_other, length-set}
-use Rattle.std.proofs.lemmas.List.Sums.{sum_by-le}
-use Rattle.std.proofs.lemmas.Bool.Decides.{nat_tests}
-use Rattle.emu_io.specs.Ends.{SourceEnd}
-use Rattle.client_script.specs.Script.{Scripted}
-use Rattle.client_script.specs.declared.line.Line.{Line}
-use Rattle.client_script.specs.declared.line.Line.TheVariants.{Feed, Tick, Command}
-use Rattle.client_script.specs.declared.line.Target.{Target}
-use Rattle.client_script.specs.declared.line.Verb.{Verb}
-use Rattle.client_core.specs.Inside.Core.{Core, IsAfter}
-use Rattle.feed_pull.specs.Pulling.{Pulling, IsDone}
-use Rattle.serial_core.specs.declared.runner.Runner.{Runner}
-use Rattle.serial_core.specs.SerialRun.{Run, replies_of, fed, finished, ticked, through, AreDone}
-use Rattle.serial_core.specs.Inside.Moving.{IsAt, IsSound, Moves, IsDoneBy, ComesBy, ComesByCalls}
-use Rattle.feed_pull.specs.Streams.{Draws}
-use Rattle.serial_core.specs.Inside.Lines.{AreAfter, calls_by, AreInBudget, ComesByLines, IsLineBy, IsFrontBy, IsWholeBy, OverrunsBy, AllOverrunBy}
-use Rattle.feed_pull.proofs.Drawing.{draws_none}
-use Rattle.serial_core.specs.Budget.{IsOnTheWay}
+use Rattle.serial_core.proofs.Imports.{◌^◌, ◌≡◌, ◌≢◌, refl, sym, ap, subst, ◌∙◌, ℕ, ◌+◌, ◌*◌, ◌<◌, ◌≤◌, Bool, true, false, List, [], ◌∷◌, length, drop, nat_eq, get_or, set, arith, slice_index_or, drop_all, get_or-set_same, get_or-set_other, length-set, sum_by-le, nat_tests, SourceEnd, Scripted, Line, Feed, Tick, Command, Target, Verb, Core, IsAfter, Pulling, IsDone, Runner, Run, replies_of, fed, finished, ticked, through, AreDone, IsAt, IsSound, Moves, IsDoneBy, ComesBy, ComesByCalls, Draws, AreAfter, calls_by, AreInBudget, ComesByLines, IsLineBy, IsFrontBy, IsWholeBy, OverrunsBy, AllOverrunBy, draws_none, IsOnTheWay}
 use Rattle.serial_core.proofs.Keeping.{fed_replies, finished_replies, way_fed, way_ticked, way_worked, way_begun}
 
 -- ------ a feed

@@ -1,19 +1,5 @@
 -- The nodes of a run and their logs by number, and what each call adds to them.
-use Rattle.std.proofs.Common.{◌≡◌, ◌≢◌, refl, sym, ap, subst, ◌∙◌, ℕ, Bool, true, false, nat_eq, ◌+◌, ◌<◌, ◌≤◌, List, [], ◌∷◌, ◌++◌, Some, length, ◌⊎◌, inl, inr, arith}
-use Rattle.std.specs.Prelude.{slice_get, option_map}
-use Rattle.std.proofs.lemmas.List.{length-map, get_or-map, get_or-set_same, get_or-set_other}
-use Rattle.std.proofs.lemmas.Option.{slice_get-map, slice_get-get_or, slice_get_within}
-use Rattle.std.proofs.lemmas.Bool.Decides.{nat_tests}
-use Rattle.dmx_calls.specs.declared.limits.TheConstants.{DEMUX_NODES}
-use Rattle.dmx_calls.specs.Invocation.{Invocation}
-use Rattle.dmx_calls.specs.Log.{LogEntry, act_of}
-use Rattle.client_core.specs.declared.event.Event.{Event}
-use Rattle.client_core.specs.Deeds.{Batches}
-use Rattle.client_core.specs.Commands.{call_of}
-use Rattle.lemmas.proofs.Options.{same_some}
-use Rattle.serial_core.specs.Nodes.{Told, Node, uncalled, answer_by, answered, log_in, log_of}
-use Rattle.serial_core.specs.SerialRun.{Run, fed_to_all, node_at, called}
-use Rattle.serial_core.specs.Left.{histories_in}
+use Rattle.serial_core.proofs.Imports.{◌≡◌, ◌≢◌, refl, sym, ap, subst, ◌∙◌, ℕ, Bool, true, false, nat_eq, ◌+◌, ◌<◌, ◌≤◌, List, [], ◌∷◌, ◌++◌, Some, length, ◌⊎◌, inl, inr, arith, slice_get, option_map, length-map, get_or-map, get_or-set_same, get_or-set_other, slice_get-map, slice_get-get_or, slice_get_within, nat_tests, DEMUX_NODES, Invocation, LogEntry, act_of, Event, Batches, call_of, same_some, Told, Node, uncalled, answer_by, answered, log_in, log_of, Run, fed_to_all, node_at, called, histories_in}
 
 -- ------ the node of a number
 

@@ -1,19 +1,5 @@
 -- A client's calls stand in the logs, each once and in their order, and an entry of the feeder behind one that waits.
-use Rattle.std.proofs.Common.{◌≡◌, ◌≢◌, refl, sym, ap, subst, ◌∙◌, ℕ, suc, ◌+◌, ◌<◌, ◌≤◌, Bool, true, false, nat_eq, List, [], ◌∷◌, ◌++◌, Some, length, length-append, take, ◌⊎◌, inl, inr, arith}
-use Rattle.std.specs.Prelude.{IsSome, slice_get}
-use Rattle.std.proofs.lemmas.List.{map-append, length-map, take-append-le, take_all}
-use Rattle.std.proofs.lemmas.Option.{slice_get_within}
-use Rattle.std.proofs.lemmas.Bool.Decides.{nat_tests}
-use Rattle.std.proofs.Math.Seq.{take-append_seam}
-use Rattle.dmx_calls.specs.declared.limits.TheConstants.{DEMUX_NODES}
-use Rattle.dmx_calls.specs.Response.{Response}
-use Rattle.dmx_calls.specs.Log.{LogEntry, act_of}
-use Rattle.client_script.specs.Script.{Scripted}
-use Rattle.client_core.specs.declared.event.Event.{Event}
-use Rattle.client_core.specs.Commands.{call_of, plays_of}
-use Rattle.client_core.specs.Events.{next_event, waits_on}
-use Rattle.script_run.specs.IsRun.{IsEvent, replies}
-use Rattle.lemmas.proofs.Lists.{at_before, at_last as got_last, at_end}
+use Rattle.serial_core.proofs.Imports.{◌≡◌, ◌≢◌, refl, sym, ap, subst, ◌∙◌, ℕ, suc, ◌+◌, ◌<◌, ◌≤◌, Bool, true, false, nat_eq, List, [], ◌∷◌, ◌++◌, Some, length, length-append, take, ◌⊎◌, inl, inr, arith, IsSome, slice_get, map-append, length-map, take-append-le, take_all, slice_get_within, nat_tests, take-append_seam, DEMUX_NODES, Response, LogEntry, act_of, Scripted, Event, call_of, plays_of, next_event, waits_on, IsEvent, replies, at_before, got_last, at_end}
 
 -- right behind the entry stands one of the feeder's
 abbrev pub IsFedBehind : (logs : ℕ → List LogEntry) → LogEntry → Type 0

@@ -1,12 +1,5 @@
 -- Moves one after another.
-use Rattle.std.proofs.Common.{◌≡◌, refl, ap, subst, ◌∙◌, ℕ, [], ◌++◌, append_assoc, Result, Ok, Err, OnErr, IsErrAnd}
-use Rattle.emu_io.specs.Ends.{SourceEnd}
-use Rattle.feed_pull.specs.Pulling.{Pulling}
-use Rattle.serial_core.specs.declared.runner.Runner.{Runner}
-use Rattle.serial_core.specs.SerialRun.{Run}
-use Rattle.serial_core.specs.Inside.Moving.{HasDrawn, IsReady, IsSound, Moves}
-use Rattle.feed_pull.proofs.Drawing.{draws_none, draws_then}
-use Rattle.feed_pull.proofs.Stopping.{on_err, still_counts}
+use Rattle.serial_core.proofs.Imports.{◌≡◌, refl, ap, subst, ◌∙◌, ℕ, [], ◌++◌, append_assoc, Result, Ok, Err, OnErr, IsErrAnd, SourceEnd, Pulling, Runner, Run, HasDrawn, IsReady, IsSound, Moves, draws_none, draws_then, on_err, still_counts}
 
 pub moves_none : (x : SourceEnd) (v : Runner) (goes : Run → Run → Type 0) → IsSound v → ((r : Run) → goes r r) → Moves x x v v goes
 moves_none x v goes sound same = record {

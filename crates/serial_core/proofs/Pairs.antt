@@ -1,6 +1,5 @@
 -- Lists whose elements are related one by one, and a change of one element of each.
-use Rattle.std.proofs.Common.{ℕ, zero, suc, ◌<◌, ◌≡◌, refl, ap, List, [], ◌∷◌, ◌++◌, set, get_or, map, replicate, length, arith}
-use Rattle.serial_core.specs.Inside.Standing.{Pairs}
+use Rattle.serial_core.proofs.Imports.{ℕ, zero, suc, ◌<◌, ◌≡◌, refl, ap, List, [], ◌∷◌, ◌++◌, set, get_or, map, replicate, length, arith, Pairs}
 
 pub map_replicate : {Y : Type 0} (count : ℕ) (f : Y → Y) (y : Y) → map f (replicate count y) ≡ replicate count (f y)
 map_replicate zero f y = refl

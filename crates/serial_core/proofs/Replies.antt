@@ -1,11 +1,6 @@
 -- The replies of the clients, and what stands at a line.
-use Rattle.std.proofs.Common.{◌≡◌, refl, ap, ℕ, zero, suc, Bool, true, false, nat_eq, List, [], ◌∷◌, Option, Some, None, ◌⊎◌, inl, inr}
-use Rattle.std.specs.Prelude.{if◌then◌else◌, option_map, replicate, slice_index_or, slice_set}
-use Rattle.dmx_calls.specs.Response.{Response}
-use Rattle.client_script.specs.Script.{Scripted}
-use Rattle.client_core.specs.declared.event.Event.{Event}
-use Rattle.client_core.specs.Events.{Standing, progress, next_event, next_of_line, standing_at}
-use Rattle.std.proofs.lemmas.Option.{none-some}
+use Rattle.serial_core.proofs.Imports.{◌≡◌, refl, ap, ℕ, zero, suc, Bool, true, false, nat_eq, List, [], ◌∷◌, Option, Some, None, ◌⊎◌, inl, inr, if◌then◌else◌, option_map, slice_index_or, slice_set, Response, Scripted, Event, Standing, progress, next_event, next_of_line, standing_at, none-some}
+use Rattle.std.specs.Prelude.{replicate}
 
 -- another client's replies stay, and so do those of a client that isn't there
 pub index_set : (xs : List (List Response)) (i j : ℕ) (y : List Response) → (slice_index_or (slice_set xs i y) j [] ≡ slice_index_or xs j []) ⊎ (j ≡ i) × (slice_index_or (slice_set xs i y) j [] ≡ y)

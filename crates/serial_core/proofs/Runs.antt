@@ -1,30 +1,5 @@
 -- A moment of the serial run of a script is a run of it so far, so its calls are paid; the whole serial run is a run.
-use Rattle.std.proofs.Common.{◌≡◌, sym, ap, subst, ◌∙◌, ◌⊎◌, ℕ, suc, ◌+◌, ◌*◌, ◌<◌, ◌≤◌, Bool, true, false, not, List, ◌++◌, append-nil, Some, None, length, inl, inr, arith}
-use Rattle.std.specs.Prelude.{slice_get}
-use Rattle.std.specs.List.{All}
-use Rattle.std.proofs.lemmas.Bool.{cases_lt}
-use Rattle.std.proofs.lemmas.List.{length-map}
-use Rattle.std.proofs.lemmas.Option.{slice_get_within}
-use Rattle.ts_packet.specs.Fields.{IsPacket}
-use Rattle.dmx_calls.specs.Rules.{rules_at}
-use Rattle.dmx_calls.specs.Legal.{IsLegalFor}
-use Rattle.dmx_calls.specs.Log.{LogEntry, filled}
-use Rattle.client_script.specs.Grammar.{IsInRange}
-use Rattle.client_script.specs.Script.{AreNumbered, clients_in, Scripted}
-use Rattle.client_core.specs.Commands.{commands_of}
-use Rattle.client_core.specs.Events.{next_event}
-use Rattle.script_run.specs.Budget.{bytes_written, most_calls}
-use Rattle.script_run.specs.IsRun.{Batch, Step, feeding, replies, sources, steps_of}
-use Rattle.script_run.specs.SoFar.{feeder, IsPaidBehind, IsFedSoFar, HasDoneSoFar, IsSoFar, IsOver}
-use Rattle.script_run.proofs.Ending.{runs_end, are_accounted}
-use Rattle.script_run.proofs.Clients.{few_in_all}
-use Rattle.script_run.proofs.Counting.{total}
-use Rattle.script_run.proofs.Paying.{calls_are_bounded, calls_are_paid, plays_by}
-use Rattle.serial_core.specs.Nodes.{history_of}
-use Rattle.serial_core.specs.SerialRun.{Run, all_passed, node_at, replies_of}
-use Rattle.serial_core.specs.Budget.{IsMoment, IsWithinBudget}
-use Rattle.serial_core.specs.Left.{histories_in}
-use Rattle.serial_core.specs.Runs.{IsAccountedRun, SerialRunsAreRuns}
+use Rattle.serial_core.proofs.Imports.{◌≡◌, sym, ap, subst, ◌∙◌, ◌⊎◌, ℕ, suc, ◌+◌, ◌*◌, ◌<◌, ◌≤◌, Bool, true, false, not, List, ◌++◌, append-nil, Some, None, length, inl, inr, arith, slice_get, All, cases_lt, length-map, slice_get_within, IsPacket, rules_at, IsLegalFor, LogEntry, filled, IsInRange, AreNumbered, clients_in, Scripted, commands_of, next_event, bytes_written, most_calls, Batch, Step, feeding, replies, sources, steps_of, feeder, IsPaidBehind, IsFedSoFar, HasDoneSoFar, IsSoFar, IsOver, runs_end, are_accounted, few_in_all, total, calls_are_bounded, calls_are_paid, plays_by, history_of, Run, all_passed, node_at, replies_of, IsMoment, IsWithinBudget, histories_in, IsAccountedRun, SerialRunsAreRuns}
 use Rattle.serial_core.proofs.Logs.{entries_of, entries_at, histories_get, histories_is}
 use Rattle.serial_core.proofs.Sound.{IsPlaced, sound_placed, sound_filled}
 use Rattle.serial_core.proofs.Making.{AreMade, IsFedBehind, IsOpenBehind}

@@ -1,25 +1,8 @@
 -- What one call does to a node with its entries.
-use Rattle.std.proofs.Common.{◌≡◌, refl, sym, ap, subst, ◌∙◌, ℕ, ◌+◌, List, [], ◌∷◌, ◌++◌, length, map, length-append, add-one, arith}
-use Rattle.std.proofs.lemmas.List.{map-append}
-use Rattle.dmx_calls.specs.declared.node.NodeKind.{NodeKind}
+use Rattle.serial_core.proofs.Imports.{◌≡◌, refl, sym, ap, subst, ◌∙◌, ℕ, ◌+◌, List, [], ◌∷◌, ◌++◌, length, map, length-append, add-one, arith, map-append, NodeKind, Invocation, Close, SetFilter, SetPes, AddPid, RemovePid, Start, Stop, SetSize, Read, Poll, Pass, End, Attach, Detach, Passed, History, entry_of, Rules, rules_at, Facts, facts, dmx_answer, with_call, Act, LogEntry, act_of, feeder_entry, woven, AreInPlace, in_place-append, woven-call, woven-fed, CodeEntry, told_entry, Seat, AnyCore, Demux, Dvr, Node, Told, history_in, history_of, uncalled, answer_by, answered, log_in, log_of, IsFeeding, IsSeat, StandsAt, entries_in}
 use Rattle.dmx_calls.specs.declared.node.NodeKind.TheVariants as kind
-use Rattle.dmx_calls.specs.Invocation.{Invocation, Open, Close, SetFilter, SetPes, AddPid, RemovePid, Start, Stop, SetSize, Read, Poll, Pass, End, Attach, Detach}
-use Rattle.dmx_calls.specs.Response.{Passed}
-use Rattle.dmx_calls.specs.History.{History, entry_of}
-use Rattle.dmx_calls.specs.Rules.{Rules, rules_at}
-use Rattle.dmx_calls.specs.Facts.{Facts, facts}
-use Rattle.dmx_calls.specs.Answer.{answer, answer_by as dmx_answer, with_call}
-use Rattle.dmx_calls.specs.declared.log.Act.{Act}
-use Rattle.dmx_calls.specs.Log.{LogEntry, act_of}
-use Rattle.dmx_calls.specs.Histories.{feeder_entry, woven, AreInPlace}
-use Rattle.dmx_calls.proofs.Weaving.{in_place-append, woven-call, woven-fed}
-use Rattle.dmx_calls.specs.declared.log.Entry.{Entry as CodeEntry}
-use Rattle.dmx_calls.specs.Calls.{told_entry}
-use Rattle.serial_core.specs.declared.seat.Seat.{Seat}
-use Rattle.serial_core.specs.declared.node.AnyCore.{AnyCore}
-use Rattle.serial_core.specs.declared.node.AnyCore.TheVariants.{Demux, Dvr}
-use Rattle.serial_core.specs.Nodes.{Node, Told, history_in, history_of, uncalled, answer_by, answered, log_in, log_of}
-use Rattle.serial_core.specs.Inside.Standing.{IsFeeding, IsSeat, StandsAt, entries_in}
+use Rattle.dmx_calls.specs.Invocation.{Open}
+use Rattle.dmx_calls.specs.Answer.{answer}
 use Rattle.serial_core.proofs.Logs.{log_number}
 
 -- ------ the feeder's calls are answered Passed

@@ -1,21 +1,6 @@
 -- After all lines, all commands are through.
-use Rattle.std.proofs.Common.{◌≡◌, refl, sym, ap, subst, ◌∙◌, ℕ, Bool, true, false, nat_eq, List, [], ◌∷◌, ◌++◌, None, append_assoc, append-nil, arith, ◌⊎◌, inl, inr}
-use Rattle.std.specs.Prelude.{if◌then◌else◌, slice_index_or, slice_set, option_map}
-use Rattle.std.proofs.lemmas.Bool.Decides.{nat_tests}
-use Rattle.std.proofs.lemmas.Grind.{flat_map-append}
-use Rattle.dmx_calls.specs.Response.{Response}
-use Rattle.client_script.specs.Script.{Scripted}
-use Rattle.client_script.specs.declared.line.Line.{Line}
-use Rattle.client_script.specs.declared.line.Line.TheVariants.{Feed, Tick, Command}
-use Rattle.client_script.specs.declared.line.Target.{Target}
-use Rattle.client_core.specs.declared.command.Command.{Command as ClientCommand}
-use Rattle.client_core.specs.declared.event.Event.{Event}
-use Rattle.client_core.specs.declared.deed.Deed.{Deed}
-use Rattle.client_core.specs.Deeds.{deed_of}
-use Rattle.client_core.specs.Commands.{commands_in, commands_among, commands_of, plays_of}
-use Rattle.client_core.specs.Events.{progress, progress_from, no_slots, next_event, next_of_line, standing_at}
-use Rattle.client_core.proofs.Numbering.{AreThrough, through_more, through_next}
-use Rattle.serial_core.specs.SerialRun.{Run, begun, fed, ticked, replies_of, reply_to, called, after_waiting, IsWorked, through, calls, AreDone, finished}
+use Rattle.serial_core.proofs.Imports.{◌≡◌, refl, sym, ap, subst, ◌∙◌, ℕ, Bool, true, false, nat_eq, List, [], ◌∷◌, ◌++◌, None, append_assoc, append-nil, arith, ◌⊎◌, inl, inr, if◌then◌else◌, slice_index_or, slice_set, option_map, nat_tests, flat_map-append, Response, Scripted, Line, Feed, Tick, Command, Target, ClientCommand, Event, Deed, deed_of, commands_in, commands_among, commands_of, plays_of, progress_from, no_slots, next_event, next_of_line, standing_at, AreThrough, through_more, through_next, Run, begun, fed, ticked, replies_of, reply_to, called, after_waiting, IsWorked, through, calls, AreDone, finished}
+use Rattle.client_core.specs.Events.{progress}
 use Rattle.serial_core.proofs.Replies.{index_set}
 use Rattle.serial_core.proofs.Keeping.{fed_replies, finished_replies, waiting_replies}
 

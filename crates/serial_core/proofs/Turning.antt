@@ -1,14 +1,6 @@
 -- What a turn of the feeder does to the run.
-use Rattle.std.proofs.Common.{◌≡◌, refl, sym, ap, subst, ◌∙◌, ℕ, ◌+◌, ◌<◌, ◌≤◌, min, Bool, true, false, List, [], ◌++◌, length, take, drop, length-append, if◌then◌else◌, arith, inl, inr}
-use Rattle.std.proofs.lemmas.Bool.{cases_lt}
-use Rattle.std.proofs.Math.Seq.{take-append_seam, drop-append_seam}
-use Rattle.dmx_calls.specs.declared.params.Input.TheVariants.{Frontend}
-use Rattle.dmx_calls.specs.Invocation.{Pass, End}
-use Rattle.feed_pull.specs.Pulling.{IsDone}
-use Rattle.serial_core.specs.declared.runner.Runner.{Runner}
-use Rattle.serial_core.specs.SerialRun.{Run, fed_to_all, passed, ended, turned}
-use Rattle.serial_core.specs.Inside.Standing.{IsNodes}
-use Rattle.serial_core.specs.Inside.Moving.{IsAt}
+use Rattle.serial_core.proofs.Imports.{◌≡◌, refl, sym, ap, subst, ◌∙◌, ℕ, ◌+◌, ◌<◌, ◌≤◌, min, Bool, true, false, List, [], ◌++◌, length, take, drop, length-append, arith, inl, inr, cases_lt, take-append_seam, drop-append_seam, Frontend, Pass, End, IsDone, Runner, Run, fed_to_all, passed, ended, turned, IsNodes, IsAt}
+use Rattle.std.proofs.Common.{if◌then◌else◌}
 use Rattle.serial_core.proofs.Batches.{turned_none, turned_some}
 
 -- as many as a batch has

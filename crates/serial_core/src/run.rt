@@ -76,13 +76,12 @@ fn left_by(alloc: Global, runner: Runner, cores: &[ClientCore]) -> Result<Left, 
     ensures well { IfOk result (λ left. runner.puller.reading ≢ TooMany) }
     ensures too_long { (turns : ℕ) → IsErrOf result (Stop.TooLong turns) → (turns ≡ 2 ^ 32) × (2 ^ 32 ≤ runner.puller.start + runner.puller.taken) }
 {
-    let Runner { nodes, puller, .. } = runner;
-    if let Some(PullFault::TooLong { turns }) = puller.fault() {
+    if let Some(PullFault::TooLong { turns }) = runner.puller.fault() {
         return Err(Stop::TooLong { turns });
     }
-    let head = puller.head(alloc)?;
-    let histories = nodes.into_histories()?;
+    let head = runner.puller.head(alloc)?;
     let outcomes = outcomes_of(alloc, cores)?;
+    let histories = runner.into_histories()?;
     Ok(Left {
         histories,
         outcomes,

@@ -1,9 +1,12 @@
 // A run on its way: the nodes, the stream, and the moment.
-ghost use Rattle.std.specs.Prelude.{◌≡◌, true, ℕ, ◌+◌, ◌-◌, ◌<◌, ◌≤◌, ◌^◌, ◌≢◌, List, [], length, min, IfOk, OnOk, OnErr};
+ghost use Rattle.std.specs.Prelude.{◌≡◌, true, ℕ, ◌+◌, ◌-◌, ◌<◌, ◌≤◌, ◌^◌, ◌≢◌, List, [], length, map, min, IfOk, OnOk, OnErr};
+ghost use Rattle.dmx_calls.specs.Histories.{histories_of};
 ghost use Rattle.serial_core.specs.SerialRun.{Run, fed, finished, ticked, turned};
 ghost use Rattle.serial_core.specs.Inside.Moving.{HasDrawn, MadeAtMost, IsAt, IsReady, IsSound, Moves};
+ghost use Rattle.serial_core.specs.Inside.Standing.{AreCounted};
 
 use crate::nodes::Nodes;
+use dmx_calls::Histories;
 use emu_io::Source;
 use feed_pull::Puller;
 use machine::steps::Steps;
@@ -106,5 +109,13 @@ impl Runner {
         ensures moment { self.new.moment ≡ self.old.moment + time }
     {
         self.moment += time as u64;
+    }
+
+    /// The histories of all nodes. End has passed.
+    pub fn into_histories(self) -> Result<Histories, NoMemory>
+        requires counted { AreCounted self.nodes }
+        ensures { IfOk result (λ all. all ≡ histories_of self.nodes.feeding.items (map (λ seat. seat.entries.items) self.nodes.seats.items)) }
+    {
+        self.nodes.into_histories()
     }
 }

@@ -1,14 +1,5 @@
 -- The books of the seats: each call in them is on one of the 33 nodes.
-use Rattle.std.proofs.Common.{◌≡◌, ◌≤◌, List, [], ◌∷◌, map, Vec, Global, sym, subst}
-use Rattle.std.specs.Prelude.{All}
-use Rattle.std.proofs.lemmas.List.Elements.{All-nil, All-cons, All-head, All-tail, All-map, All-weaker}
-use Rattle.dmx_calls.specs.Calls.{told_entry}
-use Rattle.dmx_calls.specs.Log.{LogEntry}
-use Rattle.dmx_calls.specs.declared.limits.TheConstants.{DEMUX_NODES}
-use Rattle.dmx_calls.specs.declared.log.Entry.{Entry as ToldEntry}
-use Rattle.adapter.specs.Merging.{AreOnNodes as AreEntriesOnNodes}
-use Rattle.seats.specs.declared.run.Desk.{Desk}
-use Rattle.seats.specs.Seated.{log_of, AreOnNodes}
+use Rattle.serve_top.proofs.Imports.{◌≡◌, ◌≤◌, List, [], ◌∷◌, map, Vec, Global, sym, subst, All, All-nil, All-cons, All-head, All-tail, All-map, All-weaker, told_entry, LogEntry, DEMUX_NODES, ToldEntry, AreEntriesOnNodes, Desk, log_of, AreOnNodes}
 
 -- what holds of what is made of each member
 unmapped : {A B : Type 0} (f : A → B) (P : B → Type 0) (xs : List A) → All P (map f xs) → All (λ (x : A). P (f x)) xs

@@ -1,15 +1,5 @@
 -- The histories of a script that writes nothing are filled with the same packets, whatever its lines are.
-use Rattle.std.proofs.Common.{◌≡◌, ℕ, zero, suc, List, [], ◌∷◌, map, take, drop, reverse, refl, ap, ◌∙◌}
-use Rattle.dmx_calls.specs.declared.log.Act.{Act}
-use Rattle.dmx_calls.specs.declared.log.Act.TheVariants.{Pass as PassAct}
-use Rattle.dmx_calls.specs.declared.params.Input.{Input}
-use Rattle.dmx_calls.specs.declared.params.Input.TheVariants.{Frontend, Dvr as FromDvr}
-use Rattle.dmx_calls.specs.History.{Entry}
-use Rattle.dmx_calls.specs.Invocation.{Pass}
-use Rattle.dmx_calls.specs.Log.{LogEntry, Sources, filled, filled_act, filled_entry}
-use Rattle.client_script.specs.Script.{plain}
-use Rattle.client_script.specs.declared.line.Line.{Line}
-use Rattle.script_run.specs.IsRun.{sources}
+use Rattle.serve_top.proofs.Imports.{◌≡◌, ℕ, zero, suc, List, [], ◌∷◌, map, take, drop, reverse, refl, ap, ◌∙◌, Act, PassAct, Input, Frontend, FromDvr, Entry, Pass, LogEntry, Sources, filled, filled_act, filled_entry, plain, Line, sources}
 
 pub same_sources : (xs ys : List Line) (stream : List (List ℕ)) (who : ℕ) (input : Input) → sources (plain xs) stream who input ≡ sources (plain ys) stream who input
 same_sources xs ys stream who Frontend = refl

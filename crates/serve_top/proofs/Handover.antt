@@ -1,43 +1,5 @@
 -- Seats that have handed their calls over, and a feeder that has kept none: what they have called.
-use Rattle.std.proofs.Common.{◌≡◌, ⊎_elim, ℕ, zero, suc, Bool, true, ◌+◌, ◌<◌, ◌≤◌, ◌^◌, List, [], ◌∷◌, ◌++◌, length, map, replicate, reverse, Option, Some, None, refl, ap, sym, ◌∙◌, subst, arith, length-append}
-use Rattle.std.specs.Prelude.{slice_get, slice_index_or, option_map, All, if◌then◌else◌}
-use Rattle.std.proofs.lemmas.List.{length-map, length-reverse}
-use Rattle.std.proofs.lemmas.Option.{slice_get-map, slice_get-get_or, get_or_from_slice_get, slice_get_within}
-use Rattle.atomic_table.specs.Seated.{TableId}
-use Rattle.emu_io.specs.Ends.{SourceEnd, SinkEnd}
-use Rattle.ts_packet.specs.Cut.{cut}
-use Rattle.ts_packet.specs.declared.size.PacketSize.{PacketSize}
-use Rattle.ts_packet.specs.declared.size.PacketSize.TheVariants.{Of188}
-use Rattle.ts_watch.specs.Head.{head_of}
-use Rattle.feed_pull.specs.Pulling.{Pulls, has_failed}
-use Rattle.feed_pull.proofs.PullLemmas.{Pulls-done}
-use Rattle.dmx_calls.specs.declared.histories.Fed.{Fed}
-use Rattle.dmx_calls.specs.declared.limits.TheConstants.{DEMUX_NODES}
-use Rattle.dmx_calls.specs.declared.outcome.Outcome.{Outcome}
-use Rattle.dmx_calls.specs.Log.{LogEntry, Sources}
-use Rattle.client_script.specs.Script.{plain}
-use Rattle.adapter.specs.Callers.{Caller, IsSameCaller, AreFreshCallers, AreAllCallers}
-use Rattle.adapter.specs.Ends.{HaveHistories}
-use Rattle.adapter.specs.Nodes.{is_in, ended}
-use Rattle.adapter.proofs.Everybody.{still_all}
-use Rattle.adapter.proofs.Lists.{at_place, at_end, one_value}
-use Rattle.workers.specs.Feeding.{HasMade, HasFed, HasFedAll, fed_entries}
-use Rattle.workers.specs.Telling.{HasLogged, HaveCalled}
-use Rattle.workers.proofs.Beginning.{called_none}
-use Rattle.workers.proofs.Lists.{mapped}
-use Rattle.seats.specs.declared.journal.JournalLine.{JournalLine}
-use Rattle.seats.specs.declared.run.Desk.{Desk}
-use Rattle.seats.specs.declared.seat.Seat.{Seat}
-use Rattle.seats.specs.Calls.{MakesCalls}
-use Rattle.seats.specs.Handed.{IsReadyToHand, HasServedTo, HaveServedTo}
-use Rattle.seats.specs.Holding.{HasLeft}
-use Rattle.seats.specs.Seated.{AreReady}
-use Rattle.seats.specs.Turns.{HasAnsweredAll}
-use Rattle.serve_top.specs.declared.journals.Handed.{Handed}
-use Rattle.serve_top.specs.declared.passing.Passing.{Passing}
-use Rattle.serve_top.specs.Journaled.{HasServedLines, IsHandedBy}
-use Rattle.serve_top.specs.Inside.PassedOn.{IsNewPassing, HasPassedToEnd, HasWorkedOn}
-use Rattle.serve_top.specs.Reported.{every, fed_by}
+use Rattle.serve_top.proofs.Imports.{◌≡◌, ⊎_elim, ℕ, zero, suc, Bool, true, ◌+◌, ◌<◌, ◌≤◌, ◌^◌, List, [], ◌∷◌, ◌++◌, length, map, replicate, reverse, Option, Some, None, refl, ap, sym, ◌∙◌, subst, arith, length-append, slice_get, slice_index_or, option_map, All, if◌then◌else◌, length-map, length-reverse, slice_get-map, slice_get-get_or, get_or_from_slice_get, slice_get_within, TableId, SourceEnd, SinkEnd, cut, PacketSize, Of188, head_of, Pulls, has_failed, Pulls-done, Fed, DEMUX_NODES, Outcome, LogEntry, Sources, plain, Caller, IsSameCaller, AreFreshCallers, AreAllCallers, HaveHistories, is_in, ended, still_all, at_place, at_end, one_value, HasMade, HasFed, HasFedAll, fed_entries, HasLogged, HaveCalled, called_none, mapped, JournalLine, Desk, Seat, MakesCalls, IsReadyToHand, HasServedTo, HaveServedTo, HasLeft, AreReady, HasAnsweredAll, Handed, Passing, HasServedLines, IsHandedBy, IsNewPassing, HasPassedToEnd, HasWorkedOn, every, fed_by}
 use Rattle.serve_top.proofs.Logged.{same_calls, logged_calls, brings_calls}
 use Rattle.serve_top.proofs.Reporting.{all_in}
 use Rattle.serve_top.proofs.Streaming.{read_to}

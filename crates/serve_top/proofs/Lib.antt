@@ -9,3 +9,4 @@ mod Reporting
 mod Scripting
 mod Seating
 mod Streaming
+pub mod Imports

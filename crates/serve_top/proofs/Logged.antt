@@ -1,16 +1,5 @@
 -- From the calls of a seat to what its passes know of them.
-use Rattle.std.proofs.Common.{◌≡◌, ℕ, ◌+◌, List, [], ◌∷◌, ◌++◌, length, refl, sym, ◌∙◌, subst, arith, length-append}
-use Rattle.std.proofs.lemmas.List.{append-nil, append_assoc}
-use Rattle.dmx_calls.specs.declared.params.Input.{Input}
-use Rattle.dmx_calls.specs.Invocation.{Invocation, Open, Pass}
-use Rattle.dmx_calls.specs.Log.{IsFrom, LogEntry, act_of}
-use Rattle.adapter.specs.Callers.{Caller, IsSameCaller}
-use Rattle.adapter.specs.Nodes.{IsLegalAt}
-use Rattle.adapter.proofs.Everybody.{same_trans}
-use Rattle.workers.specs.Logged.{BringFrom, IsLogged}
-use Rattle.workers.proofs.Logging.{brings_more, logged_more}
-use Rattle.workers.proofs.Working.{same_self}
-use Rattle.seats.specs.Calls.{MakesCalls, PassesNone}
+use Rattle.serve_top.proofs.Imports.{◌≡◌, ℕ, ◌+◌, List, [], ◌∷◌, ◌++◌, length, refl, sym, ◌∙◌, subst, arith, length-append, append-nil, append_assoc, Input, Invocation, Open, Pass, IsFrom, LogEntry, act_of, Caller, IsSameCaller, IsLegalAt, same_trans, BringFrom, IsLogged, brings_more, logged_more, same_self, MakesCalls, PassesNone}
 
 -- it is the same caller
 pub same_calls : (n : ℕ) (c : Caller) (es : List LogEntry) (d : Caller) → MakesCalls n c es d → IsSameCaller c d

@@ -1,26 +1,6 @@
 -- The batches of a feeder that keeps none of them.
-use Rattle.std.proofs.Common.{◌≡◌, ◌≢◌, inl, inr, ⊎_elim, refl, sym, ap, subst, ◌∙◌, ℕ, Bool, ◌+◌, ◌<◌, ◌≤◌, ◌^◌, List, [], ◌∷◌, ◌++◌, length, length-append, append-nil, arith}
-use Rattle.std.specs.Prelude.{◌⊎◌, IsTrue, All}
-use Rattle.std.proofs.lemmas.List.Elements.{All-nil, All-push}
-use Rattle.std.proofs.lemmas.Bool.{cases_lt}
-use Rattle.emu_io.specs.Ends.{SourceEnd}
-use Rattle.atomic_table.specs.Seated.{TableId}
-use Rattle.ts_batch.specs.Batch.{Packets}
-use Rattle.dmx_calls.specs.declared.histories.Fed.{Fed}
-use Rattle.feed_pull.specs.declared.fault.Reading.TheVariants.{Going}
-use Rattle.feed_pull.specs.Pulling.{Pulling, Pulls, IsDone}
-use Rattle.feed_pull.specs.Steps.{ReadsNothing}
-use Rattle.feed_pull.specs.Streams.{Draws}
-use Rattle.feed_pull.proofs.Drawing.{draws_none, draws_then, none_given}
-use Rattle.adapter.specs.Callers.{Caller, AreFreshCallers, AreAllCallers}
-use Rattle.adapter.specs.Nodes.{MakesEachEntry, fed, ended}
-use Rattle.adapter.specs.Rows.{Fits}
-use Rattle.adapter.proofs.Lists.{at_last}
-use Rattle.workers.specs.Feeding.{AreFullBatches, HasFed}
-use Rattle.workers.proofs.Beginning.{fed_none}
-use Rattle.workers.proofs.Feeding.{fed_more, fed_end, full_push}
-use Rattle.serve_top.specs.declared.passing.Passing.{Passing}
-use Rattle.serve_top.specs.Inside.PassedOn.{IsNewPassing, IsFitPassing, HasPassedOn, HasPassedToEnd}
+use Rattle.serve_top.proofs.Imports.{◌≡◌, ◌≢◌, inl, inr, ⊎_elim, refl, sym, ap, subst, ◌∙◌, ℕ, Bool, ◌+◌, ◌<◌, ◌≤◌, ◌^◌, List, [], ◌∷◌, ◌++◌, length, length-append, arith, ◌⊎◌, IsTrue, All, All-nil, All-push, cases_lt, SourceEnd, TableId, Packets, Fed, Going, Pulling, Pulls, IsDone, ReadsNothing, Draws, draws_none, draws_then, none_given, Caller, AreFreshCallers, AreAllCallers, MakesEachEntry, fed, ended, Fits, at_last, AreFullBatches, HasFed, fed_none, fed_more, fed_end, full_push, Passing, IsNewPassing, IsFitPassing, HasPassedOn, HasPassedToEnd}
+use Rattle.std.proofs.Common.{append-nil}
 
 module _ {B : Type 0} (among : ℕ → Bool) (may : ℕ → Bool) (took : List Fed → B → B → Type 0) where
   module _ (before x y : SourceEnd) (first : Pulling) (was now : B) (p q : Passing) (qs : List (List ℕ)) (draws : Draws x y p.puller q.puller qs) (given : q.puller.given ≡ p.puller.given + length qs)

@@ -1,36 +1,6 @@
 -- What was called for the requests of the lines is a run of the script of their commands.
-use Rattle.std.proofs.Common.{◌≡◌, ◌≢◌, ℕ, zero, suc, ◌+◌, ◌<◌, ◌≤◌, Bool, true, false, nat_lt, set, List, [], ◌∷◌, length, take, Option, Some, None, All, refl, ap, sym, ◌∙◌, subst, arith}
-use Rattle.std.specs.Prelude.{slice_get, get_or, IsSome}
-use Rattle.std.proofs.lemmas.Bool.Decides.{nat_tests}
-use Rattle.std.proofs.lemmas.List.{append-nil, length-set}
-use Rattle.std.proofs.lemmas.Option.{slice_get_within, slice_get-get_or}
-use mathlib.Core.Logic.{dite}
-use native.Mathlib.Decide.{ℕ_discrete}
-use Rattle.adapter.proofs.Lists.{at_place, one_value, set_there, set_elsewhere}
-use Rattle.adapter.specs.Callers.{Caller}
-use Rattle.dmx_calls.specs.declared.histories.Fed.{Fed}
-use Rattle.dmx_calls.specs.declared.outcome.Outcome.{Outcome}
-use Rattle.dmx_calls.specs.declared.params.Input.{Input}
-use Rattle.dmx_calls.specs.Accounted.{IsAccounted}
-use Rattle.dmx_calls.specs.History.{History}
-use Rattle.dmx_calls.specs.Legal.{IsLegalFor}
-use Rattle.dmx_calls.specs.Log.{LogEntry, Sources, filled}
-use Rattle.dmx_calls.specs.Rules.{rules_at}
-use Rattle.dmx_calls.specs.Response.{Response, NoMemory}
-use Rattle.client_script.specs.Script.{Scripted, plain, clients_in}
-use Rattle.client_core.specs.declared.command.Command.{Command}
-use Rattle.client_core.specs.declared.event.Event.{Event}
-use Rattle.client_core.specs.Commands.{commands_of, plays_of}
-use Rattle.client_core.specs.Events.{next_event}
-use Rattle.client_core.specs.Outcomes.{outcomes}
-use Rattle.script_run.specs.IsRun.{IsRun, IsEvent, HasDone, replies, sources}
-use Rattle.script_run.specs.WholeRun.{IsGiven, IsWholeRun}
-use Rattle.workers.specs.Feeding.{HasFedAll}
-use Rattle.workers.specs.Left.{HasWorked, AreWorked}
-use Rattle.workers.specs.Logged.{BringFrom}
-use Rattle.workers.specs.Telling.{HasLogged, HaveCalled}
-use Rattle.seats.specs.Scripts.{IsPlayed}
-use Rattle.serve_top.specs.Reported.{every, fed_by, FindMemory, IsRunOf}
+use Rattle.serve_top.proofs.Imports.{◌≡◌, ◌≢◌, ℕ, zero, suc, ◌+◌, ◌<◌, ◌≤◌, Bool, true, false, nat_lt, set, List, [], ◌∷◌, length, take, Option, Some, None, refl, ap, sym, ◌∙◌, subst, arith, slice_get, get_or, IsSome, nat_tests, append-nil, length-set, slice_get_within, slice_get-get_or, dite, ℕ_discrete, at_place, one_value, set_there, set_elsewhere, Caller, Fed, Outcome, Input, IsAccounted, History, IsLegalFor, LogEntry, Sources, filled, rules_at, Response, NoMemory, Scripted, plain, clients_in, Command, Event, commands_of, plays_of, next_event, outcomes, IsRun, IsEvent, HasDone, replies, sources, IsGiven, IsWholeRun, HasFedAll, HasWorked, AreWorked, BringFrom, HasLogged, HaveCalled, IsPlayed, every, fed_by, FindMemory, IsRunOf}
+use Rattle.std.proofs.Common.{All}
 use Rattle.serve_top.proofs.Filled.{same_filled, same_sources}
 use Rattle.serve_top.proofs.Scripting.{AreCalls, lines_of, lines_at, clients_low, behind_none, question, asked_last, asked_others, asked_own, asked_clients, next_same, outcomes_same, none_next, question_next, Parted, parted_at}
 

@@ -1,17 +1,5 @@
 -- The lines of calls, one behind another.
-use Rattle.std.proofs.Common.{◌≡◌, ◌+◌, ℕ, List, [], ◌∷◌, ◌++◌, length, map, ap, sym, ◌∙◌, subst}
-use Rattle.std.specs.List.{flat_map}
-use Rattle.std.proofs.lemmas.List.{append-nil, length-map, map-append}
-use Rattle.std.proofs.lemmas.List.Concat.{flat_map-append}
-use Rattle.emu_io.specs.Ends.{SinkEnd}
-use Rattle.dmx_calls.specs.Calls.{told_entry}
-use Rattle.dmx_calls.specs.Log.{LogEntry}
-use Rattle.dmx_calls.specs.declared.log.Entry.{Entry as ToldEntry}
-use Rattle.seats.specs.Numbered.{numbered}
-use Rattle.seats.proofs.Numbering.{as_step, numbered_both}
-use Rattle.serve_top.specs.declared.written.Written.{Written}
-use Rattle.serve_top.specs.Lines.{call_line, HasWritten}
-use Rattle.serve_top.specs.Inside.Writing.{written_then}
+use Rattle.serve_top.proofs.Imports.{◌≡◌, ◌+◌, ℕ, List, [], ◌∷◌, ◌++◌, length, map, ap, sym, ◌∙◌, subst, flat_map, append-nil, length-map, map-append, flat_map-append, SinkEnd, told_entry, LogEntry, ToldEntry, numbered, as_step, numbered_both, Written, call_line, HasWritten, written_then}
 
 -- these calls as they are written
 abbrev pub lines_from : (before : ℕ) → List ToldEntry → List ℕ

@@ -1,35 +1,5 @@
 -- From what the threads have left to what the report tells.
-use Rattle.std.proofs.Common.{Vec, Global, ◌≡◌, ◌≢◌, ◌≤◌, ◌<◌, ◌-◌, ◌^◌, ◌+◌, ℕ, length, None, refl, sym, Bool, true, false, List, [], ◌∷◌, ◌++◌, map, replicate, reverse, Option, ap, ◌∙◌, subst, arith}
-use Rattle.std.specs.Prelude.{slice_index_or, option_map, All}
-use Rattle.std.proofs.lemmas.List.{get_or-replicate, length-map}
-use Rattle.std.proofs.lemmas.Option.{slice_get-map, slice_get-get_or}
-use Rattle.adapter.specs.Nodes.{is_in}
-use Rattle.dmx_calls.specs.declared.limits.TheConstants.{DEMUX_NODES}
-use Rattle.std.specs.Io.KnownBytes.{Appends}
-use Rattle.emu_io.specs.Ends.{SourceEnd, SinkEnd}
-use Rattle.atomic_table.specs.Seated.{TableId}
-use Rattle.ts_packet.specs.Cut.{cut}
-use Rattle.ts_packet.specs.declared.size.PacketSize.{PacketSize}
-use Rattle.ts_packet.specs.declared.size.PacketSize.TheVariants.{Of188}
-use Rattle.ts_watch.specs.Head.{told_head, head_of}
-use Rattle.feed_pull.specs.declared.fault.Reading.TheVariants.{Going, TooMany}
-use Rattle.feed_pull.specs.Pulling.{Pulling, Pulls, IsDone, has_failed}
-use Rattle.dmx_calls.specs.declared.outcome.Outcome.{Outcome}
-use Rattle.report_text.specs.Report.{report_of}
-use Rattle.adapter.specs.Callers.{Caller, IsSameCaller, AreFreshCallers, AreAllCallers}
-use Rattle.workers.specs.declared.feeder_worker.FeederWorker.{FeederWorker}
-use Rattle.workers.specs.Feeding.{HasFedAll}
-use Rattle.workers.specs.Telling.{HaveCalled}
-use Rattle.workers.specs.Inside.FeederWork.{HasPassed, HasPassedAll, HasFedToEnd, MayPass}
-use Rattle.workers.proofs.Beginning.{begun_feeder, begun_passed}
-use Rattle.workers.proofs.FeederWork.{as_named}
-use Rattle.client_script.specs.Script.{plain}
-use Rattle.workers.proofs.Leaving.{worked_feeder, no_stop}
-use Rattle.seats.specs.declared.run.Desk.{Desk}
-use Rattle.seats.specs.Seated.{log_of, AreOnNodes, IsReady, AreReady}
-use Rattle.seats.specs.Served.{HaveServed}
-use Rattle.serve_top.specs.declared.left.Left.{Left}
-use Rattle.serve_top.specs.Reported.{every, fed_by, HasReported, IsNewFeeder, IsLeftBy}
+use Rattle.serve_top.proofs.Imports.{Vec, Global, ◌≡◌, ◌≢◌, ◌≤◌, ◌<◌, ◌-◌, ◌^◌, ◌+◌, ℕ, length, None, refl, sym, Bool, true, false, List, [], ◌∷◌, ◌++◌, map, replicate, reverse, Option, ap, ◌∙◌, subst, arith, slice_index_or, option_map, All, get_or-replicate, length-map, slice_get-map, slice_get-get_or, is_in, DEMUX_NODES, Appends, SourceEnd, SinkEnd, TableId, cut, PacketSize, Of188, told_head, head_of, Going, TooMany, Pulling, Pulls, IsDone, has_failed, Outcome, report_of, Caller, IsSameCaller, AreFreshCallers, AreAllCallers, FeederWorker, HasFedAll, HaveCalled, HasPassed, HasPassedAll, HasFedToEnd, MayPass, begun_feeder, begun_passed, as_named, plain, worked_feeder, no_stop, Desk, log_of, AreOnNodes, IsReady, AreReady, HaveServed, Left, every, fed_by, HasReported, IsNewFeeder, IsLeftBy}
 use Rattle.serve_top.proofs.Playing.{is_run}
 use Rattle.serve_top.proofs.Streaming.{read_to}
 use Rattle.serve_top.proofs.Seating.{each_line, bring_none, have_called, have_left, have_answered, have_played, have_idled, commands_at, calls_at, the_script, still_callers, all_nodes}

@@ -1,29 +1,7 @@
 -- A script of which each client has given commands.
-use Rattle.std.proofs.Common.{◌≡◌, ◌≢◌, ℕ, zero, suc, ◌+◌, ◌<◌, ◌≤◌, eq-eqb, ne_eqb, List, [], ◌∷◌, ◌++◌, length, map, take, replicate, fold, max, Option, Some, None, refl, ap, sym, ◌∙◌, subst, arith}
-use Rattle.std.specs.Prelude.{slice_get, option_map, if◌then◌else◌}
-use Rattle.std.proofs.lemmas.List.{append-nil}
-use Rattle.std.proofs.lemmas.List.Concat.{flat_map-append}
-use mathlib.Core.Logic.{dite}
-use native.Mathlib.Decide.{ℕ_discrete}
-use Rattle.dmx_calls.specs.declared.outcome.Outcome.{Outcome}
-use Rattle.dmx_calls.specs.Response.{Response}
-use Rattle.client_script.specs.Script.{Scripted, plain, clients_of, clients_in}
-use Rattle.client_script.specs.declared.line.Line.{Line}
-use Rattle.client_script.specs.declared.line.Line.TheVariants.{Command as CommandLine}
-use Rattle.client_script.specs.declared.line.Target.TheVariants.{Dvr}
-use Rattle.client_script.specs.declared.line.Verb.{Verb}
+use Rattle.serve_top.proofs.Imports.{◌≡◌, ◌≢◌, ℕ, zero, suc, ◌+◌, ◌<◌, ◌≤◌, eq-eqb, ne_eqb, List, [], ◌∷◌, ◌++◌, length, map, take, replicate, fold, max, Option, Some, None, refl, ap, sym, ◌∙◌, subst, arith, slice_get, option_map, if◌then◌else◌, append-nil, flat_map-append, dite, ℕ_discrete, Outcome, Response, Scripted, plain, clients_of, clients_in, Line, CommandLine, Dvr, Verb, Want, Command, Deed, Once, ReadWait, Drain, GetStc, Write, Event, Batches, deed_of, commands_in, commands_among, commands_of, plays_of, Ended, Progress, progress_from, no_slots, next_event, outcome_by, outcome_of, outcomes, Exchange, with_reply, exchanges_after, stc, DoneCommand, commands_by}
 use Rattle.client_script.specs.declared.line.Verb.TheVariants as verb
-use Rattle.client_script.specs.declared.line.Want.{Want}
-use Rattle.client_core.specs.declared.command.Command.{Command}
-use Rattle.client_core.specs.declared.deed.Deed.{Deed}
-use Rattle.client_core.specs.declared.deed.Deed.TheVariants.{Once, ReadWait, Drain, GetStc, Write}
-use Rattle.client_core.specs.declared.event.Event.{Event}
-use Rattle.client_core.specs.Deeds.{Batches, deed_of}
-use Rattle.client_core.specs.Commands.{commands_in, commands_among, commands_of, plays_of}
-use Rattle.client_core.specs.Events.{Ended, Progress, progress, progress_from, no_slots, next_event}
-use Rattle.client_core.specs.Outcomes.{outcome_by, outcome_of, outcomes}
-use Rattle.client_core.specs.Stc.{Exchange, with_reply, exchanges_after, stc}
-use Rattle.seats.specs.Spelled.{DoneCommand, commands_by}
+use Rattle.client_core.specs.Events.{progress}
 
 -- ------ the lines of one client
 

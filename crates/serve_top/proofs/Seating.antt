@@ -1,37 +1,6 @@
 -- The seats at their end: what they have called, that they are still the adapter's callers, and that they own no node.
-use Rattle.std.proofs.Common.{◌≡◌, ⊎_elim, ℕ, Bool, true, ◌+◌, ◌≤◌, ◌^◌, List, [], ◌∷◌, ◌++◌, length, map, Some, refl, ap, sym, ◌∙◌, subst, arith, length-append, None}
-use Rattle.std.specs.Prelude.{slice_get, slice_index_or, option_map, reverse, All, Option}
-use Rattle.std.proofs.lemmas.Option.{slice_get-map, get_or_from_slice_get, slice_get_within}
-use Rattle.std.proofs.lemmas.List.{length-map, length-reverse}
-use Rattle.atomic_table.specs.Seated.{TableId}
-use Rattle.emu_io.specs.Ends.{SourceEnd, SinkEnd}
-use Rattle.dmx_calls.specs.declared.histories.Fed.{Fed}
-use Rattle.dmx_calls.specs.declared.limits.TheConstants.{DEMUX_NODES}
-use Rattle.dmx_calls.specs.declared.params.Input.{Input}
-use Rattle.dmx_calls.specs.Log.{LogEntry, Sources}
-use Rattle.dmx_calls.specs.declared.outcome.Outcome.{Outcome}
-use Rattle.client_script.specs.Script.{Scripted, plain}
-use Rattle.client_core.specs.declared.command.Command.{Command}
-use Rattle.client_core.specs.Commands.{commands_of, plays_of}
-use Rattle.adapter.specs.Callers.{Caller, IsSameCaller, AreFreshCallers, AreAllCallers}
-use Rattle.adapter.proofs.Everybody.{still_all}
-use Rattle.adapter.proofs.Lists.{at_place, at_end, one_value}
-use Rattle.workers.specs.Feeding.{HasFedAll}
-use Rattle.workers.specs.Logged.{BringFrom, IsLogged}
-use Rattle.workers.specs.Telling.{HasLogged, HaveCalled}
-use Rattle.workers.proofs.Beginning.{called_none}
-use Rattle.workers.proofs.Lists.{mapped}
-use Rattle.seats.specs.declared.run.Desk.{Desk}
-use Rattle.seats.specs.declared.seat.Seat.{Seat}
-use Rattle.seats.specs.Calls.{MakesCalls}
-use Rattle.seats.specs.Holding.{HasLeft}
-use Rattle.seats.specs.Seated.{log_of, AreOnNodes, AreReady, GoesOn}
-use Rattle.seats.specs.Served.{HasServed, HaveServed}
-use Rattle.seats.specs.Scripts.{IsPlayed}
-use Rattle.seats.specs.Spelled.{commands_by}
-use Rattle.seats.specs.Turns.{HasAnsweredAll, spelled}
-use Rattle.seats.proofs.Played.{answers_played, answers_idle}
-use Rattle.serve_top.specs.Reported.{every, fed_by, IsServed}
+use Rattle.serve_top.proofs.Imports.{◌≡◌, ⊎_elim, ℕ, Bool, true, ◌+◌, ◌≤◌, ◌^◌, List, [], ◌∷◌, ◌++◌, length, map, Some, refl, ap, sym, ◌∙◌, subst, arith, length-append, None, slice_get, slice_index_or, option_map, All, slice_get-map, get_or_from_slice_get, slice_get_within, length-map, length-reverse, TableId, SourceEnd, SinkEnd, Fed, DEMUX_NODES, Input, LogEntry, Sources, Outcome, Scripted, plain, Command, commands_of, plays_of, Caller, IsSameCaller, AreFreshCallers, AreAllCallers, still_all, at_place, at_end, one_value, HasFedAll, BringFrom, IsLogged, HasLogged, HaveCalled, called_none, mapped, Desk, Seat, MakesCalls, HasLeft, log_of, AreOnNodes, AreReady, GoesOn, HasServed, HaveServed, IsPlayed, commands_by, HasAnsweredAll, spelled, answers_played, answers_idle, every, fed_by, IsServed}
+use Rattle.std.specs.Prelude.{reverse, Option}
 use Rattle.serve_top.proofs.Scripting.{AreCalls, spelled_calls, lines_of, lines_at}
 use Rattle.serve_top.proofs.Logged.{same_calls, logged_calls, brings_calls}
 

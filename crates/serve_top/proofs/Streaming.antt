@@ -1,13 +1,6 @@
 -- How the stream was read.
-use Rattle.std.proofs.Common.{◌≡◌, ◌≢◌, inl, inr, ℕ, ◌+◌, ◌≤◌, ◌<◌, ◌^◌, List, [], ◌++◌, length, refl, sym, ap, ◌∙◌, arith}
-use Rattle.std.proofs.lemmas.Bool.{cases_lt}
-use Rattle.emu_io.specs.Ends.{SourceEnd}
-use Rattle.feed_pull.specs.declared.fault.Reading.{Reading}
-use Rattle.feed_pull.specs.declared.fault.Reading.TheVariants.{Going, Ended, Failed, TooMany}
-use Rattle.feed_pull.specs.Pulling.{Pulling, Pulls, has_failed}
-use Rattle.feed_pull.specs.Steps.{Follows}
-use Rattle.feed_pull.specs.Streams.{Draws}
-use Rattle.serve_top.specs.Read.{HasReadTo, HasReadTooOften}
+use Rattle.serve_top.proofs.Imports.{◌≡◌, ◌≢◌, inl, inr, ℕ, ◌+◌, ◌≤◌, ◌<◌, ◌^◌, List, [], ◌++◌, length, refl, sym, ap, ◌∙◌, arith, cases_lt, SourceEnd, Reading, Going, TooMany, Pulling, Pulls, has_failed, Follows, Draws, HasReadTo, HasReadTooOften}
+use Rattle.feed_pull.specs.declared.fault.Reading.TheVariants.{Ended, Failed}
 
 -- reading that has stopped, and not since too many reads were made
 pub read_to : (old new : Reading) (x y : SourceEnd) → Follows old new x y → old ≡ Going → new ≢ Going → new ≢ TooMany → HasReadTo (has_failed new) x y

@@ -101,10 +101,9 @@ fn handed_by<T: Drop, J: Drop>(
     ensures left { IfOk result (IsHandedBy passing desks.items) }
     ensures histories { IfOk result (λ _. HaveHistories (map (λ d. d.seat.client) desks.items ++ passing.feeder ∷ [])) }
 {
-    let Passing { feeder, puller, .. } = passing;
+    let head = passing.puller.head(alloc)?;
     let (clients, journals) = parts_of(alloc, desks)?;
-    let head = puller.head(alloc)?;
-    adapter.gather(feeder, clients);
+    adapter.gather(passing.feeder, clients);
     Ok(Handed { head, journals })
 }
 

@@ -70,22 +70,17 @@ pub fn left_by<T: Drop>(
     requires nodes { All (λ d. AreOnNodes (log_of d.seat)) desks.items }
     ensures { IfOk result (IsLeftBy feeder desks.items) }
 {
-    let FeederWorker {
-        feeder,
-        puller,
-        feeding,
-        ..
-    } = feeder;
-    let books = books_of(alloc, desks)?;
+    let head = feeder.puller.head(alloc)?;
     let Books {
         clients,
         logs,
         outcomes,
-    } = books;
-    let head = puller.head(alloc)?;
+    } = books_of(alloc, desks)?;
+    let (feeder, feeding) = feeder.into_parts();
+    let histories = histories_of_run(alloc, adapter, feeder, clients, feeding, logs)?;
     Ok(Left {
         head,
         outcomes,
-        histories: histories_of_run(alloc, adapter, feeder, clients, feeding, logs)?,
+        histories,
     })
 }

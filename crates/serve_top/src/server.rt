@@ -21,13 +21,13 @@ use thiserror::Error;
 #[derive(Clone, Copy, Debug, PartialEq, Eq, Drop, Error)]
 pub enum NoReport {
     /// Memory was refused, which no clause ties to a cause. Nothing was written.
-    #[error("out of memory")]
+    #[error("there is no memory")]
     NoMemory,
-    /// The source was read 4,294,967,296 times, each time of a byte at least, and not to its end. Nothing was written.
-    #[error("too long")]
+    /// At least 4,294,967,296 bytes of the source were read: one at least by each of as many reads. Nothing was written.
+    #[error("the stream was read too often")]
     TooLong,
     /// A write failed. A part of the report was written, from its front on.
-    #[error("write failed")]
+    #[error("what was called can't be written")]
     Failed,
 }
 

@@ -1,10 +1,6 @@
 -- The word `steps` alone asks for the serial run, so `serial` may be called with it.
-use Rattle.std.proofs.Common.{◌≡◌, ◌≢◌, refl, sym, ap, ◌∙◌, ℕ, List, [], ◌∷◌, codes}
-use Rattle.std.specs.Prelude.{Option, Some}
-use Rattle.ts_packet.specs.declared.size.PacketSize.{PacketSize}
-use Rattle.ts_packet.specs.declared.size.PacketSize.TheVariants.{Of188}
-use Rattle.command_words.specs.declared.Command.{Command}
-use Rattle.command_words.specs.declared.Command.TheVariants.{Steps, Run}
+use Rattle.tests_runs.proofs.Imports.{◌≡◌, ◌≢◌, refl, sym, ap, ◌∙◌, ℕ, List, [], ◌∷◌, codes, Option, PacketSize, Of188, Command, Steps, Run}
+use Rattle.std.specs.Prelude.{Some}
 use Rattle.command_words.specs.Meant.{meant, command_of, steps_of, options_of, options_by, texts_by}
 
 -- the word means batches of at most 64 packets, each of which takes up 188 bytes

@@ -1,3 +1,3 @@
-pub mod Two
 pub mod Parity
 pub mod Alone
+pub mod Imports

@@ -1,13 +1,5 @@
 -- Passes of a new lock that have made calls and are joined into two of them.
-use Rattle.std.proofs.Common.{◌≡◌, ◌⊎◌, ℕ, ◌+◌, ◌<◌, ◌^◌, List, [], ◌∷◌, ◌++◌, length, slice_get, inl, inr, ⊎_elim, ap, sym, ◌∙◌, subst, arith, length-append}
-use mathlib.Core.Logic.{dite}
-use native.Mathlib.Decide.{ℕ_discrete}
-use Rattle.atomic_table.specs.Seated.{TableId}
-use Rattle.node_lock.specs.declared.view.View.{View}
-use Rattle.lemmas.specs.Lists.{Has}
-use Rattle.lemmas.proofs.Lists.{has_left, has_right}
-use Rattle.node_lock.specs.Passes.{IsSamePass, IsFresh, AreFresh}
-use Rattle.adapter.proofs.Lists.{at_last, at_before}
+use Rattle.tests_runs.proofs.Imports.{◌≡◌, ◌⊎◌, ℕ, ◌+◌, ◌<◌, ◌^◌, List, [], ◌∷◌, ◌++◌, length, slice_get, inl, inr, ⊎_elim, ap, sym, ◌∙◌, subst, arith, length-append, dite, ℕ_discrete, TableId, View, Has, has_left, has_right, IsSamePass, IsFresh, AreFresh, at_last, at_before}
 
 module _ {N : Type 0} (t : TableId) (n : ℕ) where
   -- how far passes are joined into two of them

@@ -1,6 +1,5 @@
 -- The numbers below one more.
-use Rattle.std.proofs.Common.{◌≡◌, ◌+◌, ◌++◌, refl, ℕ, [], ◌∷◌}
-use Rattle.std.proofs.Math.Numerals.{add-one}
+use Rattle.text_forms.proofs.Imports.{◌≡◌, ◌+◌, ◌++◌, refl, ℕ, [], ◌∷◌, add-one}
 use Rattle.filter_match.specs.Match.{numbers_below}
 
 pub below_more : (n : ℕ) → numbers_below (n + 1) ≡ numbers_below n ++ n ∷ []

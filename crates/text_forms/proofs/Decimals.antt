@@ -1,11 +1,6 @@
 -- A number that is written in decimal digits is read again.
-use Rattle.std.proofs.Common.{◌≡◌, ◌<◌, ◌≤◌, ◌^◌, refl, ℕ, zero, suc, [], ◌∷◌, true, false, length, get_or, Some, arith}
-use Rattle.std.proofs.lemmas.Bool.Decides.{nat_tests}
-use Rattle.std.proofs.lemmas.Str.Parse.{IsNumeralModel, FoldsDigits, numerals_by_fold, tells_all_ascii_digits}
-use Rattle.std.proofs.lemmas.Fmt.{digits_decimal, digits_value-decimal, decimal_nonempty, first_decimal, decimal_digit}
-use Rattle.std.specs.Fmt.{decimal}
-use Rattle.std.specs.Str.{all_ascii_digits}
-use Rattle.text_forms.specs.Numbers.{has_leading_zero, is_number, value_after, value_of, number_between}
+use Rattle.text_forms.proofs.Imports.{◌≡◌, ◌<◌, ◌≤◌, ◌^◌, refl, ℕ, zero, suc, [], ◌∷◌, true, false, length, get_or, Some, arith, nat_tests, IsNumeralModel, FoldsDigits, numerals_by_fold, tells_all_ascii_digits, digits_decimal, digits_value-decimal, decimal_nonempty, first_decimal, decimal_digit, decimal, all_ascii_digits, has_leading_zero, is_number, value_of, number_between}
+use Rattle.text_forms.specs.Numbers.{value_after}
 
 folds : FoldsDigits value_after
 unfolding value_after

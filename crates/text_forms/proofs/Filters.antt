@@ -1,12 +1,6 @@
 -- What stays a filter of sixteen places of bytes.
-use Rattle.std.proofs.Common.{refl, ◌∙◌, ◌<◌, replicate, arith}
-use Rattle.std.proofs.lemmas.List.{length-set}
-use Rattle.std.proofs.lemmas.List.Elements.{All-replicate, All-set}
-use Rattle.std.specs.List.{All}
-use Rattle.filter_match.specs.declared.filter.SectionFilter.{SectionFilter}
-use Rattle.filter_match.specs.declared.filter.Place.{Place}
+use Rattle.text_forms.proofs.Imports.{refl, ◌∙◌, ◌<◌, replicate, arith, length-set, All-replicate, All-set, All, SectionFilter, Place, HasBytes, IsFilter}
 use Rattle.filter_match.specs.Places.{with_place}
-use Rattle.text_forms.specs.Places.{HasBytes, IsFilter}
 
 -- a filter with one more place is a filter
 pub with_place-IsFilter : (f : SectionFilter) (place : Place) → IsFilter f → HasBytes place → IsFilter (with_place f place)

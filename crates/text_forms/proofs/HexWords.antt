@@ -1,12 +1,6 @@
 -- Words of hexadecimal digits, pair by pair, and that bytes in such digits are read again.
-use Rattle.std.proofs.Common.{◌≡◌, ◌≢◌, ◌<◌, ◌≤◌, ◌+◌, ◌-◌, ◌/◌, ◌%◌, refl, ap, sym, ◌∙◌, ℕ, zero, suc, List, [], ◌∷◌, ◌++◌, length, take, drop, get_or, Bool, true, false, Option, Some, None, arith, append_assoc, append-nil, length-append}
-use Rattle.std.proofs.lemmas.Bool.Decides.{nat_tests}
-use Rattle.std.proofs.lemmas.List.Elements.{All-head, All-tail}
-use Rattle.std.proofs.lemmas.List.{take_all}
-use Rattle.std.specs.Prelude.{◌==◌}
-use Rattle.std.specs.List.{All}
-use Rattle.std.specs.Option.{option_map}
-use Rattle.text_forms.specs.Hex.{hex_byte, hex_bytes, digit_text, hex_text}
+use Rattle.text_forms.proofs.Imports.{◌≡◌, ◌≢◌, ◌<◌, ◌≤◌, ◌+◌, ◌-◌, ◌/◌, ◌%◌, refl, ap, sym, ◌∙◌, ℕ, zero, suc, List, [], ◌∷◌, ◌++◌, length, take, drop, get_or, Bool, true, false, Option, Some, None, arith, append_assoc, append-nil, length-append, nat_tests, All-head, All-tail, take_all, ◌==◌, All, option_map, hex_byte, digit_text, hex_text}
+use Rattle.text_forms.specs.Hex.{hex_bytes}
 use Rattle.text_forms.proofs.HexPairs.{hex_byte-byte_text}
 
 pub pair_some : (high low byte left : ℕ) (rest : List ℕ) → hex_byte high low ≡ Some byte → hex_bytes (suc left) (high ∷ low ∷ rest) ≡ option_map (λ bytes. byte ∷ bytes) (hex_bytes left rest)

@@ -10,3 +10,4 @@ pub mod Values
 pub mod Visible
 pub mod WordsRead
 pub mod Short
+pub mod Imports

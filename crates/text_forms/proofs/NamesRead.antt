@@ -1,13 +1,6 @@
 -- Names that are written are read again.
-use Rattle.std.proofs.Common.{◌≡◌, ◌<◌, ◌≤◌, ◌+◌, ◌-◌, refl, ap, ℕ, List, [], ◌∷◌, Bool, true, false, Some, codes, arith}
-use Rattle.std.proofs.lemmas.Bool.Decides.{nat_tests}
-use Rattle.std.specs.Prelude.{◌==◌, ◌&&◌}
-use Rattle.std.specs.Str.{all_ascii_digits}
-use Rattle.std.specs.Char.{is_ascii_digit}
-use Rattle.std.specs.Fmt.{decimal}
-use Rattle.text_forms.specs.Numbers.{number_between}
-use Rattle.text_forms.specs.Words.{is_word}
-use Rattle.text_forms.specs.Names.{numbered, client_text, client_named, demux_text, demux_named, slot_text, slot_named, who_text, who_named, node_text, node_named}
+use Rattle.text_forms.proofs.Imports.{◌≡◌, ◌<◌, ◌≤◌, ◌+◌, ◌-◌, refl, ap, ℕ, List, [], ◌∷◌, Bool, true, false, Some, codes, arith, nat_tests, ◌==◌, ◌&&◌, all_ascii_digits, is_ascii_digit, decimal, number_between, is_word, client_text, client_named, demux_text, demux_named, slot_text, slot_named}
+use Rattle.text_forms.specs.Names.{numbered, who_text, who_named, node_text, node_named}
 use Rattle.text_forms.proofs.Decimals.{decimal-digits, number_between-decimal}
 
 pub client_named-client_text : (client : ℕ) → client ≤ 7 → client_named (client_text client) ≡ Some client

@@ -1,10 +1,6 @@
 -- The words of inputs and outputs are short.
-use Rattle.std.proofs.Common.{◌≤◌, length, arith}
+use Rattle.text_forms.proofs.Imports.{◌≤◌, length, arith, Input, Frontend, Dvr, Output, Decoder, Tap, TsTap, TsdemuxTap}
 use Rattle.dmx_calls.specs.Names.{input_text, output_text}
-use Rattle.dmx_calls.specs.declared.params.Input.{Input}
-use Rattle.dmx_calls.specs.declared.params.Input.TheVariants.{Frontend, Dvr}
-use Rattle.dmx_calls.specs.declared.params.Output.{Output}
-use Rattle.dmx_calls.specs.declared.params.Output.TheVariants.{Decoder, Tap, TsTap, TsdemuxTap}
 
 pub short_input : (input : Input) → length (input_text input) ≤ 20
 unfolding input_text

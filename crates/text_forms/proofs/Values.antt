@@ -1,7 +1,6 @@
 -- A number never gets smaller as more digits are read.
-use Rattle.std.proofs.Common.{◌≡◌, ℕ, List, [], ◌∷◌, ◌+◌, ◌*◌, ◌-◌, ◌≤◌, ◌<◌, length, slice_index_or, None, arith}
-use Rattle.std.proofs.lemmas.Bool.Decides.{nat_tests}
-use Rattle.text_forms.specs.Numbers.{value_after, value_of, number_between}
+use Rattle.text_forms.proofs.Imports.{◌≡◌, ℕ, List, [], ◌∷◌, ◌+◌, ◌*◌, ◌-◌, ◌≤◌, ◌<◌, length, slice_index_or, None, arith, nat_tests, value_of, number_between}
+use Rattle.text_forms.specs.Numbers.{value_after}
 
 pub value_after-le : (n : ℕ) (digits : List ℕ) → n ≤ value_after n digits
 unfolding value_after

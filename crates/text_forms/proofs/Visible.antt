@@ -1,20 +1,8 @@
 -- The bytes of words stand behind the space in ASCII: they are no spaces and no line feeds.
-use Rattle.std.proofs.Common.{◌≡◌, ◌<◌, ◌^◌, ◌/◌, ◌%◌, refl, ℕ, List, [], ◌∷◌, ◌++◌, Bool, true, codes, arith}
-use Rattle.std.proofs.lemmas.Bool.Decides.{nat_tests}
-use Rattle.std.proofs.lemmas.List.Elements.{All-nil, All-cons, All-append}
-use Rattle.std.specs.List.{All, list_all}
-use Rattle.std.specs.Prelude.{◌&&◌, nat_lt}
-use Rattle.std.specs.Str.{all_ascii_digits}
-use Rattle.std.specs.Fmt.{decimal}
-use Rattle.std.specs.Char.{is_ascii_digit}
-use Rattle.dmx_calls.specs.declared.params.Input.{Input}
+use Rattle.text_forms.proofs.Imports.{◌≡◌, ◌<◌, ◌^◌, ◌/◌, ◌%◌, refl, ℕ, List, [], ◌∷◌, ◌++◌, Bool, true, codes, arith, nat_tests, All-nil, All-cons, All-append, All, list_all, ◌&&◌, nat_lt, all_ascii_digits, decimal, is_ascii_digit, Input, Output, Place, digit_text, byte_text, hex_text, place_text}
 use Rattle.dmx_calls.specs.declared.params.Input.TheVariants as input
-use Rattle.dmx_calls.specs.declared.params.Output.{Output}
 use Rattle.dmx_calls.specs.declared.params.Output.TheVariants as output
-use Rattle.filter_match.specs.declared.filter.Place.{Place}
 use Rattle.dmx_calls.specs.Names.{input_text, output_text}
-use Rattle.text_forms.specs.Hex.{digit_text, byte_text, hex_text}
-use Rattle.text_forms.specs.Places.{place_text}
 use Rattle.text_forms.proofs.Decimals.{decimal-digits}
 
 -- a byte behind the space, which is byte 32

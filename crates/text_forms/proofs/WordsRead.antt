@@ -1,8 +1,6 @@
 -- The words of inputs and outputs are read again, and have no space.
-use Rattle.std.proofs.Common.{◌≡◌, refl, Some}
-use Rattle.dmx_calls.specs.declared.params.Input.{Input}
+use Rattle.text_forms.proofs.Imports.{◌≡◌, refl, Some, Input, Output}
 use Rattle.dmx_calls.specs.declared.params.Input.TheVariants as input
-use Rattle.dmx_calls.specs.declared.params.Output.{Output}
 use Rattle.dmx_calls.specs.declared.params.Output.TheVariants as output
 use Rattle.dmx_calls.specs.Names.{input_text, output_text}
 use Rattle.text_forms.specs.Words.{input_named, output_named}

@@ -1,3 +1,4 @@
 pub mod Places
 pub mod Members
 pub mod Named
+pub mod Imports

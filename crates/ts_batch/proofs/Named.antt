@@ -1,11 +1,5 @@
 -- A set of PIDs names a packet where one of the PIDs does.
-use Rattle.std.proofs.Common.{◌≡◌, ℕ, Bool, true, false, ◌||◌, nat_eq, List, [], ◌∷◌, refl}
-use Rattle.std.specs.List.{list_any}
-use Rattle.lemmas.proofs.Tests.{nat_eq_turned}
-use Rattle.ts_packet.specs.Fields.{pid_of}
-use Rattle.pid_set.specs.declared.set.TheConstants.{ALL_PACKETS}
-use Rattle.pid_set.specs.Pids.{names_pid}
-use Rattle.ts_batch.specs.Places.{names}
+use Rattle.ts_batch.proofs.Imports.{◌≡◌, ℕ, Bool, true, false, ◌||◌, nat_eq, List, [], ◌∷◌, refl, list_any, nat_eq_turned, pid_of, ALL_PACKETS, names_pid, names}
 
 both-or : (a b c d : Bool) → ((a || b) || (c || d)) ≡ ((a || c) || (b || d))
 both-or true b c d = refl

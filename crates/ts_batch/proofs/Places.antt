@@ -1,19 +1,6 @@
 -- Places, packet by packet.
-use Rattle.std.proofs.Common.{◌≡◌, ℕ, zero, suc, ◌+◌, ◌-◌, ◌<◌, ◌≤◌, Bool, true, false, ◌||◌, nat_eq, List, [], ◌∷◌, ◌++◌, length, get_or, take, drop, slice_range, refl, sym, ap, ◌∙◌, arith, append_assoc, append-nil, inl, inr}
-use Rattle.std.specs.Prelude.{All}
-use Rattle.std.proofs.lemmas.List.{drop_more, drop_all, take_all, take-append-le, drop-append-le, length-append, length-drop}
-use Rattle.std.proofs.Math.Seq.{drop-append_seam}
-use Rattle.std.proofs.lemmas.List.Folds.{list_any-append}
-use Rattle.std.proofs.lemmas.List.Elements.{All-append}
-use Rattle.std.proofs.lemmas.Bool.Decides.{nat_tests}
-use Rattle.std.proofs.lemmas.Bool.{cases_eq}
-use Rattle.std.proofs.Math.Bool.{or-true, or-false}
-use Rattle.ts_packet.specs.Fields.{pid_of}
-use Rattle.pid_set.specs.declared.set.TheConstants.{ALL_PACKETS}
-use Rattle.ts_batch.specs.declared.index.Run.{Run}
-use Rattle.ts_batch.specs.declared.index.Index.{Index}
-use Rattle.ts_batch.specs.Places.{names, places_from, places_of}
-use Rattle.ts_batch.specs.Inside.IsIndex.{has_run, IsRun, IsIndex}
+use Rattle.ts_batch.proofs.Imports.{◌≡◌, ℕ, zero, suc, ◌+◌, ◌-◌, ◌<◌, ◌≤◌, Bool, true, false, ◌||◌, nat_eq, List, [], ◌∷◌, ◌++◌, length, get_or, take, drop, slice_range, refl, sym, ap, ◌∙◌, arith, append_assoc, append-nil, inl, inr, All, drop_more, drop_all, take_all, take-append-le, drop-append-le, length-append, length-drop, drop-append_seam, list_any-append, All-append, nat_tests, cases_eq, or-true, or-false, pid_of, ALL_PACKETS, Run, Index, names, places_of, has_run, IsRun, IsIndex}
+use Rattle.ts_batch.specs.Places.{places_from}
 
 module _ (test : List ℕ → Bool) (items : List ℕ) (packets : List (List ℕ)) (i : ℕ) (d : List ℕ) (within : i < length packets) where
   -- a packet that passes

@@ -1,11 +1,6 @@
 -- The laws of clean packets.
-use Rattle.std.specs.Prelude.{if◌then◌else◌}
-use Rattle.std.proofs.Common.{◌≡◌, ℕ, Bool, true, false, List, [], ◌∷◌, ◌++◌, Option, Some, None, refl, ap, ◌∙◌, arith, eqb}
-use Rattle.std.specs.List.{last_or}
-use Rattle.std.specs.Cmp.Lexicographic.{pointwise, bytes_decides}
-use Rattle.std.specs.Cmp.{second_so}
-use Rattle.ts_packet.specs.Fields.{counter_of}
-use Rattle.ts_packet.specs.Clean.{carried, repeats, without_repeats_after}
+use Rattle.ts_packet.proofs.Imports.{if◌then◌else◌, ◌≡◌, ℕ, Bool, true, false, List, [], ◌∷◌, ◌++◌, Option, Some, None, refl, ap, ◌∙◌, arith, eqb, last_or, pointwise, bytes_decides, second_so, counter_of, carried, repeats}
+use Rattle.ts_packet.specs.Clean.{without_repeats_after}
 
 -- the parts of a repeat
 pub repeats-counter : (p q : List ℕ) → repeats p q ≡ true → counter_of p ≡ counter_of q

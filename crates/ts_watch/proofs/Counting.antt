@@ -1,15 +1,8 @@
 -- How the counts of a list of packets change with one packet behind it.
-use Rattle.std.specs.Prelude.{if◌then◌else◌}
-use Rattle.std.proofs.Common.{◌≡◌, ℕ, ◌+◌, ◌-◌, ◌≤◌, ◌==◌, Bool, true, false, List, [], ◌∷◌, ◌++◌, length, Option, Some, None, refl, sym, ◌∙◌, arith, length-append}
-use Rattle.std.proofs.lemmas.List.{append-nil}
-use Rattle.std.proofs.lemmas.List.Elements.{filter-append}
-use Rattle.std.specs.List.{filter, last_or}
-use Rattle.ts_packet.specs.Fields.{pid_of, error_bit, has_payload}
-use Rattle.ts_packet.specs.Clean.{is_usable, repeats, joins, without_repeats_after, clean}
-use Rattle.ts_packet.specs.Counts.{is_of, is_error_of, breaks_after, counts}
-use Rattle.ts_packet.proofs.CleanLemmas.{clean-append, last-clean, AreAlike}
-use Rattle.ts_watch.specs.declared.seen.Seen.{Seen}
-use Rattle.ts_watch.specs.Watching.{kept_of, after}
+use Rattle.ts_watch.proofs.Imports.{if◌then◌else◌, ◌≡◌, ℕ, ◌+◌, ◌-◌, ◌≤◌, ◌==◌, Bool, true, false, List, [], ◌∷◌, ◌++◌, length, Option, Some, None, refl, sym, ◌∙◌, arith, length-append, append-nil, filter-append, filter, last_or, pid_of, error_bit, has_payload, is_usable, repeats, joins, is_of, is_error_of, clean-append, last-clean, AreAlike, Seen, kept_of}
+use Rattle.ts_packet.specs.Clean.{without_repeats_after, clean}
+use Rattle.ts_packet.specs.Counts.{breaks_after, counts}
+use Rattle.ts_watch.specs.Watching.{after}
 
 -- one packet behind a list
 filter-yes : (f : List ℕ → Bool) (ps : List (List ℕ)) (p : List ℕ) → f p ≡ true → filter f (ps ++ p ∷ []) ≡ filter f ps ++ p ∷ []

@@ -1,3 +1,4 @@
 pub mod HeadLemmas
 pub mod Counting
 pub mod Places
+pub mod Imports

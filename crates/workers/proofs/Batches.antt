@@ -1,15 +1,6 @@
 -- The feeder's batches are those of a run.
-use Rattle.std.proofs.Common.{◌≡◌, ℕ, Bool, ◌+◌, ◌≤◌, List, [], ◌∷◌, map, sum, get_or, All, arith}
-use Rattle.std.specs.Prelude.{IsTrue}
-use Rattle.std.specs.List.{AllByRecursion}
-use Rattle.std.proofs.lemmas.List.Elements.{All-head, All-tail}
-use Rattle.std.proofs.lemmas.List.Sums.{sum_by-cons}
-use Rattle.std.proofs.lemmas.Option.{slice_get-get_or}
-use Rattle.dmx_calls.specs.declared.histories.Fed.{Fed}
-use Rattle.dmx_calls.specs.Histories.{feeder_acts}
-use Rattle.script_run.specs.IsRun.{Batch}
-use Rattle.script_run.specs.WholeRun.{IsGiven}
-use Rattle.workers.specs.Feeding.{Tiles, batch_of}
+use Rattle.workers.proofs.Imports.{◌≡◌, ℕ, Bool, ◌+◌, ◌≤◌, List, [], ◌∷◌, map, sum, get_or, arith, IsTrue, AllByRecursion, All-head, All-tail, sum_by-cons, slice_get-get_or, Fed, feeder_acts, Batch, IsGiven, Tiles, batch_of}
+use Rattle.std.proofs.Common.{All}
 use Rattle.workers.proofs.Members.{all_at}
 
 sizes_are : (most first end : ℕ) (fs : List Fed) → Tiles most first end fs → AllByRecursion (λ (b : Batch). (1 ≤ b.size) × (b.size ≤ most)) (map batch_of fs)

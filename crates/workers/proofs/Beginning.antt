@@ -1,34 +1,7 @@
 -- The workers before the first call.
-use Rattle.std.proofs.Common.{◌≡◌, ◌≢◌, inr, ℕ, Bool, true, false, ◌+◌, ◌≤◌, ◌^◌, List, [], ◌∷◌, ◌++◌, length, map, Some, refl, ap, sym, ◌∙◌, subst, arith}
-use Rattle.std.specs.Prelude.{slice_get, option_map, All, IsTrue, if◌then◌else◌}
-use Rattle.emu_io.specs.Ends.{SourceEnd}
-use Rattle.std.proofs.lemmas.Option.{slice_get-map, slice_get_within}
-use Rattle.std.proofs.lemmas.List.Elements.{All-nil}
-use Rattle.atomic_table.specs.Seated.{TableId}
-use Rattle.node_lock.specs.declared.view.View.{View}
-use Rattle.dmx_calls.specs.History.{Entry}
-use Rattle.dmx_calls.specs.Calls.{told_entry}
-use Rattle.dmx_calls.specs.Log.{LogEntry}
+use Rattle.workers.proofs.Imports.{◌≡◌, ◌≢◌, inr, ℕ, Bool, true, false, ◌+◌, ◌≤◌, ◌^◌, List, [], ◌∷◌, ◌++◌, length, map, Some, refl, ap, sym, ◌∙◌, subst, arith, option_map, All, IsTrue, if◌then◌else◌, SourceEnd, slice_get-map, slice_get_within, All-nil, TableId, View, Entry, told_entry, LogEntry, Fed, ToldEntry, Scripted, MOST_CALLS, IsAfter, replies, IsGiven, Caller, IsFreshCaller, AreFreshCallers, AreAllCallers, Fits, at_place, at_before, at_last, AreOnNodes, ClientWorker, FeederWorker, IsLogged, HasCalled, IsFit, IsWorking, AreFreshWorkers, AreFullBatches, HasFed, HasMade, IsFitFeeder, HasPassed, draws_none}
+use Rattle.std.specs.Prelude.{slice_get}
 use Rattle.dmx_calls.specs.Response.{NoMemory}
-use Rattle.dmx_calls.specs.declared.histories.Fed.{Fed}
-use Rattle.dmx_calls.specs.declared.log.Entry.{Entry as ToldEntry}
-use Rattle.client_script.specs.Script.{Scripted}
-use Rattle.client_core.specs.declared.stop.TheConstants.{MOST_CALLS}
-use Rattle.client_core.specs.Inside.Core.{IsAfter}
-use Rattle.script_run.specs.IsRun.{replies}
-use Rattle.script_run.specs.WholeRun.{IsGiven}
-use Rattle.adapter.specs.Callers.{Caller, IsFreshCaller, AreFreshCallers, AreAllCallers}
-use Rattle.adapter.specs.Rows.{Fits}
-use Rattle.adapter.proofs.Lists.{at_place, at_before, at_last}
-use Rattle.adapter.specs.Merging.{AreOnNodes}
-use Rattle.workers.specs.declared.client_worker.ClientWorker.{ClientWorker}
-use Rattle.workers.specs.declared.feeder_worker.FeederWorker.{FeederWorker}
-use Rattle.workers.specs.Logged.{IsLogged, HasCalled}
-use Rattle.workers.specs.Inside.Working.{IsFit, IsWorking}
-use Rattle.workers.specs.Inside.Begun.{AreFreshWorkers}
-use Rattle.workers.specs.Feeding.{AreFullBatches, HasFed, HasMade}
-use Rattle.workers.specs.Inside.FeederWork.{IsFitFeeder, HasPassed}
-use Rattle.feed_pull.proofs.Drawing.{draws_none}
 
 module _ (locks : List TableId) (callers who left : ℕ) (c : Caller) (f : IsFreshCaller locks callers who left c) where
   -- a pass that has made no call

@@ -1,26 +1,6 @@
 -- A client of a run by threads keeps to its budget, at each moment.
-use Rattle.std.proofs.Common.{◌≡◌, refl, sym, subst, ◌∙◌, ℕ, ◌+◌, ◌*◌, ◌<◌, ◌≤◌, Bool, true, false, List, [], ◌∷◌, ◌++◌, length, take, slice_get, Some, inl, inr, arith}
-use Rattle.std.specs.Prelude.{◌⊎◌, if◌then◌else◌}
-use Rattle.std.proofs.lemmas.Option.{slice_get_within}
-use Rattle.lemmas.proofs.Lists.{has_at}
-use Rattle.dmx_calls.specs.declared.histories.Fed.{Fed}
-use Rattle.dmx_calls.specs.declared.limits.TheConstants.{DEMUX_NODES}
-use Rattle.dmx_calls.specs.History.{Entry}
-use Rattle.dmx_calls.specs.Log.{LogEntry}
-use Rattle.client_script.specs.Script.{clients_in, Scripted}
-use Rattle.script_run.specs.Budget.{all_commands, bytes_written, most_calls}
-use Rattle.script_run.specs.SoFar.{others as Others}
-use Rattle.script_run.proofs.Paying.{calls_are_paid}
-use Rattle.adapter.specs.Callers.{Caller}
-use Rattle.adapter.specs.Nodes.{ended}
-use Rattle.adapter.proofs.Lists.{at_place, one_value}
-use Rattle.adapter.specs.Ends.{HaveHistories}
-use Rattle.atomic_table.specs.Seated.{TableId}
-use Rattle.node_lock.specs.declared.view.View.{View}
-use Rattle.script_run.specs.IsRun.{replies, sources}
-use Rattle.workers.specs.Budget.{IsRunning, CallsAreWithinBudget, FewBytesAreFewCalls, ManyCallsAreTooLong}
-use Rattle.workers.specs.Feeding.{HasMade, fed_entries}
-use Rattle.workers.specs.Telling.{HasLogged, IsLoggedIn}
+use Rattle.workers.proofs.Imports.{◌≡◌, refl, sym, subst, ◌∙◌, ℕ, ◌+◌, ◌*◌, ◌<◌, ◌≤◌, Bool, true, false, List, [], ◌∷◌, ◌++◌, length, take, slice_get, Some, inl, inr, arith, if◌then◌else◌, slice_get_within, has_at, Fed, DEMUX_NODES, Entry, LogEntry, clients_in, Scripted, all_commands, bytes_written, most_calls, Others, calls_are_paid, Caller, ended, at_place, one_value, HaveHistories, TableId, View, replies, sources, IsRunning, CallsAreWithinBudget, FewBytesAreFewCalls, ManyCallsAreTooLong, HasMade, fed_entries, HasLogged, IsLoggedIn}
+use Rattle.std.specs.Prelude.{◌⊎◌}
 use Rattle.workers.proofs.Calls.{has_all}
 use Rattle.workers.proofs.Feeders.{behind_of, acts_of, fed_is}
 use Rattle.workers.proofs.Owning.{Moment, idle_there, made_by}

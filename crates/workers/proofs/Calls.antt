@@ -1,24 +1,7 @@
 -- The merged entries of a node are those of the logs on it, at places that rise.
-use Rattle.std.proofs.Common.{◌≡◌, ◌≢◌, inl, inr, ⊎_elim, ℕ, zero, suc, false, cond, nat_eq, eq-eqb, ne_eqb, ◌<◌, List, [], ◌∷◌, map, filter, get_or, slice_get, Some, All, refl, ap, sym, ◌∙◌, subst, arith}
-use Rattle.std.specs.List.{AllByRecursion, IsDistinct}
-use Rattle.std.specs.List.Sorted.{IsPermutation, IsNonDecreasingBy}
-use Rattle.std.proofs.lemmas.List.{map-append}
-use Rattle.std.proofs.lemmas.List.Elements.{filter-append}
-use Rattle.std.proofs.lemmas.List.Sorted.{All-permutation, IsPermutation-map, IsPermutation-sym}
-use Rattle.std.proofs.lemmas.Map.Keys.{IsDistinct-cons, IsDistinct-IsPermutation}
-use Rattle.std.proofs.lemmas.Option.{get_or_from_slice_get, slice_get_within, slice_get-get_or}
-use mathlib.Core.Logic.{dite}
-use native.Mathlib.Decide.{ℕ_discrete}
-use Rattle.lemmas.specs.Lists.{Has}
-use Rattle.lemmas.proofs.Lists.{has_at, has_either, has_left, has_right}
-use Rattle.node_lock.specs.Inside.Lists.{Once}
-use Rattle.node_lock.proofs.Views.{once_append}
-use Rattle.dmx_calls.specs.declared.log.Entry.{Entry as ToldEntry}
-use Rattle.dmx_calls.specs.Calls.{told_entry}
-use Rattle.adapter.specs.Merging.{is_on, all_of}
-use Rattle.adapter.specs.Inside.Placing.{entries_on}
-use Rattle.lemmas.proofs.Tests.{nat_eq_turned}
-use Rattle.adapter.proofs.Standing.{Ascends, ascends}
+use Rattle.workers.proofs.Imports.{◌≡◌, ◌≢◌, inl, inr, ⊎_elim, ℕ, zero, suc, false, cond, nat_eq, eq-eqb, ne_eqb, ◌<◌, List, [], ◌∷◌, map, filter, get_or, slice_get, Some, refl, ap, sym, ◌∙◌, subst, arith, AllByRecursion, IsPermutation, IsNonDecreasingBy, map-append, filter-append, All-permutation, IsPermutation-map, IsPermutation-sym, IsDistinct-cons, IsDistinct-IsPermutation, get_or_from_slice_get, slice_get_within, slice_get-get_or, dite, ℕ_discrete, Has, has_at, has_either, has_left, has_right, Once, once_append, ToldEntry, told_entry, is_on, all_of, entries_on, nat_eq_turned, Ascends, ascends}
+use Rattle.std.proofs.Common.{All}
+use Rattle.std.specs.List.{IsDistinct}
 use Rattle.workers.proofs.Weaves.{Rises}
 use Rattle.workers.proofs.Members.{at_has}
 

@@ -1,11 +1,5 @@
 -- The passes of one node, those of all callers, and their calls.
-use Rattle.std.proofs.Common.{◌≡◌, ⊎_elim, ℕ, suc, List, [], ◌∷◌, slice_get, Some, refl}
-use Rattle.atomic_table.specs.Seated.{TableId}
-use Rattle.node_lock.specs.declared.view.View.{View}
-use Rattle.lemmas.specs.Lists.{Has}
-use Rattle.lemmas.proofs.Lists.{has_either}
-use Rattle.dmx_calls.specs.History.{Entry}
-use Rattle.adapter.specs.Rows.{all_calls}
+use Rattle.workers.proofs.Imports.{◌≡◌, ⊎_elim, ℕ, suc, List, [], ◌∷◌, slice_get, Some, refl, TableId, View, Has, has_either, Entry, all_calls}
 
 -- a call of these passes is one of some pass
 pub some_calls : (ps : List (TableId × View Entry)) (w : ℕ × ℕ) → Has (all_calls ps) w → (j : ℕ) × (p : TableId × View Entry) × (slice_get ps j ≡ Some p) × Has p.1.own w

@@ -1,14 +1,5 @@
 -- A client that has worked to its end.
-use Rattle.std.proofs.Common.{◌≡◌, ℕ, Bool, List, Result, Ok, Err, OnOk, IsErrOf, Option, Some, None, refl}
-use Rattle.std.specs.Result.{result_err}
-use Rattle.atomic_table.specs.Seated.{TableId}
-use Rattle.client_core.specs.declared.stop.TheConstants.{MOST_CALLS}
-use Rattle.client_core.specs.declared.stop.Stop.{Stop}
-use Rattle.client_core.specs.declared.stop.Stop.TheVariants.{NoMemory, TooLong}
-use Rattle.client_core.specs.Inside.Core.{next_of}
-use Rattle.adapter.specs.Callers.{IsSameCaller}
-use Rattle.workers.specs.declared.client_worker.ClientWorker.{ClientWorker}
-use Rattle.workers.specs.Inside.Working.{IsFit, GoesOn, HasCome}
+use Rattle.workers.proofs.Imports.{◌≡◌, ℕ, Bool, List, Result, Ok, Err, OnOk, IsErrOf, Option, Some, None, refl, result_err, TableId, MOST_CALLS, Stop, NoMemory, TooLong, next_of, IsSameCaller, ClientWorker, IsFit, GoesOn, HasCome}
 
 -- why a worker stopped changes nothing of its calls
 pub fit_stopped : (locks : List TableId) (w : ClientWorker) (stop : Option Stop) → IsFit locks w → IsFit locks (record w { stop = stop })

@@ -1,36 +1,7 @@
 -- A feeder that has called some of the nodes, seen as one that has called all of them: where nobody makes a call, its calls
 -- alone are a legal history.
-use Rattle.std.proofs.Common.{◌≡◌, inl, inr, ⊎_elim, ℕ, zero, suc, ◌+◌, ◌<◌, ◌≤◌, Bool, true, false, List, [], ◌∷◌, ◌++◌, length, map, reverse, slice_get, Option, Some, None, refl, ap, sym, ◌∙◌, subst, arith, length-append, append_assoc, append-nil}
-use Rattle.std.specs.Prelude.{if◌then◌else◌, option_map}
-use Rattle.std.specs.List.{AllByRecursion}
-use Rattle.std.specs.Option.{option_to_list}
-use Rattle.std.proofs.lemmas.List.{reverse-append}
-use mathlib.Core.Option.{some}
-use mathlib.Core.List.{IsPrefix}
-use lib.ListN.{get_elem?}
-use Rattle.atomic_table.specs.Seated.{TableId}
-use Rattle.node_lock.specs.declared.view.View.{View}
-use Rattle.node_lock.specs.Inside.Lists.{Once, up_from}
-use Rattle.node_lock.specs.Passes.{HasJust}
-use Rattle.node_lock.proofs.Views.{at_below}
-use Rattle.lemmas.specs.Lists.{Has}
-use Rattle.dmx_calls.specs.declared.histories.Fed.{Fed}
-use Rattle.dmx_calls.specs.declared.limits.TheConstants.{DEMUX_NODES}
-use Rattle.dmx_calls.specs.Invocation.{Invocation, Pass, End}
-use Rattle.dmx_calls.specs.Response.{Passed}
-use Rattle.dmx_calls.specs.History.{Entry, History}
-use Rattle.dmx_calls.specs.Entries.{caller_of}
-use Rattle.dmx_calls.specs.Rules.{Rules, rules_at}
+use Rattle.workers.proofs.Imports.{◌≡◌, inl, inr, ⊎_elim, ℕ, zero, suc, ◌+◌, ◌<◌, ◌≤◌, Bool, true, false, List, [], ◌∷◌, ◌++◌, length, map, reverse, slice_get, Option, Some, None, refl, ap, sym, ◌∙◌, subst, arith, length-append, append_assoc, append-nil, if◌then◌else◌, option_map, AllByRecursion, option_to_list, reverse-append, some, IsPrefix, get_elem?, TableId, View, Once, up_from, HasJust, at_below, Has, Fed, DEMUX_NODES, Invocation, Pass, End, Passed, Entry, History, caller_of, Rules, rules_at, May, IsLegalFor, column, all_calls, Caller, IsHistory, HaveHistories, rows_of, IsLegalAt, at_place, at_either, at_before, in_column, of_column, rows_end, StandAt, HasMade, fed_entries, IsTheHistory}
 use Rattle.dmx_calls.specs.Answer.{answer}
-use Rattle.dmx_calls.specs.Legal.{May, IsLegalFor}
-use Rattle.adapter.specs.Rows.{column, all_calls}
-use Rattle.adapter.specs.Callers.{Caller}
-use Rattle.adapter.specs.Ends.{IsHistory, HaveHistories, rows_of}
-use Rattle.adapter.specs.Nodes.{IsLegalAt}
-use Rattle.adapter.proofs.Lists.{at_place, at_either, at_before}
-use Rattle.adapter.proofs.Everybody.{in_column, of_column, rows_end}
-use Rattle.workers.specs.Feeding.{StandAt, HasMade, fed_entries}
-use Rattle.workers.specs.Telling.{IsTheHistory}
 use Rattle.workers.proofs.Feeders.{got, got_back, has_own, behind_of}
 
 -- ------ the feeder's calls alone are legal

@@ -1,26 +1,5 @@
 -- What the threads of a run leave are the histories of a run of the script.
-use Rattle.std.proofs.Common.{◌≡◌, ℕ, Bool, true, ◌<◌, ◌≤◌, List, [], ◌∷◌, ◌++◌, length, map, sum, take, slice_get, Some, None, ap, sym, ◌∙◌, subst, refl, arith}
-use Rattle.std.proofs.lemmas.Option.{slice_get_within}
-use Rattle.atomic_table.specs.Seated.{TableId}
-use Rattle.node_lock.specs.declared.view.View.{View}
-use Rattle.dmx_calls.specs.declared.histories.Fed.{Fed}
-use Rattle.dmx_calls.specs.declared.limits.TheConstants.{DEMUX_NODES}
-use Rattle.dmx_calls.specs.declared.outcome.Outcome.{Outcome}
-use Rattle.dmx_calls.specs.History.{Entry}
-use Rattle.dmx_calls.specs.Log.{LogEntry}
-use Rattle.client_script.specs.Script.{clients_in, Scripted}
-use Rattle.client_core.specs.Events.{next_event}
-use Rattle.client_core.specs.Outcomes.{outcomes}
-use Rattle.script_run.specs.IsRun.{Batch, replies, sources}
-use Rattle.script_run.specs.WholeRun.{AreFull, IsWholeRun}
-use Rattle.script_run.specs.SoFar.{others as Others, IsSoFar, IsOver}
-use Rattle.script_run.proofs.Ending.{runs_end, are_accounted}
-use Rattle.adapter.specs.Callers.{Caller}
-use Rattle.adapter.specs.Ends.{HaveHistories}
-use Rattle.adapter.proofs.Lists.{at_place}
-use Rattle.workers.specs.Feeding.{batch_of}
-use Rattle.workers.specs.Left.{HasWorked, AreWorked}
-use Rattle.workers.specs.Telling.{IsLoggedIn, WorkersHaveCalled, steps_from}
+use Rattle.workers.proofs.Imports.{◌≡◌, ℕ, Bool, true, ◌<◌, ◌≤◌, List, [], ◌∷◌, ◌++◌, length, map, sum, take, slice_get, Some, None, ap, sym, ◌∙◌, subst, refl, arith, slice_get_within, TableId, View, Fed, DEMUX_NODES, Outcome, Entry, LogEntry, clients_in, Scripted, next_event, outcomes, Batch, replies, sources, AreFull, IsWholeRun, Others, IsSoFar, IsOver, runs_end, are_accounted, Caller, HaveHistories, at_place, batch_of, HasWorked, AreWorked, IsLoggedIn, WorkersHaveCalled, steps_from}
 use Rattle.workers.proofs.Members.{steps_tile}
 use Rattle.workers.proofs.Batches.{total_is}
 use Rattle.workers.proofs.Owning.{Moment, at_end, acts_by, made_by}

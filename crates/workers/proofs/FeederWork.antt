@@ -1,29 +1,7 @@
 -- The turns of the feeder.
-use Rattle.std.proofs.Common.{◌≡◌, ◌≢◌, inl, inr, ⊎_elim, refl, sym, ap, subst, ◌∙◌, ℕ, Bool, ◌+◌, ◌<◌, ◌≤◌, List, [], ◌∷◌, ◌++◌, length, length-append, append-nil, arith, Vec, Global, Result, Ok, Err, OnOk}
-use Rattle.std.specs.Prelude.{IsTrue, IsOk, All, slice_get, slice_index, Option, Some, None, true, if◌then◌else◌}
-use Rattle.std.proofs.lemmas.Option.{slice_get_within}
-use Rattle.std.proofs.lemmas.List.Elements.{All-push}
-use Rattle.std.proofs.lemmas.Bool.{cases_lt}
-use Rattle.emu_io.specs.Ends.{SourceEnd}
-use lib.ListN.{get_elem?}
+use Rattle.workers.proofs.Imports.{◌≡◌, ◌≢◌, inl, inr, ⊎_elim, refl, sym, ap, subst, ◌∙◌, ℕ, Bool, ◌+◌, ◌<◌, ◌≤◌, List, [], ◌∷◌, ◌++◌, length, length-append, append-nil, arith, Vec, Global, Result, Ok, Err, OnOk, IsTrue, IsOk, All, slice_index, if◌then◌else◌, slice_get_within, All-push, cases_lt, SourceEnd, get_elem?, TableId, View, Packets, Fed, DEMUX_NODES, Entry, Going, Pulling, Pulls, IsDone, ReadsNothing, Draws, Caller, MakesEachEntry, fed, ended, FeederWorker, AreFullBatches, HasEnded, HasEndedBy, HasFed, HasMade, fed_entries, AreFullSoFar, LeavesOthers, HasPassed, HasPassedAll, at_place, draws_then, none_given}
+use Rattle.std.specs.Prelude.{slice_get, Option, Some, None, true}
 use Rattle.atomic_table.proofs.Lists.{at_last}
-use Rattle.atomic_table.specs.Seated.{TableId}
-use Rattle.node_lock.specs.declared.view.View.{View}
-use Rattle.ts_batch.specs.Batch.{Packets}
-use Rattle.dmx_calls.specs.declared.histories.Fed.{Fed}
-use Rattle.dmx_calls.specs.declared.limits.TheConstants.{DEMUX_NODES}
-use Rattle.dmx_calls.specs.History.{Entry}
-use Rattle.feed_pull.specs.declared.fault.Reading.TheVariants.{Going}
-use Rattle.feed_pull.specs.Pulling.{Pulling, Pulls, IsDone}
-use Rattle.feed_pull.specs.Steps.{ReadsNothing}
-use Rattle.feed_pull.specs.Streams.{Draws}
-use Rattle.adapter.specs.Callers.{Caller}
-use Rattle.adapter.specs.Nodes.{MakesEachEntry, fed, ended}
-use Rattle.workers.specs.declared.feeder_worker.FeederWorker.{FeederWorker}
-use Rattle.workers.specs.Feeding.{AreFullBatches, HasEnded, HasEndedBy, HasFed, HasMade, fed_entries}
-use Rattle.workers.specs.Inside.FeederWork.{AreFullSoFar, LeavesOthers, HasPassed, HasPassedAll}
-use Rattle.adapter.proofs.Lists.{at_place}
-use Rattle.feed_pull.proofs.Drawing.{draws_then, none_given}
 use Rattle.workers.proofs.Completing.{made_nothing}
 use Rattle.workers.proofs.Feeding.{fed_more, fed_end, full_push}
 

@@ -1,23 +1,5 @@
 -- The feeder's entries in a history are those that its pass has made, in their order.
-use Rattle.std.proofs.Common.{◌≡◌, ◌≢◌, inl, inr, ⊎_elim, ℕ, zero, suc, Bool, true, false, eq-eqb, ne_eqb, ◌+◌, ◌<◌, ◌≤◌, List, [], ◌∷◌, ◌++◌, map, filter, slice_get, Some, refl, ap, sym, ◌∙◌, subst, arith}
-use Rattle.std.specs.Prelude.{if◌then◌else◌}
-use Rattle.std.specs.List.{AllByRecursion}
-use mathlib.Core.Logic.{dite}
-use mathlib.Core.Option.{some, some-injective, some-ne-none}
-use mathlib.Core.List.{IsPrefix}
-use native.Mathlib.Decide.{ℕ_discrete}
-use lib.ListN.{get_elem?}
-use Rattle.lemmas.specs.Lists.{Has}
-use Rattle.node_lock.proofs.Views.{prefix_at}
-use Rattle.dmx_calls.specs.declared.histories.Fed.{Fed}
-use Rattle.dmx_calls.specs.declared.params.Input.TheVariants.{Frontend}
-use Rattle.dmx_calls.specs.History.{Entry}
-use Rattle.dmx_calls.specs.Log.{Sources}
-use Rattle.dmx_calls.specs.declared.log.Act.{Act}
-use Rattle.dmx_calls.specs.declared.log.Act.TheVariants.{End as EndAct}
-use Rattle.dmx_calls.specs.Histories.{pass_act}
-use Rattle.adapter.specs.Nodes.{ended}
-use Rattle.workers.specs.Feeding.{fed_entry, fed_entries, StandAt}
+use Rattle.workers.proofs.Imports.{◌≡◌, ◌≢◌, inl, inr, ⊎_elim, ℕ, zero, suc, Bool, true, false, eq-eqb, ne_eqb, ◌+◌, ◌<◌, ◌≤◌, List, [], ◌∷◌, ◌++◌, map, filter, slice_get, Some, refl, ap, sym, ◌∙◌, subst, arith, if◌then◌else◌, AllByRecursion, dite, some, some-injective, some-ne-none, IsPrefix, ℕ_discrete, get_elem?, Has, prefix_at, Fed, Frontend, Entry, Sources, Act, EndAct, pass_act, ended, fed_entry, fed_entries, StandAt}
 use Rattle.workers.proofs.Weaves.{fed_of, by_feeder}
 
 -- ------ two ways to read a place

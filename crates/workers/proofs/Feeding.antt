@@ -1,29 +1,7 @@
 -- One batch more.
-use Rattle.std.proofs.Common.{◌≡◌, ⊎_elim, ℕ, zero, suc, Bool, true, false, ◌+◌, ◌<◌, ◌≤◌, List, [], ◌∷◌, ◌++◌, length, map, take, drop, Some, refl, ap, sym, ◌∙◌, subst, arith, length-append, append_assoc, append-nil}
-use Rattle.std.specs.Prelude.{IsTrue, All, slice_get, if◌then◌else◌}
-use Rattle.std.proofs.lemmas.List.{map-append, take-append-le, drop-append-le, length-drop}
-use Rattle.std.proofs.Math.Seq.{drop-append_seam, take-length}
-use Rattle.std.proofs.lemmas.List.Elements.{All-push, All-tail}
-use Rattle.std.proofs.lemmas.Option.{slice_get_within}
-use mathlib.Core.Option.{some}
-use mathlib.Core.List.{IsPrefix}
-use lib.ListN.{get_elem?}
-use Rattle.atomic_table.specs.Seated.{TableId}
+use Rattle.workers.proofs.Imports.{◌≡◌, ⊎_elim, ℕ, zero, suc, Bool, true, false, ◌+◌, ◌<◌, ◌≤◌, List, [], ◌∷◌, ◌++◌, length, map, take, drop, Some, refl, ap, sym, ◌∙◌, subst, arith, length-append, append_assoc, append-nil, IsTrue, All, if◌then◌else◌, map-append, take-append-le, drop-append-le, length-drop, drop-append_seam, take-length, All-push, All-tail, slice_get_within, some, IsPrefix, get_elem?, TableId, View, at_below, prefix_at, Packets, Fed, Frontend, Pass, Passed, Entry, entry_of, caller_of, Caller, MakesEachEntry, IsLegalAt, fed, ended, OneMore, at_place, at_end, fed_entry, fed_entries, Tiles, AreFullBatches, StandAt, HasMade, HasFed}
+use Rattle.std.specs.Prelude.{slice_get}
 use Rattle.atomic_table.proofs.Lists.{at_last}
-use Rattle.node_lock.specs.declared.view.View.{View}
-use Rattle.node_lock.proofs.Views.{at_below, prefix_at}
-use Rattle.ts_batch.specs.Batch.{Packets}
-use Rattle.dmx_calls.specs.declared.histories.Fed.{Fed}
-use Rattle.dmx_calls.specs.declared.params.Input.TheVariants.{Frontend}
-use Rattle.dmx_calls.specs.Invocation.{Pass}
-use Rattle.dmx_calls.specs.Response.{Passed}
-use Rattle.dmx_calls.specs.History.{Entry, entry_of}
-use Rattle.dmx_calls.specs.Entries.{caller_of}
-use Rattle.adapter.specs.Callers.{Caller}
-use Rattle.adapter.specs.Nodes.{MakesEachEntry, IsLegalAt, fed, ended}
-use Rattle.adapter.specs.Rows.{OneMore}
-use Rattle.adapter.proofs.Lists.{at_place, at_end}
-use Rattle.workers.specs.Feeding.{fed_entry, fed_entries, Tiles, AreFullBatches, StandAt, HasMade, HasFed}
 use Rattle.workers.proofs.Logging.{prefix_long}
 
 -- ------ a pass of the feeder makes one entry more

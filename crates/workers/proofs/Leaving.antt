@@ -1,38 +1,6 @@
 -- The workers at their end.
-use Rattle.std.proofs.Common.{◌≡◌, ◌≢◌, ◌⊎◌, inl, inr, ⊎_elim, ℕ, Bool, ◌+◌, List, [], ◌∷◌, ◌++◌, length, map, Vec, Global, Option, Some, None, refl, ap, sym, ◌∙◌, subst, arith, length-append}
-use Rattle.std.specs.Prelude.{slice_get, slice_index_or, option_map, All}
-use Rattle.std.proofs.lemmas.Option.{slice_get-map, slice_get-get_or, get_or_from_slice_get, slice_get_within}
-use Rattle.std.proofs.lemmas.List.{length-map}
-use Rattle.atomic_table.specs.Seated.{TableId}
-use Rattle.ts_packet.specs.Cut.{cut}
-use Rattle.dmx_calls.specs.Calls.{told_entry}
-use Rattle.dmx_calls.specs.Log.{LogEntry}
-use Rattle.dmx_calls.specs.declared.log.Entry.{Entry as ToldEntry}
-use Rattle.dmx_calls.specs.declared.histories.Fed.{Fed}
-use Rattle.dmx_calls.specs.declared.outcome.Outcome.{Outcome}
-use Rattle.client_script.specs.Script.{clients_in, Scripted}
-use Rattle.script_run.specs.IsRun.{replies}
-use Rattle.client_core.specs.declared.stop.TheConstants.{MOST_CALLS}
-use Rattle.client_core.specs.declared.stop.Stop.{Stop}
-use Rattle.client_core.specs.declared.stop.Stop.TheVariants.{NoMemory, TooLong}
-use Rattle.emu_io.specs.Ends.{SourceEnd}
-use Rattle.feed_pull.specs.Pulling.{Pulling, Pulls}
-use Rattle.feed_pull.proofs.PullLemmas.{Pulls-done}
-use Rattle.adapter.specs.Callers.{Caller, IsSameCaller, AreFreshCallers, AreAllCallers}
-use Rattle.adapter.specs.Nodes.{ended}
-use Rattle.adapter.proofs.Everybody.{still_all}
-use Rattle.adapter.proofs.Lists.{at_place, at_end, at_last, at_before, one_value}
-use Rattle.adapter.specs.Merging.{AreOnNodes}
-use Rattle.workers.specs.declared.client_worker.ClientWorker.{ClientWorker}
-use Rattle.workers.specs.declared.feeder_worker.FeederWorker.{FeederWorker}
-use Rattle.workers.specs.declared.left.Left.{Left}
-use Rattle.workers.specs.Inside.Working.{log_of, IsWorking, HasCome}
-use Rattle.workers.specs.Inside.Begun.{AreFreshWorkers, HaveCome, AreOutcomesOf}
-use Rattle.workers.specs.Named.{is_named}
-use Rattle.workers.specs.Feeding.{HasFed, HasFedAll}
-use Rattle.workers.specs.Inside.FeederWork.{HasPassedAll}
-use Rattle.workers.specs.Inside.Leaving.{GoesFirst, StopsBy, IsLeftByWorkers}
-use Rattle.workers.specs.Left.{HasWorked, AreWorked}
+use Rattle.workers.proofs.Imports.{◌≡◌, ◌≢◌, ◌⊎◌, inl, inr, ⊎_elim, ℕ, Bool, ◌+◌, List, [], ◌∷◌, ◌++◌, length, map, Vec, Global, Option, Some, None, refl, ap, sym, ◌∙◌, subst, arith, length-append, slice_index_or, option_map, All, slice_get-map, slice_get-get_or, get_or_from_slice_get, slice_get_within, length-map, TableId, cut, told_entry, LogEntry, ToldEntry, Fed, Outcome, clients_in, Scripted, replies, MOST_CALLS, Stop, NoMemory, TooLong, SourceEnd, Pulling, Pulls, Pulls-done, Caller, IsSameCaller, AreFreshCallers, AreAllCallers, ended, still_all, at_place, at_end, at_last, at_before, one_value, AreOnNodes, ClientWorker, FeederWorker, Left, log_of, IsWorking, HasCome, AreFreshWorkers, HaveCome, AreOutcomesOf, is_named, HasFed, HasFedAll, HasPassedAll, GoesFirst, StopsBy, IsLeftByWorkers, HasWorked, AreWorked}
+use Rattle.std.specs.Prelude.{slice_get}
 use Rattle.workers.proofs.Lists.{mapped}
 use Rattle.workers.proofs.Working.{next_is}
 use Rattle.workers.proofs.Beginning.{begun_works}

@@ -23,3 +23,4 @@ pub mod Working
 pub mod Budgeting
 pub mod NamedNodes
 mod Targets
+pub mod Imports

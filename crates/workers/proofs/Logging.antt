@@ -1,33 +1,7 @@
 -- One call more in a client's log, and one look more.
-use Rattle.std.proofs.Common.{append_assoc, ◌≡◌, ◌≢◌, ⊎_elim, ℕ, nat_eq, Bool, eq-eqb, ne_eqb, suc, ◌+◌, ◌<◌, ◌≤◌, true, false, List, [], ◌∷◌, ◌++◌, length, take, slice_get, set, Some, refl, ap, sym, ◌∙◌, subst, arith, length-append}
-use Rattle.std.specs.Prelude.{if◌then◌else◌, IsSome}
-use Rattle.std.proofs.lemmas.List.{take-append-le}
-use Rattle.std.proofs.Math.Seq.{take-append_seam}
-use Rattle.std.proofs.lemmas.List.Elements.{All-push}
-use Rattle.std.proofs.lemmas.Option.{slice_get_within}
-use mathlib.Core.Logic.{dite}
-use mathlib.Core.Option.{some}
-use mathlib.Core.List.{IsPrefix}
-use native.Mathlib.Decide.{ℕ_discrete}
-use lib.ListN.{get_elem?}
-use Rattle.atomic_table.specs.Seated.{TableId}
+use Rattle.workers.proofs.Imports.{append_assoc, ◌≡◌, ◌≢◌, ⊎_elim, ℕ, nat_eq, Bool, eq-eqb, ne_eqb, suc, ◌+◌, ◌<◌, ◌≤◌, true, false, List, [], ◌∷◌, ◌++◌, length, take, slice_get, set, Some, refl, ap, sym, ◌∙◌, subst, arith, length-append, if◌then◌else◌, IsSome, take-append-le, take-append_seam, All-push, slice_get_within, dite, some, IsPrefix, ℕ_discrete, get_elem?, TableId, View, at_below, prefix_at, Input, Entry, IsFrom, LogEntry, caller_of, Scripted, next_event, waits_on, plays_of, IsEvent, replies, sources, IsGiven, Caller, OneCalls, OneLooks, set_there, set_elsewhere, one_value, at_end, BringFrom, BringsIn, HasCalled, IsLogged, Tells, TellsIn, calls_on}
 use Rattle.atomic_table.proofs.Lists.{at_last}
-use Rattle.node_lock.specs.declared.view.View.{View}
-use Rattle.node_lock.proofs.Views.{at_below, prefix_at}
-use Rattle.dmx_calls.specs.declared.params.Input.{Input}
-use Rattle.dmx_calls.specs.History.{Entry}
-use Rattle.dmx_calls.specs.Log.{IsFrom, LogEntry}
 use Rattle.dmx_calls.specs.Response.{NoMemory}
-use Rattle.dmx_calls.specs.Entries.{caller_of}
-use Rattle.client_script.specs.Script.{Scripted}
-use Rattle.client_core.specs.Events.{next_event, waits_on}
-use Rattle.client_core.specs.Commands.{plays_of}
-use Rattle.script_run.specs.IsRun.{IsEvent, replies, sources}
-use Rattle.script_run.specs.WholeRun.{IsGiven}
-use Rattle.adapter.specs.Callers.{Caller}
-use Rattle.adapter.specs.Rows.{OneCalls, OneLooks}
-use Rattle.adapter.proofs.Lists.{set_there, set_elsewhere, one_value, at_end}
-use Rattle.workers.specs.Logged.{BringFrom, BringsIn, HasCalled, IsLogged, Tells, TellsIn, calls_on}
 
 pub prefix_long : {A : Type 0} (xs ys : List A) → IsPrefix xs ys → length xs ≤ length ys
 prefix_long xs ys p = let e : length xs + length p.0 ≡ length ys = sym (length-append xs p.0) ∙ ap length p.1 in omega arith

@@ -1,16 +1,5 @@
 -- Which entries stand in a woven history, and which steps are the feeder's.
-use Rattle.std.proofs.Common.{◌≡◌, ◌≢◌, ◌⊎◌, inl, inr, ⊎_elim, ℕ, zero, suc, Bool, true, false, nat_eq, nat_lt, ne_eqb, ◌+◌, List, [], ◌∷◌, ◌++◌, map, filter, slice_get, Some, refl, ap, ◌∙◌}
-use Rattle.std.specs.Prelude.{if◌then◌else◌}
-use Rattle.std.specs.List.{AllByRecursion}
-use Rattle.lemmas.specs.Lists.{Has}
-use Rattle.dmx_calls.specs.declared.histories.Fed.{Fed}
-use Rattle.dmx_calls.specs.declared.log.Act.{Act}
-use Rattle.dmx_calls.specs.declared.log.Act.TheVariants.{End as EndAct}
-use Rattle.dmx_calls.specs.Log.{LogEntry}
-use Rattle.dmx_calls.specs.Histories.{pass_act, feeder_entry, feeder_entries, before_entry, woven_from}
-use Rattle.script_run.specs.IsRun.{Step, feeding, steps_of}
-use Rattle.workers.specs.Feeding.{Tiles, batch_of}
-use Rattle.workers.specs.Telling.{steps_from}
+use Rattle.workers.proofs.Imports.{◌≡◌, ◌≢◌, ◌⊎◌, inl, inr, ⊎_elim, ℕ, zero, suc, Bool, true, false, nat_eq, nat_lt, ne_eqb, ◌+◌, List, [], ◌∷◌, ◌++◌, map, filter, slice_get, Some, refl, ap, ◌∙◌, if◌then◌else◌, AllByRecursion, Has, Fed, Act, EndAct, LogEntry, pass_act, feeder_entry, feeder_entries, before_entry, woven_from, Step, feeding, steps_of, Tiles, batch_of, steps_from}
 
 -- ------ each entry
 

@@ -1,29 +1,6 @@
 -- The merged histories tell what was called.
-use Rattle.std.proofs.Common.{◌≡◌, ◌≢◌, ◌⊎◌, inl, inr, ⊎_elim, ℕ, zero, suc, ◌+◌, ◌≤◌, Bool, true, false, nat_lt, List, [], ◌∷◌, ◌++◌, length, length-append, map, slice_get, Some, All, refl, ap, sym, ◌∙◌, subst, arith}
-use Rattle.std.proofs.lemmas.Bool.Decides.{nat_tests}
-use Rattle.std.proofs.lemmas.List.{length-map}
-use Rattle.std.proofs.lemmas.Option.{slice_get_within}
-use Rattle.atomic_table.specs.Seated.{TableId}
-use Rattle.node_lock.specs.declared.view.View.{View}
-use Rattle.lemmas.specs.Lists.{Has}
-use Rattle.lemmas.proofs.Lists.{at_map, has_at}
-use Rattle.dmx_calls.specs.declared.histories.Fed.{Fed}
-use Rattle.dmx_calls.specs.declared.limits.TheConstants.{DEMUX_NODES}
-use Rattle.dmx_calls.specs.declared.log.Act.{Act}
-use Rattle.dmx_calls.specs.declared.log.Entry.{Entry as ToldEntry}
-use Rattle.dmx_calls.specs.Calls.{told_entry}
-use Rattle.dmx_calls.specs.History.{Entry}
-use Rattle.dmx_calls.specs.declared.params.Input.TheVariants.{Frontend}
-use Rattle.dmx_calls.specs.Log.{LogEntry, Sources, filled_entry}
-use Rattle.dmx_calls.specs.Histories.{feeder_acts, feeder_entry, histories_of, woven, AreInPlace}
-use Rattle.dmx_calls.proofs.Weaving.{in_place-at, woven_nodes-at, woven_nodes-length}
-use Rattle.script_run.specs.IsRun.{StandsIn, steps_of}
-use Rattle.adapter.specs.Merging.{AreOnNodes, AreByPlace}
-use Rattle.adapter.specs.Callers.{Caller, AreAllCallers}
-use Rattle.adapter.specs.Ends.{IsHistory, HaveHistories}
-use Rattle.adapter.specs.Nodes.{IsLegalAt}
-use Rattle.adapter.proofs.Lists.{at_end as with_last, at_last, at_place, one_value}
-use Rattle.workers.specs.Telling.{HaveCalled, IsLoggedIn, IsTheHistory, TellWhatWasCalled, steps_from}
+use Rattle.workers.proofs.Imports.{◌≡◌, ◌≢◌, ◌⊎◌, inl, inr, ⊎_elim, ℕ, zero, suc, ◌+◌, ◌≤◌, Bool, true, false, nat_lt, List, [], ◌∷◌, ◌++◌, length, length-append, map, slice_get, Some, refl, ap, sym, ◌∙◌, subst, arith, nat_tests, length-map, slice_get_within, TableId, View, Has, at_map, has_at, Fed, DEMUX_NODES, Act, ToldEntry, told_entry, Entry, Frontend, LogEntry, Sources, filled_entry, feeder_acts, feeder_entry, histories_of, woven, AreInPlace, in_place-at, woven_nodes-at, woven_nodes-length, StandsIn, steps_of, AreOnNodes, AreByPlace, Caller, AreAllCallers, IsHistory, HaveHistories, IsLegalAt, with_last, at_last, at_place, one_value, HaveCalled, IsLoggedIn, IsTheHistory, TellWhatWasCalled, steps_from}
+use Rattle.std.proofs.Common.{All}
 use Rattle.workers.proofs.Completing.{feeders_calls, nothing, same_column, whole, whole_full, whole_have}
 use Rattle.workers.proofs.Weaves.{Rises, rises_less, weaves}
 use Rattle.workers.proofs.Lists.{mapped}

@@ -1,32 +1,8 @@
 -- Each call of a client is on a node that its script can name.
-use Rattle.std.proofs.Common.{◌≡◌, ◌⊎◌, inl, inr, ⊎_elim, ℕ, ◌+◌, Bool, true, false, ◌||◌, nat_eq, nat_lt, eq-eqb, List, [], ◌∷◌, Option, Some, None, refl, ap, sym, ◌∙◌, subst}
-use Rattle.std.specs.Prelude.{if◌then◌else◌, option_map}
-use Rattle.std.specs.List.{list_any}
-use Rattle.lemmas.specs.Lists.{Has}
-use Rattle.lemmas.proofs.Lists.{has_either}
-use Rattle.dmx_calls.specs.declared.limits.TheConstants.{DEMUX_NODES}
-use Rattle.dmx_calls.specs.declared.reply.Tap.TheVariants.{Keep as KeepTap, Attach as AttachTap, Detach as DetachTap}
-use Rattle.dmx_calls.specs.Response.{Response, Done, Ready, TapChange}
-use Rattle.client_script.specs.Script.{Scripted}
-use Rattle.client_script.specs.declared.line.Line.{Line}
-use Rattle.client_script.specs.declared.line.Line.TheVariants.{Command as CommandLine, Feed, Tick}
-use Rattle.client_script.specs.declared.line.Target.{Target}
-use Rattle.client_script.specs.declared.line.Target.TheVariants.{Node, Slot, Dvr}
-use Rattle.client_script.specs.declared.line.Verb.{Verb}
+use Rattle.workers.proofs.Imports.{◌≡◌, ◌⊎◌, inl, inr, ⊎_elim, ℕ, ◌+◌, Bool, true, false, ◌||◌, nat_eq, nat_lt, eq-eqb, List, [], ◌∷◌, Option, Some, None, refl, ap, sym, ◌∙◌, subst, if◌then◌else◌, option_map, list_any, Has, has_either, DEMUX_NODES, KeepTap, AttachTap, DetachTap, Response, Done, Ready, TapChange, Scripted, Line, CommandLine, Feed, Tick, Target, Node, Slot, Dvr, Verb, Want, Command, Deed, ReadWait, Drain, GetStc, Write, Batches, deed_of, Event, Request, Ending, Made, commands_in, commands_among, commands_of, Doing, stands, through, once, told, called, read_until, ends_wait, ends_drain, passed, written, done_on, Slots, done, plays_of, Standing, slots_after, progress_from, no_slots, next_event, progress_of, is_for, passes_all, names, is_named}
 use Rattle.client_script.specs.declared.line.Verb.TheVariants as verb
-use Rattle.client_script.specs.declared.line.Want.{Want}
-use Rattle.client_core.specs.declared.command.Command.{Command}
-use Rattle.client_core.specs.declared.deed.Deed.{Deed}
-use Rattle.client_core.specs.declared.deed.Deed.TheVariants.{Once, ReadWait, Drain, GetStc, Write}
-use Rattle.client_core.specs.Deeds.{Batches, deed_of}
-use Rattle.client_core.specs.declared.event.Event.{Event}
-use Rattle.client_core.specs.declared.event.Request.{Request}
-use Rattle.client_core.specs.declared.task.Ending.{Ending}
-use Rattle.client_core.specs.declared.task.Ending.TheVariants.{Made}
-use Rattle.client_core.specs.Commands.{commands_in, commands_among, commands_of, Doing, stands, through, once, told, called, read_until, ends_wait, ends_drain, passed, written, done_on, Slots, done, plays_of}
-use Rattle.client_core.specs.Events.{Standing, slots_after, progress_from, progress, no_slots, next_event}
-use Rattle.client_core.proofs.GoesOn.{progress_of}
-use Rattle.workers.specs.Named.{is_for, passes_all, names, is_named}
+use Rattle.client_core.specs.declared.deed.Deed.TheVariants.{Once}
+use Rattle.client_core.specs.Events.{progress}
 
 -- ------ what a command does
 

@@ -1,14 +1,5 @@
 -- Each logged call of a client is on a node that its script can name.
-use Rattle.std.proofs.Common.{◌≡◌, ℕ, true, List, Option, Some, None, sym, subst, refl}
-use Rattle.dmx_calls.specs.Response.{Response}
-use Rattle.dmx_calls.specs.Log.{LogEntry}
-use Rattle.client_script.specs.Script.{Scripted}
-use Rattle.client_core.specs.declared.event.Event.{Event}
-use Rattle.client_core.specs.Deeds.{Batches}
-use Rattle.client_core.specs.Commands.{plays_of}
-use Rattle.client_core.specs.Events.{next_event}
-use Rattle.script_run.specs.IsRun.{IsEvent}
-use Rattle.workers.specs.Named.{is_named}
+use Rattle.workers.proofs.Imports.{◌≡◌, ℕ, true, List, Option, Some, None, sym, subst, refl, Response, LogEntry, Scripted, Event, Batches, plays_of, next_event, IsEvent, is_named}
 use Rattle.workers.proofs.NamedNodes.{named_next}
 
 pub named_call : (script : Scripted) (client : ℕ) (rs : List Response) (e : LogEntry) → IsEvent (plays_of client script) (next_event client script rs) e → is_named script.lines e.node ≡ true

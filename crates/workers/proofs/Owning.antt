@@ -1,31 +1,6 @@
 -- Each entry of a node's history is in a client's log, or is the feeder's; so the logs and the batches tell the history.
-use Rattle.std.proofs.Common.{◌≡◌, ◌≢◌, ◌⊎◌, inl, inr, ⊎_elim, ℕ, suc, Bool, true, false, eq-eqb, ne_eqb, ◌+◌, ◌<◌, List, [], ◌∷◌, ◌++◌, length, filter, slice_get, Option, Some, None, refl, ap, sym, ◌∙◌, subst, arith}
-use Rattle.std.specs.Prelude.{if◌then◌else◌}
-use Rattle.std.proofs.lemmas.Option.{slice_get_within}
-use mathlib.Core.Logic.{dite}
-use mathlib.Core.Option.{some, some-injective}
-use lib.ListN.{get_elem?}
-use mathlib.Core.List.{IsPrefix}
-use native.Mathlib.Decide.{ℕ_discrete}
-use Rattle.atomic_table.specs.Seated.{TableId}
-use Rattle.node_lock.specs.declared.view.View.{View}
-use Rattle.lemmas.specs.Lists.{Has}
-use Rattle.node_lock.proofs.Views.{prefix_at}
-use Rattle.dmx_calls.specs.declared.histories.Fed.{Fed}
-use Rattle.dmx_calls.specs.declared.log.Act.{Act}
-use Rattle.dmx_calls.specs.History.{Entry, entry_of}
-use Rattle.dmx_calls.specs.declared.params.Input.TheVariants.{Frontend}
-use Rattle.dmx_calls.specs.Log.{IsFrom, LogEntry, Sources, filled_act, filled_entry}
-use Rattle.dmx_calls.proofs.Telling.{fills}
-use Rattle.adapter.specs.Rows.{column}
-use Rattle.adapter.specs.Callers.{Caller}
-use Rattle.adapter.specs.Ends.{IsHistory, rows_of}
-use Rattle.adapter.proofs.Lists.{at_place, at_either, at_last, at_before, one_value}
-use Rattle.workers.specs.Logged.{Tells, calls_on}
-use Rattle.workers.specs.Feeding.{HasMade, fed_entries}
-use Rattle.workers.specs.Telling.{HasLogged, HaveCalled, IsLoggedIn}
+use Rattle.workers.proofs.Imports.{◌≡◌, ◌≢◌, ◌⊎◌, inl, inr, ⊎_elim, ℕ, suc, Bool, true, false, eq-eqb, ne_eqb, ◌+◌, ◌<◌, List, [], ◌∷◌, ◌++◌, length, filter, slice_get, Option, Some, None, refl, ap, sym, ◌∙◌, subst, arith, if◌then◌else◌, slice_get_within, dite, some, some-injective, get_elem?, IsPrefix, ℕ_discrete, TableId, View, Has, prefix_at, Fed, Act, Entry, entry_of, Frontend, IsFrom, LogEntry, Sources, filled_act, filled_entry, fills, column, Caller, IsHistory, rows_of, at_place, at_either, at_last, at_before, one_value, Tells, calls_on, HasMade, fed_entries, HasLogged, HaveCalled, IsLoggedIn, in_column, of_column}
 use Rattle.workers.proofs.Weaves.{AreTold, fed_of, by_feeder}
-use Rattle.adapter.proofs.Everybody.{in_column, of_column}
 use Rattle.workers.proofs.Columns.{some_calls}
 use Rattle.workers.proofs.Feeders.{got, got_back, ups_from, picked, stand_picks, has_own, fed_is, fed_zero, acts_of, behind_of}
 use Rattle.workers.proofs.Completing.{whole, whole_made}

@@ -1,10 +1,5 @@
 -- A pass carries its moment.
-use Rattle.std.proofs.Common.{ℕ, Bool, Option, Some, None}
-use Rattle.std.specs.Prelude.{IsTrue}
-use Rattle.ts_batch.specs.Batch.{Packets}
-use Rattle.dmx_calls.specs.Log.{act_of}
-use Rattle.client_core.specs.Commands.{pass_of}
-use Rattle.script_run.specs.WholeRun.{IsGiven}
+use Rattle.workers.proofs.Imports.{ℕ, Bool, Option, Some, None, IsTrue, Packets, act_of, pass_of, IsGiven}
 
 -- whatever it brings
 pub pass_is_given : (may : ℕ → Bool) (batch : Option Packets) (now : ℕ) → IsTrue (may now) → IsGiven may (act_of (pass_of batch now))

@@ -1,35 +1,8 @@
 -- Callers of a script, joined at any moment, leave the histories of a run so far.
-use Rattle.std.proofs.Common.{◌≡◌, ◌≢◌, ⊎_elim, ℕ, suc, ◌+◌, ◌<◌, ◌≤◌, Bool, true, false, nat_lt, List, [], ◌∷◌, ◌++◌, append-nil, length, map, take, slice_get, Option, Some, None, All, refl, ap, sym, ◌∙◌, subst, arith}
-use Rattle.std.specs.Prelude.{IsSome, IsTrue, reverse}
-use Rattle.std.specs.List.{AllByRecursion}
-use Rattle.std.proofs.lemmas.Bool.Decides.{nat_tests}
-use Rattle.std.proofs.lemmas.Option.{slice_get_within}
-use Rattle.atomic_table.specs.Seated.{TableId}
-use Rattle.node_lock.specs.declared.view.View.{View}
-use Rattle.lemmas.specs.Lists.{Has}
-use Rattle.lemmas.proofs.Lists.{has_at, has_left}
-use Rattle.dmx_calls.specs.declared.histories.Fed.{Fed}
-use Rattle.dmx_calls.specs.declared.limits.TheConstants.{DEMUX_NODES}
-use Rattle.dmx_calls.specs.declared.log.Act.{Act}
-use Rattle.dmx_calls.specs.declared.log.Act.TheVariants.{End as EndAct}
-use Rattle.dmx_calls.specs.History.{Entry}
+use Rattle.workers.proofs.Imports.{◌≡◌, ◌≢◌, ⊎_elim, ℕ, suc, ◌+◌, ◌<◌, ◌≤◌, Bool, true, false, nat_lt, List, [], ◌∷◌, ◌++◌, append-nil, length, map, take, slice_get, Option, Some, None, refl, ap, sym, ◌∙◌, subst, arith, IsSome, IsTrue, AllByRecursion, nat_tests, slice_get_within, TableId, View, Has, has_at, has_left, Fed, DEMUX_NODES, Act, EndAct, Entry, rules_at, IsLegalFor, LogEntry, Sources, filled, feeder_acts, feeder_entry, pass_act, in_place-at, clients_in, Scripted, waits_on, Step, feeding, replies, sources, steps_of, IsGiven, Others, IsPaidBehind, IsFedSoFar, HasDoneSoFar, IsSoFar, Caller, HaveHistories, at_place, one_value, BringFrom, HasCalled, Tiles, batch_of, HasLogged, IsLoggedIn, steps_from}
+use Rattle.std.proofs.Common.{All}
+use Rattle.std.specs.Prelude.{reverse}
 use Rattle.dmx_calls.specs.Response.{NoMemory}
-use Rattle.dmx_calls.specs.Rules.{rules_at}
-use Rattle.dmx_calls.specs.Legal.{IsLegalFor}
-use Rattle.dmx_calls.specs.Log.{LogEntry, Sources, filled}
-use Rattle.dmx_calls.specs.Histories.{feeder_acts, feeder_entry, pass_act}
-use Rattle.dmx_calls.proofs.Weaving.{in_place-at}
-use Rattle.client_script.specs.Script.{clients_in, Scripted}
-use Rattle.client_core.specs.Events.{waits_on}
-use Rattle.script_run.specs.IsRun.{Step, feeding, replies, sources, steps_of}
-use Rattle.script_run.specs.WholeRun.{IsGiven}
-use Rattle.script_run.specs.SoFar.{others as Others, IsPaidBehind, IsFedSoFar, HasDoneSoFar, IsSoFar}
-use Rattle.adapter.specs.Callers.{Caller}
-use Rattle.adapter.specs.Ends.{HaveHistories}
-use Rattle.adapter.proofs.Lists.{at_place, one_value}
-use Rattle.workers.specs.Logged.{BringFrom, HasCalled}
-use Rattle.workers.specs.Feeding.{Tiles, batch_of}
-use Rattle.workers.specs.Telling.{HasLogged, IsLoggedIn, steps_from}
 use Rattle.workers.proofs.Members.{all_at, at_has, steps_tile}
 use Rattle.workers.proofs.Calls.{has_all}
 use Rattle.workers.proofs.Batches.{sizes, total_is, given}

@@ -1,15 +1,6 @@
 -- The nodes that a script can name, line by line.
-use Rattle.std.proofs.Common.{◌≡◌, ℕ, ◌+◌, ◌≤◌, Bool, true, false, ◌||◌, nat_eq, eq-eqb, ne_eqb, List, [], length, set, replicate, refl, ap, sym, ◌∙◌, arith}
-use Rattle.std.specs.Prelude.{slice_index_or}
-use Rattle.std.proofs.lemmas.List.{get_or-set_same, get_or-set_other, get_or-replicate}
-use mathlib.Core.Logic.{dite}
-use native.Mathlib.Decide.{ℕ_discrete}
-use Rattle.dmx_calls.specs.declared.limits.TheConstants.{DEMUX_NODES}
-use Rattle.client_script.specs.declared.line.Target.{Target}
-use Rattle.client_script.specs.declared.line.Target.TheVariants.{Slot}
-use Rattle.client_script.specs.declared.line.Verb.{Verb}
+use Rattle.workers.proofs.Imports.{◌≡◌, ℕ, ◌+◌, ◌≤◌, Bool, true, false, ◌||◌, nat_eq, eq-eqb, ne_eqb, List, [], length, set, replicate, refl, ap, sym, ◌∙◌, arith, slice_index_or, get_or-set_same, get_or-set_other, get_or-replicate, dite, ℕ_discrete, DEMUX_NODES, Target, Slot, Verb, is_for, is_named, passes_all}
 use Rattle.client_script.specs.declared.line.Verb.TheVariants.{Write}
-use Rattle.workers.specs.Named.{is_for, is_named, passes_all}
 
 -- whether a node is among these
 abbrev is_in : List Bool → (node : ℕ) → Bool

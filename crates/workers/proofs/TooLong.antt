@@ -1,37 +1,6 @@
 -- Why a client has made too many calls.
-use Rattle.std.proofs.Common.{◌≡◌, ◌≢◌, inr, refl, sym, ap, subst, ◌∙◌, ℕ, ◌≤◌, Bool, List, [], ◌∷◌, ◌++◌, length, map, Some, arith}
-use Rattle.std.specs.Prelude.{All, slice_get, option_map}
-use Rattle.emu_io.specs.Ends.{SourceEnd}
-use Rattle.std.proofs.lemmas.List.{length-map}
-use Rattle.std.proofs.lemmas.List.Elements.{All-nil, All-cons, All-tail}
-use Rattle.std.proofs.lemmas.Option.{slice_get-map}
-use Rattle.atomic_table.specs.Seated.{TableId}
-use Rattle.ts_packet.specs.Fields.{IsPacket}
-use Rattle.dmx_calls.specs.Calls.{told_entry}
-use Rattle.dmx_calls.specs.Log.{LogEntry}
-use Rattle.dmx_calls.specs.declared.limits.TheConstants.{DEMUX_NODES}
-use Rattle.dmx_calls.specs.declared.log.Entry.{Entry as ToldEntry}
-use Rattle.client_script.specs.Script.{AreNumbered, clients_in, Scripted}
-use Rattle.script_run.specs.Budget.{IsTooLong}
-use Rattle.client_core.specs.declared.stop.TheConstants.{MOST_CALLS}
-use Rattle.client_core.specs.declared.stop.Stop.TheVariants.{NoMemory}
-use Rattle.feed_pull.specs.Pulling.{Pulling, Pulls}
-use Rattle.feed_pull.specs.Streams.{OfStream}
-use Rattle.feed_pull.proofs.CutPackets.{are_packets}
-use Rattle.feed_pull.proofs.PullLemmas.{Pulls-done, Pulls-size}
-use Rattle.adapter.specs.Callers.{Caller, AreFreshCallers, AreAllCallers}
-use Rattle.adapter.specs.Ends.{HaveHistories}
-use Rattle.adapter.specs.Nodes.{ended}
-use Rattle.adapter.proofs.Lists.{one_value}
-use Rattle.adapter.specs.Merging.{AreOnNodes}
-use Rattle.workers.specs.declared.client_worker.ClientWorker.{ClientWorker}
-use Rattle.workers.specs.declared.feeder_worker.FeederWorker.{FeederWorker}
-use Rattle.workers.specs.Inside.Working.{log_of}
-use Rattle.workers.specs.Inside.Begun.{AreFreshWorkers, HaveCome}
-use Rattle.workers.specs.Named.{is_named}
-use Rattle.workers.specs.Budget.{IsRunning, ManyCallsAreTooLong}
-use Rattle.workers.specs.Logged.{HasCalled}
-use Rattle.workers.specs.Inside.FeederWork.{HasPassedAll}
+use Rattle.workers.proofs.Imports.{◌≡◌, ◌≢◌, inr, refl, sym, ap, subst, ◌∙◌, ℕ, ◌≤◌, Bool, List, [], ◌∷◌, ◌++◌, length, map, Some, arith, All, option_map, SourceEnd, length-map, All-nil, All-cons, All-tail, slice_get-map, TableId, IsPacket, told_entry, LogEntry, DEMUX_NODES, ToldEntry, AreNumbered, clients_in, Scripted, IsTooLong, MOST_CALLS, NoMemory, Pulling, Pulls, OfStream, are_packets, Pulls-done, Pulls-size, Caller, AreFreshCallers, AreAllCallers, HaveHistories, ended, one_value, AreOnNodes, ClientWorker, FeederWorker, log_of, AreFreshWorkers, HaveCome, is_named, IsRunning, ManyCallsAreTooLong, HasCalled, HasPassedAll}
+use Rattle.std.specs.Prelude.{slice_get}
 use Rattle.workers.proofs.Lists.{mapped}
 use Rattle.workers.proofs.Beginning.{begun_works}
 use Rattle.workers.proofs.Leaving.{come_at, many}

@@ -1,14 +1,5 @@
 -- A node's history is the one that is woven of the feeder's calls and the clients' entries, where they tell its entries.
-use Rattle.std.proofs.Common.{◌≡◌, ◌≢◌, ℕ, zero, suc, Bool, true, false, nat_eq, nat_lt, eq-eqb, ne_eqb, ◌+◌, ◌≤◌, List, [], ◌∷◌, map, filter, slice_get, Some, refl, ap, sym, ◌∙◌, subst, arith}
-use Rattle.std.specs.Prelude.{if◌then◌else◌}
-use Rattle.std.proofs.lemmas.Bool.Decides.{nat_tests}
-use mathlib.Core.Logic.{dite}
-use native.Mathlib.Decide.{ℕ_discrete}
-use Rattle.dmx_calls.specs.History.{Entry, entry_of}
-use Rattle.dmx_calls.specs.Response.{Passed}
-use Rattle.dmx_calls.specs.declared.log.Act.{Act}
-use Rattle.dmx_calls.specs.Log.{LogEntry, Sources, filled_act, filled_entry}
-use Rattle.dmx_calls.specs.Histories.{feeder_entry, before_entry, woven_from, AreInPlace}
+use Rattle.workers.proofs.Imports.{◌≡◌, ◌≢◌, ℕ, zero, suc, Bool, true, false, nat_eq, nat_lt, eq-eqb, ne_eqb, ◌+◌, ◌≤◌, List, [], ◌∷◌, map, filter, slice_get, Some, refl, ap, sym, ◌∙◌, subst, arith, if◌then◌else◌, nat_tests, dite, ℕ_discrete, Entry, entry_of, Passed, Act, LogEntry, Sources, filled_act, filled_entry, feeder_entry, before_entry, woven_from, AreInPlace}
 
 -- the entries of the feeder's calls, with its packets
 abbrev pub fed_of : (packets : Sources) → List Act → List Entry

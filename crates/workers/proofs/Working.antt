@@ -1,34 +1,8 @@
 -- The steps of a client at work.
-use Rattle.std.proofs.Common.{◌≡◌, suc, ◌+◌, ℕ, List, [], ◌∷◌, ◌++◌, length, map, Option, Some, refl, ap, sym, ◌∙◌, subst, arith}
-use Rattle.std.specs.Prelude.{option_map, slice_get}
-use Rattle.std.proofs.lemmas.Option.{slice_get-map}
-use Rattle.atomic_table.specs.Seated.{TableId}
-use Rattle.node_lock.specs.declared.view.View.{View}
-use Rattle.node_lock.specs.Passes.{IsSamePass}
-use Rattle.dmx_calls.specs.History.{Entry}
-use Rattle.dmx_calls.specs.Entries.{caller_of}
-use Rattle.adapter.specs.Callers.{Caller, IsSameCaller}
-use Rattle.adapter.specs.Rows.{Fits, OneLooks}
-use Rattle.adapter.proofs.Everybody.{same_trans}
-use Rattle.adapter.proofs.Lists.{one_value}
-use Rattle.workers.specs.declared.client_worker.ClientWorker.{ClientWorker}
-use Rattle.workers.specs.Inside.Working.{log_of, HasLooked}
+use Rattle.workers.proofs.Imports.{◌≡◌, suc, ◌+◌, ℕ, List, [], ◌∷◌, ◌++◌, length, map, Option, Some, refl, ap, sym, ◌∙◌, subst, arith, option_map, slice_get-map, TableId, View, IsSamePass, Entry, caller_of, Caller, IsSameCaller, Fits, OneLooks, same_trans, one_value, ClientWorker, log_of, HasLooked, map-append, told_entry, ToldEntry, Invocation, IsFrom, LogEntry, act_of, Response, Scripted, Event, Request, Batches, call_of, plays_of, Core, IsAfter, next_of, coming, behind, next_event, progress, Progress, IsEvent, sources, is_from}
+use Rattle.std.specs.Prelude.{slice_get}
 use Rattle.workers.proofs.Logging.{called_looked}
-use Rattle.std.proofs.lemmas.List.{map-append, append-nil}
-use Rattle.dmx_calls.specs.Calls.{told_entry}
-use Rattle.dmx_calls.specs.declared.log.Entry.{Entry as ToldEntry}
-use Rattle.dmx_calls.specs.Invocation.{Invocation}
-use Rattle.dmx_calls.specs.Log.{IsFrom, LogEntry, act_of}
-use Rattle.dmx_calls.specs.Response.{Response}
-use Rattle.client_script.specs.Script.{Scripted}
-use Rattle.client_core.specs.declared.event.Event.{Event}
-use Rattle.client_core.specs.declared.event.Request.{Request}
-use Rattle.client_core.specs.Deeds.{Batches}
-use Rattle.client_core.specs.Commands.{call_of, plays_of}
-use Rattle.client_core.specs.Inside.Core.{Core, IsAfter, next_of, coming, behind}
-use Rattle.client_core.specs.Events.{next_event, progress, Progress}
-use Rattle.script_run.specs.IsRun.{IsEvent, sources}
-use Rattle.script_run.proofs.Events.{is_from}
+use Rattle.std.proofs.lemmas.List.{append-nil}
 
 -- the next call of a core that stands after these replies is the one that the script asks for
 pub next_is : (script : Scripted) (client : ℕ) (rs : List Response) (c : Core) → IsAfter client script rs c → next_event client script rs ≡ next_of c

@@ -1,9 +1,11 @@
 // A client of a script at its work.
-ghost use Rattle.std.specs.Prelude.{◌≡◌, ◌≢◌, ℕ, ◌+◌, ◌<◌, ◌≤◌, ◌^◌, Bool, List, [], ◌∷◌, ◌++◌, length, slice_get, Some, None, IsSome, OnOk, IsErrOf};
+ghost use Rattle.std.specs.Prelude.{◌≡◌, ◌≢◌, ℕ, ◌+◌, ◌<◌, ◌≤◌, ◌^◌, Bool, List, [], ◌∷◌, ◌++◌, length, slice_get, Some, None, IsSome, IfOk, OnOk, IsErrOf};
 ghost use Rattle.atomic_table.specs.Seated.{TableId};
 ghost use Rattle.node_lock.specs.declared.view.View.{View};
+ghost use Rattle.dmx_calls.specs.Calls.{response_of};
 ghost use Rattle.dmx_calls.specs.History.{Entry as HistoryEntry};
 ghost use Rattle.dmx_calls.specs.Log.{act_of};
+ghost use Rattle.dmx_calls.specs.Response as response;
 ghost use Rattle.dmx_calls.specs.declared.limits.TheConstants.{DEMUX_NODES as nodes};
 ghost use Rattle.client_script.specs.Script.{Scripted};
 ghost use Rattle.client_core.specs.declared.stop.TheConstants.{MOST_CALLS as most_calls};
@@ -18,7 +20,7 @@ ghost use Rattle.workers.specs.Inside.Working.{IsFit, MayWork, IsWorking, MayCal
 use crate::moment::moment_of;
 use adapter::{Adapter, Client};
 use client_core::{ClientCore, Event, MOST_CALLS, Stop, call_of, fitted, unless_no_memory};
-use dmx_calls::{Act, Entry, KeptAct, SharedReply};
+use dmx_calls::{Act, Answer, Entry, KeptAct, SharedReply};
 use emu_io::{Clock, Gate};
 use machine::steps::Steps;
 use std::alloc::{AllocError as NoMemory, Global};
@@ -40,6 +42,16 @@ fn give_way<R: Wait>(rt: &R, adapter: &Adapter, node: u32, len: u64, turns: u32)
     } else {
         adapter.rest(rt, node, len);
     }
+}
+
+// A reply as the log keeps it: shared with that of the log's last entry, where this is the same. Want of memory isn't kept.
+fn kept_of(alloc: Global, last: Option<&Entry>, answer: Answer) -> Result<SharedReply, NoMemory>
+    ensures same { IfOk result (λ kept. response_of kept ≡ response_of answer.reply) }
+    ensures some { IfOk result (λ kept. response_of kept ≢ response.NoMemory) }
+{
+    let reply = unless_no_memory(answer.reply)?;
+    let fitting = fitted(alloc, reply)?;
+    SharedReply::of(alloc, last, fitting)
 }
 
 /// A client with the machine that says what it calls next, its calls so far, and why it stopped, if it did.
@@ -84,9 +96,7 @@ impl ClientWorker {
         let asked = Act::of(&call);
         let act = KeptAct::of(alloc, asked)?;
         let (place, answer) = self.client.call(rt, adapter, node, call, steps);
-        let reply = unless_no_memory(answer.reply)?;
-        let fitting = fitted(alloc, reply)?;
-        let kept = SharedReply::of(alloc, self.log.last(), fitting)?;
+        let kept = kept_of(alloc, self.log.last(), answer)?;
         self.core.take(kept.told());
         self.log.push_reserved(Entry {
             place,

@@ -169,4 +169,17 @@ impl FeederWorker {
             Blank::new(1),
         )
     }
+
+    /// The feeder, and the batches that it has passed.
+    pub fn into_parts(self) -> (Feeder, Vec<Fed>)
+        ensures feeder { result.0 ≡ self.feeder }
+        ensures feeding { result.1 ≡ self.feeding }
+    {
+        let FeederWorker {
+            feeder,
+            feeding,
+            ..
+        } = self;
+        (feeder, feeding)
+    }
 }

@@ -48,7 +48,7 @@ fn stop_of(feeder: Option<Stop>, clients: &[ClientWorker]) -> Option<Stop>
     stop
 }
 
-// Brings together what all callers of a run that is too long have seen: their calls then stand in histories.
+// Brings together what all callers of a run that has stopped have seen: their calls then stand in histories.
 fn gather(
     alloc: Global,
     adapter: &Adapter,
@@ -72,18 +72,13 @@ fn left_by(
     requires { IsDone feeder.puller }
     ensures { IfOk result (IsLeftByWorkers feeder clients.items) }
 {
-    let FeederWorker {
-        feeder,
-        puller,
-        feeding,
-        ..
-    } = feeder;
-    let head = puller.head(alloc)?;
+    let head = feeder.puller.head(alloc)?;
     let ClientsLeft {
         clients,
         logs,
         outcomes,
     } = left_by_clients(alloc, clients)?;
+    let (feeder, feeding) = feeder.into_parts();
     Ok(Left {
         feeding,
         logs,
@@ -147,13 +142,13 @@ pub fn work<R: Threads + Wait + Sync, S: Source + Send, C: Clock + Sync, G: Gate
     // What was taken of the source where the run stopped, as the puller's pulls tell it.
     ensures draws { OnErr result ((packets : List (List ℕ)) × ((last : Pulling) × Draws (S.end source.old) (S.end source.new) puller last packets)) }
 {
-    let mut workers = workers_of(alloc, clients, script)?;
     let mut feeder = FeederWorker {
         feeder,
         puller,
         feeding: Vec::new(alloc),
         stop: None,
     };
+    let mut workers = workers_of(alloc, clients, script)?;
     work_all(
         rt,
         alloc,
@@ -168,7 +163,6 @@ pub fn work<R: Threads + Wait + Sync, S: Source + Send, C: Clock + Sync, G: Gate
     );
     match stop_of(feeder.stop, &workers) {
         None => Ok(left_by(alloc, feeder, workers)?),
-        Some(Stop::NoMemory) => Err(Stop::NoMemory),
         Some(stop) => {
             gather(alloc, adapter, feeder, workers)?;
             Err(stop)

@@ -1,5 +1,4 @@
-use Rattle.dmx_calls.specs.Rules.{demux, dvr}
-use Rattle.dmx_calls.proofs.Nodes.{demux_keeps, dvr_keeps}
+use Rattle.node_laws.proofs.Imports.{demux, dvr, demux_keeps, dvr_keeps}
 use Rattle.node_laws.proofs.Pending.{names_a_byte}
 use Rattle.node_laws.proofs.an_overflow_names_a_byte.Goals as goal
 

@@ -1,7 +1,6 @@
 //! A gate that holds one caller of a run by threads until another has come to a step.
 use super::TURNS;
 use emu_io::Gate;
-use std::alloc::{AllocError as NoMemory, Global};
 use std::sync::atomic::AtomicU64;
 use std::sync::atomic::Ordering::SeqCst;
 
@@ -17,7 +16,7 @@ pub struct Hold {
 /// A gate that holds the feeder and two clients.
 #[derive(Drop)]
 pub struct HoldingGate {
-    holds: Vec<Hold>,
+    holds: &'static [Hold],
     // One more than the step that each is at; 0 before its first.
     come: [AtomicU64; 3],
     // How many holds ended because the other had come.
@@ -25,12 +24,12 @@ pub struct HoldingGate {
 }
 
 impl HoldingGate {
-    pub fn new(alloc: Global, holds: &[Hold]) -> Result<HoldingGate, NoMemory> {
-        Ok(HoldingGate {
-            holds: holds.to_vec(alloc)?,
+    pub fn new(holds: &'static [Hold]) -> HoldingGate {
+        HoldingGate {
+            holds,
             come: [AtomicU64::new(0), AtomicU64::new(0), AtomicU64::new(0)],
             kept: AtomicU64::new(0),
-        })
+        }
     }
 
     // Holds a caller until the other has come.
@@ -58,7 +57,7 @@ impl Gate for HoldingGate {
         if let Some(word) = self.come.get(who as usize) {
             word.store(step.saturating_add(1), SeqCst);
         }
-        for hold in &self.holds {
+        for hold in self.holds {
             if hold.who == who && hold.step == step {
                 self.keep(*hold);
             }

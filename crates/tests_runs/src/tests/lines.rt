@@ -1,4 +1,4 @@
-//! Seats at lines in memory, which are cut within a request or take no reply.
+//! Seats at lines in memory, which are cut within a request or take no reply, and of which a read takes a while.
 ghost use Rattle.std.specs.Prelude.{◌≡◌, ◌<◌, ◌≤◌, ◌^◌, length, Some, IfOk, IfSome};
 ghost use Rattle.std.specs.Io.{ReadsAtMost};
 ghost use Rattle.std.specs.Io.KnownBytes.{ReadConsumes, WriteAppends};
@@ -8,25 +8,18 @@ ghost use Rattle.adapter.specs.Rows.{Fits};
 ghost use Rattle.seats.specs.Handed.{IsReadyToHand};
 ghost use Rattle.seats.specs.Seated.{IsReady};
 
+use super::ends::CountingClock;
 use adapter::{Adapter, Client, Feeder};
 use dmx_calls::{Act, Entry};
-use emu_io::{Failed, FixedClock, MemSink, MemSource, Sink, Source};
+use emu_io::{Failed, MemSink, MemSource, Sink, Source};
 use seats::{Book, Desk, Seat, desks_of};
 use std::alloc::Global;
-use std::sync::Wait;
+use std::sync::atomic::AtomicU64;
+use std::sync::atomic::Ordering::SeqCst;
+use std::sync::{Arc, Wait};
 
-/// A request: verb, node and number with the lowest byte first, and an argument with its length.
-pub fn request(verb: u8, node: u8, number: u32, argument: &[u8]) -> [u8; 76]
-    requires { length argument.now ≤ 60 }
-{
-    let mut bytes = [0; 76];
-    bytes[0] = verb;
-    bytes[4] = node;
-    bytes[8..12].copy_from_slice(&number.to_le_bytes());
-    bytes[12] = argument.len() as u8;
-    bytes[16..16 + argument.len()].copy_from_slice(argument);
-    bytes
-}
+// How long a read of a line takes, in milliseconds.
+const WAIT: u64 = 1000;
 
 /// The seat of an adapter's one client.
 pub fn one_seat(
@@ -52,14 +45,25 @@ pub fn one_seat(
 pub struct MemLine {
     from: MemSource,
     to: MemSink,
+    passed: Arc<AtomicU64>,
 }
 
 impl MemLine {
-    /// A line of these requests, which come in pieces of 50 bytes, with room for so many bytes of replies.
-    pub fn new(alloc: Global, requests: &[u8], room: usize) -> Option<MemLine> {
+    /// A line of requests, each by its verb and its node, of which so many bytes come. They come in pieces of 50 bytes, each
+    /// after a second; so many bytes of replies find room.
+    pub fn new(alloc: Global, asked: &[(u8, u8)], come: usize, room: usize) -> Option<MemLine> {
+        let mut bytes = Vec::new(alloc);
+        for (verb, node) in asked {
+            let mut request = [0; 76];
+            request[0] = *verb;
+            request[4] = *node;
+            bytes.extend_from_slice(&request).ok()?;
+        }
+        bytes.truncate(come);
         Some(MemLine {
-            from: MemSource::new(requests.to_vec(alloc).ok()?, 50, Vec::new(alloc)),
+            from: MemSource::new(bytes, 50, Vec::new(alloc)),
             to: MemSink::new(alloc, room, 7, Vec::new(alloc)).ok()?,
+            passed: Arc::new(alloc, AtomicU64::new(0)).ok()?,
         })
     }
 }
@@ -73,6 +77,7 @@ impl Source for MemLine {
         ensures bytes { ReadConsumes (Some self.old.from.left) (Some self.new.from.left) result into.new }
         ensures cause { HasCause self.old.from.faults self.new.from.faults result }
     {
+        self.passed.fetch_add(WAIT, SeqCst);
         self.from.read(into)
     }
 }
@@ -90,81 +95,109 @@ impl Sink for MemLine {
     }
 }
 
-// What is left of a seat and its line.
-#[derive(Drop)]
-struct Left {
-    written: Vec<u8>,
-    log: Vec<Entry>,
+// A call, a poll by the seconds that have passed.
+#[derive(Clone, Copy, PartialEq, Eq)]
+enum Made {
+    Open,
+    Poll(u64),
+    Close,
 }
 
-// What the one seat of a new adapter does with these requests, which come in pieces of 50 bytes, where so many bytes of replies find
-// room. None where memory is wanting.
-fn sat<R: Wait>(rt: &R, alloc: Global, requests: &[u8], room: usize) -> Option<Left> {
-    let (adapter, feeder, clients) = Adapter::new(alloc, 1).ok()?;
-    let mut seat = one_seat(&adapter, &feeder, alloc, clients)?;
-    let mut line = MemLine::new(alloc, requests, room)?;
-    seat.sit(rt, alloc, &adapter, &mut line, &FixedClock::new(7));
-    let written = line.to.bytes().to_vec(alloc).ok()?;
-    let Book { log, .. } = seat.into_book(alloc).ok()?;
-    Some(Left { written, log })
+// What a line asks for, and what comes of it.
+struct Row {
+    // Verbs and nodes: 1 opens a node, 3 closes it, and 6 polls it.
+    asked: &'static [(u8, u8)],
+    // How many bytes of this come: each number from the first to the one before the second.
+    come: (usize, usize),
+    // How many bytes of replies find room, and how many are written.
+    room: usize,
+    written: usize,
+    // A node is closed where its line ends.
+    calls: &'static [Made],
 }
 
-/// These requests, one behind another.
-pub fn joined(alloc: Global, requests: &[[u8; 76]]) -> Option<Vec<u8>> {
-    let mut bytes = Vec::new(alloc);
-    for request in requests {
-        bytes.extend_from_slice(request).ok()?;
-    }
-    Some(bytes)
-}
+static ROWS: [Row; 4] = [
+    // A request that is cut isn't answered.
+    Row {
+        asked: &[(1, 0), (3, 0)],
+        come: (76, 152),
+        room: 1000,
+        written: 24,
+        calls: &[Made::Open, Made::Close],
+    },
+    Row {
+        asked: &[(1, 0), (3, 0)],
+        come: (152, 153),
+        room: 1000,
+        written: 48,
+        calls: &[Made::Open, Made::Close],
+    },
+    // Where a reply finds no room the next request isn't answered.
+    Row {
+        asked: &[(1, 0), (6, 0)],
+        come: (152, 153),
+        room: 10,
+        written: 10,
+        calls: &[Made::Open, Made::Close],
+    },
+    // A moment is looked for behind its request: a request comes in two reads, so the polls come behind four and six seconds. A
+    // clock that is looked at before a request is waited for would give two seconds less.
+    Row {
+        asked: &[(1, 0), (6, 0), (6, 0)],
+        come: (228, 229),
+        room: 1000,
+        written: 72,
+        calls: &[Made::Open, Made::Poll(4), Made::Poll(6), Made::Close],
+    },
+];
 
-// How many of the calls are closes.
-fn closes(log: &[Entry]) -> usize {
-    let mut count = 0usize;
-    for entry in log {
-        if entry.act.act() == Act::Close {
-            count = count.saturating_add(1);
+// Whether these are the front of the replies to calls on one node: each has 24 bytes, all 0 but the call's place in the
+// seventeenth.
+fn are_replies(written: &[u8], count: usize) -> bool {
+    for (place, byte) in written.iter().enumerate() {
+        let want = if place % 24 == 16 { place / 24 } else { 0 };
+        if *byte as usize != want {
+            return false;
         }
     }
-    count
+    written.len() == count
 }
 
-// Whether of an open, and a close that is cut behind so many bytes, the open alone is answered, and its node is closed where the line
-// ends.
-fn is_cut<R: Wait>(rt: &R, alloc: Global, whole: &[u8], cut: usize) -> bool {
-    let Some(requests) = whole.get(..cut) else {
-        return false;
-    };
-    match sat(rt, alloc, requests, 1000) {
-        Some(left) => left.written.as_slice() == [0; 24].as_slice()
-            && left.log.len() == 2
-            && closes(&left.log) == 1,
-        None => false,
+// Whether a log has these calls.
+fn are_made(log: &[Entry], calls: &[Made]) -> bool {
+    for (entry, want) in log.iter().zip(calls.iter()) {
+        let made = match entry.act.act() {
+            Act::Open => Made::Open,
+            Act::Poll { now } => Made::Poll(now / WAIT),
+            Act::Close => Made::Close,
+            _ => return false,
+        };
+        if made != *want {
+            return false;
+        }
     }
+    log.len() == calls.len()
+}
+
+// Whether the one seat of a new adapter does what a row says where so many bytes come. None where memory is wanting.
+fn is_so<R: Wait>(rt: &R, alloc: Global, row: &Row, come: usize) -> Option<bool> {
+    let mut line = MemLine::new(alloc, row.asked, come, row.room)?;
+    let clock = CountingClock {
+        count: line.passed.clone().ok()?,
+        is_backwards: false,
+    };
+    let (adapter, feeder, clients) = Adapter::new(alloc, 1).ok()?;
+    let mut seat = one_seat(&adapter, &feeder, alloc, clients)?;
+    seat.sit(rt, alloc, &adapter, &mut line, &clock);
+    let Book { log, .. } = seat.into_book(alloc).ok()?;
+    Some(are_replies(line.to.bytes(), row.written) && are_made(&log, row.calls))
 }
 
 #[test]
-fn a_request_that_is_cut_is_not_answered(rt: HostRuntime) {
-    let Some(whole) = joined(rt.alloc(), &[request(1, 0, 0, &[]), request(3, 0, 0, &[])]) else {
-        panic!(rt; "no memory");
-    };
-    let odd = (76..152).find(|cut| !is_cut(&rt, rt.alloc(), &whole, *cut));
-    assert_eq!(rt; odd, None);
-    let Some(left) = sat(&rt, rt.alloc(), &whole, 1000) else {
-        panic!(rt; "no memory");
-    };
-    assert!(rt; left.written.len() == 48 && left.written[40] == 1);
-    assert!(rt; left.log.len() == 2 && closes(&left.log) == 1);
-}
-
-#[test]
-fn where_a_reply_finds_no_room_the_node_is_closed(rt: HostRuntime) {
-    let Some(whole) = joined(rt.alloc(), &[request(1, 0, 0, &[]), request(6, 0, 0, &[])]) else {
-        panic!(rt; "no memory");
-    };
-    let Some(left) = sat(&rt, rt.alloc(), &whole, 10) else {
-        panic!(rt; "no memory");
-    };
-    assert!(rt; left.written.as_slice() == [0; 10].as_slice());
-    assert!(rt; left.log.len() == 2 && closes(&left.log) == 1);
+fn seats_serve_lines_as_the_rows_say(rt: HostRuntime) {
+    for (number, row) in ROWS.iter().enumerate() {
+        let (from, below) = row.come;
+        let odd = (from..below).find(|come| is_so(&rt, rt.alloc(), row, *come) != Some(true));
+        assert_eq!(rt; odd, None, "{number}");
+    }
 }

@@ -2,7 +2,7 @@
 ghost use Rattle.std.specs.Prelude.{◌≡◌, ◌∷◌, [], map, string_bytes, codes, IfOk};
 
 use super::ends::{FIRST, SECOND, input_of};
-use super::report_lines::is_text;
+use super::report_lines::text_of;
 use emu_io::{MemSink, MemSource};
 use emu_top::{Status, serial};
 use std::alloc::{AllocError as NoMemory, Global};
@@ -13,16 +13,6 @@ fn steps_alone(alloc: Global) -> Result<Vec<String>, NoMemory>
     let mut words = Vec::new(alloc);
     words.push(String::from_str(alloc, "steps")?)?;
     Ok(words)
-}
-
-// What `serial` answers and writes for an input, without faults.
-#[tactic(auto, using(crate::proofs::Alone::never_run))]
-fn told_alone(alloc: Global, input: Vec<u8>) -> Result<(Status, Vec<u8>), NoMemory> {
-    let words = steps_alone(alloc)?;
-    let mut source = MemSource::new(input, 65536, Vec::new(alloc));
-    let mut sink = MemSink::new(alloc, 1000, 1000, Vec::new(alloc))?;
-    let status = serial(alloc, &words, &mut source, &mut sink);
-    Ok((status, sink.bytes().to_vec(alloc)?))
 }
 
 // The largest script that there may be: 1,048,576 bytes with its line `stream`.
@@ -49,10 +39,14 @@ const REPORT: &str = "dvbemu 1\n\
     end\n";
 
 // Whether it writes this report of the session.
+#[tactic(auto, using(crate::proofs::Alone::never_run))]
 fn is_done(alloc: Global) -> Result<bool, NoMemory> {
+    let words = steps_alone(alloc)?;
     let input = input_of(alloc, SCRIPT, &[FIRST, SECOND])?;
-    let (status, written) = told_alone(alloc, input)?;
-    Ok(status == Status::Ok && is_text(&written, REPORT))
+    let mut source = MemSource::new(input, 65536, Vec::new(alloc));
+    let mut sink = MemSink::new(alloc, 1000, 1000, Vec::new(alloc))?;
+    let status = serial(alloc, &words, &mut source, &mut sink);
+    Ok(status == Status::Ok && sink.bytes() == text_of(alloc, REPORT)?.as_slice())
 }
 
 // A body that answers want of memory meets its clauses.

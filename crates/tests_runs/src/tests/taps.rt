@@ -3,6 +3,7 @@
 ghost use Rattle.std.specs.Prelude.{◌≡◌, ◌<◌};
 ghost use Rattle.dvr_core.specs.Examples.{ThreeOf64, EachOnce, All64, NoLook};
 
+use super::ends::{FIRST, Part, input_of};
 use dmx_calls::{Answer, ByteBuf, Call, Input, Reply, Tap};
 use dvr_core::DvrCore;
 use machine::Machine;
@@ -15,59 +16,58 @@ use std::sync::ledger::{Blank, Ledger};
 use ts_batch::Batch;
 use ts_packet::{Cutter, PacketBuf, PacketSize};
 
+// Packets whose payload is zeros: the PIDs 0, 257 and 8191.
+const ZEROTH: Part = (b"\x47\x00\x00\x10", 184, 0);
+
+const OTHER: Part = (b"\x47\x01\x01\x10", 184, 0);
+
+const LAST: Part = (b"\x47\x1f\xff\x10", 184, 0);
+
+const ALL: &[Part] = &[ZEROTH, FIRST, OTHER, LAST];
+
 // A client attaches a tap of a demux node with these PIDs, or detaches it; then packets of the PIDs 0, 256, 257 and 8191 pass, and these
 // are recorded.
-type Row = (u32, u32, Option<&'static [u16]>, &'static [u16]);
+type Row = (u32, u32, Option<&'static [u16]>, &'static [Part]);
 
 static ROWS: [Row; 28] = [
     // Two owners in turn: who comes late detaches nothing of the other's.
-    (1, 0, Some(&[256]), &[256]),
-    (2, 0, Some(&[256]), &[256]),
-    (1, 0, None, &[256]),
+    (1, 0, Some(&[256]), &[FIRST]),
+    (2, 0, Some(&[256]), &[FIRST]),
+    (1, 0, None, &[FIRST]),
     (2, 0, None, &[]),
-    (1, 0, Some(&[256]), &[256]),
+    (1, 0, Some(&[256]), &[FIRST]),
     (1, 0, None, &[]),
     // A new tap replaces the old one, and one without PIDs names nothing.
-    (1, 7, Some(&[256]), &[256]),
-    (1, 7, Some(&[257]), &[257]),
+    (1, 7, Some(&[256]), &[FIRST]),
+    (1, 7, Some(&[257]), &[OTHER]),
     (1, 7, Some(&[]), &[]),
-    (1, 7, Some(&[0, 257, 8191]), &[0, 257, 8191]),
+    (1, 7, Some(&[0, 257, 8191]), &[ZEROTH, OTHER, LAST]),
     (1, 7, None, &[]),
     // Each node has its own, and a packet is recorded once.
-    (1, 0, Some(&[256]), &[256]),
-    (1, 31, Some(&[257]), &[256, 257]),
-    (2, 30, Some(&[256]), &[256, 257]),
-    (1, 30, None, &[256, 257]),
-    (1, 0, None, &[256, 257]),
-    (2, 30, None, &[257]),
+    (1, 0, Some(&[256]), &[FIRST]),
+    (1, 31, Some(&[257]), &[FIRST, OTHER]),
+    (2, 30, Some(&[256]), &[FIRST, OTHER]),
+    (1, 30, None, &[FIRST, OTHER]),
+    (1, 0, None, &[FIRST, OTHER]),
+    (2, 30, None, &[OTHER]),
     (1, 31, None, &[]),
     // PID 0x2000 names every packet.
-    (1, 1, Some(&[256]), &[256]),
-    (1, 2, Some(&[17, 0x2000]), &[0, 256, 257, 8191]),
-    (1, 1, None, &[0, 256, 257, 8191]),
+    (1, 1, Some(&[256]), &[FIRST]),
+    (1, 2, Some(&[17, 0x2000]), ALL),
+    (1, 1, None, ALL),
     (1, 2, None, &[]),
     // There are the nodes 0 to 31.
     (1, 32, Some(&[0x2000]), &[]),
     (1, 4_294_967_295, Some(&[0x2000]), &[]),
-    (1, 0, Some(&[256]), &[256]),
-    (1, 32, None, &[256]),
-    (1, 4_294_967_295, None, &[256]),
-    (1, 1, None, &[256]),
+    (1, 0, Some(&[256]), &[FIRST]),
+    (1, 32, None, &[FIRST]),
+    (1, 4_294_967_295, None, &[FIRST]),
+    (1, 1, None, &[FIRST]),
 ];
-
-// Packets of these PIDs, whose payloads are zeros.
-fn packets_of(alloc: Global, pids: &[u16]) -> Result<Vec<u8>, NoMemory> {
-    let mut bytes = Vec::new(alloc);
-    for pid in pids {
-        bytes.extend_from_slice(&[0x47, (*pid / 256 % 32) as u8, (*pid % 256) as u8, 0x10])?;
-        bytes.extend_from_slice(&[0; 184])?;
-    }
-    Ok(bytes)
-}
 
 // The batch that passes.
 fn passing(alloc: Global) -> Result<Option<Arc<Batch>>, NoMemory> {
-    let bytes = packets_of(alloc, &[0, 256, 257, 8191])?;
+    let bytes = input_of(alloc, "", ALL)?;
     let mut packets = PacketBuf::new();
     if bytes.len() <= 64 * 188 {
         Cutter::new(PacketSize::Of188).push(&bytes, &mut packets);
@@ -135,7 +135,7 @@ impl<M: Machine<Call = Call, Answer = Answer> + Drop, L: Ledger> Run<M, L> {
         );
         let buf = ByteBuf::new(alloc, 65_536)?;
         let read = self.ask(1, Call::Read { now: 0, buf });
-        let wanted = packets_of(alloc, row.3)?;
+        let wanted = input_of(alloc, "", row.3)?;
         let is_recorded = match read {
             Some(Reply::Data(buf)) => buf.bytes() == wanted.as_slice(),
             Some(Reply::Again { ended: false }) => wanted.is_empty(),

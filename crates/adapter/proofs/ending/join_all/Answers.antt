@@ -1,7 +1,5 @@
-use Rattle.std.proofs.Common.{rules, ◌≡◌, ap, ◌∙◌, ◌∷◌, [], ◌++◌}
-use Rattle.std.specs.Option.{option_to_list}
+use Rattle.adapter.proofs.Imports.{rules, ◌≡◌, ap, ◌∙◌, ◌∷◌, [], ◌++◌, option_to_list, rows_of}
 use Rattle.adapter.proofs.Gathers.{first_gathering, next_gathering, next_fits, all_gathered, rows_more}
-use Rattle.adapter.specs.Ends.{rows_of}
 use Rattle.adapter.proofs.ending.join_all.Goals as goal
 
 pub loop-client-init : goal.loop-client-init

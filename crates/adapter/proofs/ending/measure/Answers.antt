@@ -1,5 +1,4 @@
-use Rattle.std.proofs.Common.{map, rules, ◌++◌, ◌∷◌, [], ◌≤◌}
-use Rattle.dmx_calls.specs.declared.limits.TheConstants.{DEMUX_NODES as nodes}
+use Rattle.adapter.proofs.Imports.{map, rules, ◌++◌, ◌∷◌, [], ◌≤◌, nodes}
 use Rattle.adapter.proofs.Looking.{next_looked}
 use Rattle.adapter.proofs.ending.measure.Goals as goal
 

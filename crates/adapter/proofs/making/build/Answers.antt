@@ -1,5 +1,4 @@
-use Rattle.std.proofs.Common.{rules, ◌≡◌, ◌++◌, ◌∷◌, [], length, subst, sym}
-use Rattle.adapter.specs.Rows.{AreFreshRows}
+use Rattle.adapter.proofs.Imports.{rules, ◌≡◌, ◌++◌, ◌∷◌, [], length, subst, sym, AreFreshRows}
 use Rattle.adapter.proofs.Deals.{fresh_rows}
 use Rattle.adapter.proofs.making.build.Goals as goal
 

@@ -1,5 +1,4 @@
-use Rattle.std.proofs.Common.{◌≡◌, vec_len}
-use Rattle.adapter.specs.Rows.{AreFreshRows}
+use Rattle.adapter.proofs.Imports.{◌≡◌, vec_len, AreFreshRows}
 use Rattle.adapter.proofs.making.build.Given as goal
 
 abbrev pub invariant-nodes : goal.invariant-nodes

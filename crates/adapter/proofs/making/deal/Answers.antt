@@ -1,6 +1,4 @@
-use Rattle.std.proofs.Common.{rules, ◌≡◌, ◌+◌, ℕ, length, slice_get, slice_index_or, Some, ap, ◌∙◌, ◌∷◌, [], ◌++◌, sym, subst, set, arith, length-append}
-use Rattle.std.specs.Option.{option_to_list}
-use Rattle.std.proofs.lemmas.Option.{slice_get-get_or}
+use Rattle.adapter.proofs.Imports.{rules, ◌≡◌, ◌+◌, ℕ, length, slice_get, slice_index_or, Some, ap, ◌∙◌, ◌∷◌, [], ◌++◌, sym, subst, set, arith, length-append, option_to_list, slice_get-get_or}
 use Rattle.adapter.proofs.Deals.{Dealing, next_deal}
 use Rattle.adapter.proofs.making.deal.Goals as goal
 

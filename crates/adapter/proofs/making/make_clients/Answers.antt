@@ -1,8 +1,4 @@
-use Rattle.std.proofs.Common.{rules, ◌≡◌, ℕ, ◌+◌, ◌≤◌, ◌^◌, ◌∙◌, ◌++◌, ◌∷◌, [], List, length, vec_len, ap, subst, sym, refl, arith}
-use Rattle.std.specs.Option.{option_to_list}
-use Rattle.atomic_table.specs.Seated.{TableId}
-use Rattle.adapter.specs.Callers.{Caller}
-use Rattle.adapter.specs.Inside.Held.{AreMine}
+use Rattle.adapter.proofs.Imports.{rules, ◌≡◌, ℕ, ◌+◌, ◌≤◌, ◌^◌, ◌∙◌, ◌++◌, ◌∷◌, [], List, length, vec_len, ap, subst, sym, refl, arith, option_to_list, TableId, Caller, AreMine}
 use Rattle.adapter.proofs.Pairs.{Made, next_row_of, next_made, fresh_mine}
 use Rattle.adapter.proofs.making.make_clients.Goals as goal
 

@@ -1,8 +1,4 @@
-use Rattle.std.proofs.Common.{rules, ◌≡◌, ◌∙◌, ◌++◌, ◌∷◌, [], List, vec_len, ap, subst, sym, refl}
-use Rattle.std.specs.Option.{option_to_list}
-use Rattle.atomic_table.specs.Seated.{TableId}
-use Rattle.node_lock.specs.declared.view.View.{View}
-use Rattle.dmx_calls.specs.History.{Entry}
+use Rattle.adapter.proofs.Imports.{rules, ◌≡◌, ◌∙◌, ◌++◌, ◌∷◌, [], List, vec_len, ap, subst, sym, refl, option_to_list, TableId, View, Entry}
 use Rattle.adapter.proofs.Pairs.{Paired, next_pair}
 use Rattle.adapter.proofs.making.with_dvr.Goals as goal
 

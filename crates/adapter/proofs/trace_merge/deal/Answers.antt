@@ -1,8 +1,4 @@
-use Rattle.std.proofs.Common.{◌≡◌, ◌≤◌, ◌<◌, ◌∙◌, ◌++◌, ◌∷◌, [], ap, sym, subst, length, map, set, get_or, arith, length-set}
-use Rattle.std.proofs.lemmas.List.{length-map, get_or-map, map-set}
-use Rattle.dmx_calls.specs.declared.log.Entry.{Entry as ToldEntry}
-use Rattle.adapter.specs.Merging.{AreOnNodes}
-use Rattle.lemmas.proofs.Lists.{all_front}
+use Rattle.adapter.proofs.Imports.{◌≡◌, ◌≤◌, ◌<◌, ◌∙◌, ◌++◌, ◌∷◌, [], ap, sym, subst, length, map, set, get_or, arith, length-set, length-map, get_or-map, map-set, ToldEntry, AreOnNodes, all_front}
 use Rattle.adapter.proofs.Dealing.{all-last, dealing-more}
 use Rattle.adapter.proofs.trace_merge.deal.Goals as goal
 

@@ -1,5 +1,4 @@
-use Rattle.std.proofs.Common.{◌≡◌, ◌++◌, [], length, map, filter, reverse, get_or}
-use Rattle.adapter.specs.Merging.{is_on, AreOnNodes}
+use Rattle.adapter.proofs.Imports.{◌≡◌, ◌++◌, [], length, map, filter, reverse, get_or, is_on, AreOnNodes}
 use Rattle.adapter.proofs.Dealing.{IsDealing}
 use Rattle.adapter.proofs.trace_merge.deal.Given as goal
 

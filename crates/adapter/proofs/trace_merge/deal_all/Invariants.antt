@@ -1,5 +1,4 @@
-use Rattle.std.proofs.Common.{◌≡◌, ◌<◌, ◌++◌, ℕ, [], length, map, filter, reverse, get_or, All}
-use Rattle.adapter.specs.Merging.{is_on, all_of, AreOnNodes}
+use Rattle.adapter.proofs.Imports.{◌≡◌, ◌<◌, ◌++◌, ℕ, [], length, map, filter, reverse, get_or, All, is_on, all_of, AreOnNodes}
 use Rattle.adapter.proofs.trace_merge.deal_all.Given as goal
 
 abbrev pub invariant-logs : goal.invariant-logs

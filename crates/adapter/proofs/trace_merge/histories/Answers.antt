@@ -1,9 +1,4 @@
-use Rattle.std.proofs.Common.{◌∙◌, [], List, subst, map, filter, reverse, get_or, arith}
-use Rattle.std.specs.List.Sorted.{IsPermutation, IsNonDecreasingBy}
-use Rattle.std.proofs.lemmas.List.Sorted.{IsPermutation-trans, IsPermutation-reverse}
-use Rattle.std.proofs.lemmas.Option.{slice_get_within, get_or_from_slice_get}
-use Rattle.dmx_calls.specs.declared.log.Entry.{Entry as ToldEntry}
-use Rattle.adapter.specs.Merging.{is_on, all_of, AreByPlace, AreDealt, AreSorted}
+use Rattle.adapter.proofs.Imports.{◌∙◌, [], List, subst, map, filter, reverse, get_or, arith, IsPermutation, IsNonDecreasingBy, IsPermutation-trans, IsPermutation-reverse, slice_get_within, get_or_from_slice_get, ToldEntry, is_on, all_of, AreByPlace, AreDealt, AreSorted}
 use Rattle.adapter.proofs.trace_merge.histories.Goals as goal
 
 by_place : (logs old new : List (List ToldEntry)) → AreDealt logs old → AreSorted old new → AreByPlace logs new

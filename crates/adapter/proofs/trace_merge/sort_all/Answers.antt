@@ -1,8 +1,4 @@
-use Rattle.std.proofs.Common.{◌≡◌, ◌<◌, ◌∙◌, [], ap, sym, subst, length, map, get_or, arith, rules, length-set}
-use Rattle.std.specs.List.Sorted.{IsPermutation, IsNonDecreasingBy}
-use Rattle.std.proofs.lemmas.List.{length-map, get_or-map, map-set}
-use Rattle.std.proofs.lemmas.List.Sorted.{IsPermutation-trans, IsNonDecreasingBy-from_sort_by_key}
-use Rattle.dmx_calls.specs.declared.log.Entry.{Entry as ToldEntry}
+use Rattle.adapter.proofs.Imports.{◌≡◌, ◌<◌, ◌∙◌, [], ap, sym, subst, length, map, get_or, arith, rules, length-set, IsPermutation, IsNonDecreasingBy, length-map, get_or-map, map-set, IsPermutation-trans, IsNonDecreasingBy-from_sort_by_key, ToldEntry}
 use Rattle.adapter.proofs.Dealing.{set-each}
 use Rattle.adapter.proofs.trace_merge.sort_all.Goals as goal
 

@@ -1,5 +1,4 @@
-use Rattle.std.proofs.Common.{◌≡◌, ◌<◌, ℕ, [], length, map, get_or}
-use Rattle.std.specs.List.Sorted.{IsPermutation, IsNonDecreasingBy}
+use Rattle.adapter.proofs.Imports.{◌≡◌, ◌<◌, ℕ, [], length, map, get_or, IsPermutation, IsNonDecreasingBy}
 use Rattle.adapter.proofs.trace_merge.sort_all.Given as goal
 
 abbrev pub invariant-nodes : goal.invariant-nodes

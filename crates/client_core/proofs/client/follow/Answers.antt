@@ -1,5 +1,4 @@
-use Rattle.std.proofs.Common.{◌≡◌, ◌+◌, ◌*◌, subst, arith}
-use Rattle.client_core.specs.Inside.Clocks.{AreFew}
+use Rattle.client_core.proofs.Imports.{◌≡◌, ◌+◌, ◌*◌, subst, arith, AreFew}
 use Rattle.client_core.proofs.client.follow.Goals as goal
 
 pub returns-then-not-is_empty-clause-few : goal.returns-then-not-is_empty-clause-few

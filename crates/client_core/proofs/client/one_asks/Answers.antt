@@ -1,8 +1,4 @@
-use Rattle.std.proofs.Common.{subst, arith}
-use Rattle.std.specs.List.{All}
-use Rattle.std.proofs.lemmas.List.{take_all}
-use Rattle.std.proofs.lemmas.List.Elements.{All-more}
-use Rattle.client_core.specs.Inside.Core.{CanBegin}
+use Rattle.client_core.proofs.Imports.{subst, arith, All, take_all, All-more, CanBegin}
 use Rattle.client_core.proofs.client.one_asks.Goals as goal
 
 pub commands-preserved : goal.commands-preserved

@@ -1,6 +1,4 @@
-use Rattle.std.proofs.Common.{take}
-use Rattle.std.specs.List.{All}
-use Rattle.client_core.specs.Inside.Core.{CanBegin}
+use Rattle.client_core.proofs.Imports.{take, All, CanBegin}
 use Rattle.client_core.proofs.client.one_asks.Given as goal
 
 abbrev pub invariant-commands : goal.invariant-commands

@@ -1,6 +1,4 @@
-use Rattle.std.proofs.Common.{◌≡◌, ◌∙◌, ap, length, take, arith}
-use Rattle.std.proofs.lemmas.List.{length-take-le}
-use Rattle.client_script.specs.Script.{writes_of}
+use Rattle.client_core.proofs.Imports.{◌≡◌, ◌∙◌, ap, length, take, arith, length-take-le, writes_of}
 use Rattle.client_core.proofs.Joining.{are_counted}
 use Rattle.client_core.proofs.client.plays_of.Goals as goal
 

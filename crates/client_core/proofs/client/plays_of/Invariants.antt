@@ -1,6 +1,4 @@
-use Rattle.std.proofs.Common.{take}
-use Rattle.client_script.specs.Script.{writes_of}
-use Rattle.client_core.specs.Plays.{HasPlayed}
+use Rattle.client_core.proofs.Imports.{take, writes_of, HasPlayed}
 use Rattle.client_core.proofs.client.plays_of.Given as goal
 
 -- the first writes were made

@@ -1,15 +1,4 @@
-use Rattle.std.proofs.Common.{◌≡◌, ℕ, ◌+◌, ◌≤◌, List, ◌++◌, map, length, vec_capacity}
-use Rattle.std.specs.List.{All}
-use Rattle.dmx_calls.specs.Response.{Response}
-use Rattle.dmx_calls.specs.declared.outcome.Outcome.{Outcome}
-use Rattle.client_core.specs.declared.command.Command.{Command}
-use Rattle.client_core.specs.Commands.{Slots}
-use Rattle.client_core.specs.Events.{Ended, progress_from}
-use Rattle.client_core.specs.Outcomes.{outcome_by}
-use Rattle.client_core.specs.Inside.Tasks.{AreSlots}
-use Rattle.client_core.specs.Inside.Clocks.{NodeClock, counter_in}
-use Rattle.client_core.specs.Deeds.{Batches}
-use Rattle.client_core.specs.Inside.Core.{behind, IsLate, IsCommandInRange, IsCommandOf, CanBegin}
+use Rattle.client_core.proofs.Imports.{◌≡◌, ℕ, ◌+◌, ◌≤◌, List, ◌++◌, map, length, vec_capacity, All, Response, Outcome, Command, Slots, Ended, progress_from, outcome_by, AreSlots, NodeClock, counter_in, Batches, behind, IsLate, IsCommandInRange, IsCommandOf, CanBegin}
 use Rattle.client_core.proofs.current.begin.Given as goal
 
 -- the commands that were begun are through, and the client goes on as at first

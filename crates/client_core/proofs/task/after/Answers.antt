@@ -1,6 +1,4 @@
-use Rattle.std.proofs.Common.{◌∷◌, ap, ◌∙◌}
-use Rattle.dmx_calls.specs.Calls.{response_of}
-use Rattle.client_core.specs.Inside.Tasks.{resumed}
+use Rattle.client_core.proofs.Imports.{◌∷◌, ap, ◌∙◌, response_of, resumed}
 use Rattle.client_core.proofs.task.after.Goals as goal
 
 pub returns-in-Call-clause-done : goal.returns-in-Call-clause-done

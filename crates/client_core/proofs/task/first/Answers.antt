@@ -1,10 +1,4 @@
-use Rattle.std.proofs.Common.{◌≡◌, ℕ, List, refl, ap, ◌∙◌, None, rules}
-use Rattle.std.specs.Prelude.{slice_index_or}
-use Rattle.dmx_calls.specs.Response.{Response}
-use Rattle.client_core.specs.declared.deed.Deed.{Deed}
-use Rattle.client_core.specs.declared.deed.Deed.TheVariants.{Once}
-use Rattle.client_script.specs.declared.line.Want.TheVariants.{Open}
-use Rattle.client_core.specs.Commands.{Slots, done, done_at, done_by_slot}
+use Rattle.client_core.proofs.Imports.{◌≡◌, ℕ, List, refl, ap, ◌∙◌, None, rules, slice_index_or, Response, Deed, Once, Open, Slots, done, done_at, done_by_slot}
 use Rattle.client_core.proofs.task.first.Goals.{in_default-via-in-Once+in_default, in_default-via-in_default}
 use Rattle.client_core.proofs.task.first.Goals as goal
 

@@ -1,4 +1,4 @@
-use Rattle.std.proofs.Common.{refl}
+use Rattle.client_script.proofs.Imports.{refl}
 use Rattle.text_forms.specs.Numbers.{value_after}
 use Rattle.text_forms.specs.Hex.{hex_digit, hex_byte}
 use Rattle.text_forms.specs.Words.{input_named, output_named}

@@ -1,4 +1,4 @@
-use Rattle.std.proofs.Common.{refl}
+use Rattle.client_script.proofs.Imports.{refl}
 use Rattle.std.specs.Fmt.{digits}
 use Rattle.filter_match.specs.Match.{numbers_below}
 use Rattle.dmx_calls.specs.Names.{input_text, output_text}

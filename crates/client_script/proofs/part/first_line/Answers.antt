@@ -1,7 +1,5 @@
-use Rattle.std.proofs.Common.{◌≡◌, ◌==◌, drop, sym}
-use Rattle.std.proofs.lemmas.List.{take_rest}
-use Rattle.std.specs.Prelude.{Some, None}
-use Rattle.std.specs.List.{position}
+use Rattle.client_script.proofs.Imports.{◌≡◌, drop, sym, take_rest, Some, None, position}
+use Rattle.std.proofs.Common.{◌==◌}
 use Rattle.client_script.proofs.Searching.{first_feed-some, first_feed-none}
 use Rattle.client_script.proofs.part.first_line.Goals as goal
 

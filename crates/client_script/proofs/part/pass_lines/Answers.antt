@@ -1,8 +1,4 @@
-use Rattle.std.proofs.Common.{◌≡◌, true, false, rules, arith}
-use Rattle.std.proofs.lemmas.List.Elements.{All-nil}
-use Rattle.std.specs.Prelude.{◌==◌}
-use Rattle.client_script.specs.Script.{is_stream}
-use Rattle.client_script.specs.Inside.Part.{FallsInto}
+use Rattle.client_script.proofs.Imports.{◌≡◌, true, false, rules, arith, All-nil, ◌==◌, is_stream, FallsInto}
 use Rattle.client_script.proofs.Searching.{found-line, passed-line, behind-line, front-line}
 use Rattle.client_script.proofs.part.pass_lines.Goals as goal
 

@@ -1,5 +1,4 @@
-use Rattle.std.proofs.Common.{◌≡◌, ◌≤◌, length, take, drop}
-use Rattle.client_script.specs.Inside.Part.{HasNoFeed, Passes}
+use Rattle.client_script.proofs.Imports.{◌≡◌, ◌≤◌, length, take, drop, HasNoFeed, Passes}
 use Rattle.client_script.proofs.part.pass_lines.Given as goal
 
 abbrev pub invariant-lines : goal.invariant-lines

@@ -1,5 +1,4 @@
-use Rattle.std.proofs.Common.{sym}
-use Rattle.std.proofs.lemmas.List.{take_rest}
+use Rattle.client_script.proofs.Imports.{sym, take_rest}
 use Rattle.client_script.proofs.Cuts.{cut-some, cut-none}
 use Rattle.client_script.proofs.pieces.cut_at.Goals as goal
 

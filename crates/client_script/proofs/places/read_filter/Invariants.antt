@@ -1,6 +1,4 @@
-use Rattle.std.proofs.Common.{◌≡◌, ◌-◌}
-use Rattle.text_forms.specs.Places.{IsFilter}
-use Rattle.client_script.specs.Places.{filter_in}
+use Rattle.client_script.proofs.Imports.{◌≡◌, ◌-◌, IsFilter, filter_in}
 use Rattle.client_script.proofs.Filters.{filter_by}
 use Rattle.client_script.proofs.places.read_filter.Given as goal
 

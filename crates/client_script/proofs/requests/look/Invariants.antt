@@ -1,5 +1,4 @@
-use Rattle.std.proofs.Common.{◌<◌, take}
-use Rattle.std.specs.List.{All}
+use Rattle.client_script.proofs.Imports.{◌<◌, take, All}
 use Rattle.client_script.proofs.requests.look.Given as goal
 
 abbrev pub invariant-bytes : goal.invariant-bytes

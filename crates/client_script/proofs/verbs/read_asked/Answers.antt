@@ -1,7 +1,4 @@
-use Rattle.std.proofs.Common.{subst}
-use Rattle.client_script.specs.Words.{Reading}
-use Rattle.client_script.specs.Grammar.{IsPlain}
-use Rattle.client_script.specs.declared.line.Line.{Line}
+use Rattle.client_script.proofs.Imports.{subst, Reading, IsPlain, Line}
 use Rattle.client_script.proofs.Numbering.{Gives, command_plain}
 use Rattle.client_script.proofs.verbs.read_asked.Goals as goal
 

@@ -1,6 +1,4 @@
-use Rattle.std.proofs.Common.{◌≡◌, rules}
-use Rattle.std.specs.Prelude.{Some}
-use Rattle.client_script.specs.Writes.{written_named}
+use Rattle.client_script.proofs.Imports.{◌≡◌, rules, Some, written_named}
 use Rattle.client_script.proofs.Writing.{written_is}
 use Rattle.client_script.proofs.verbs.read_write.Goals as goal
 

@@ -1,5 +1,4 @@
-use Rattle.std.proofs.Common.{◌≡◌, ◌≤◌, ◌-◌, length}
-use Rattle.std.specs.Io.KnownBytes.{Consumes}
+use Rattle.emu_top.proofs.Imports.{◌≡◌, ◌≤◌, ◌-◌, length, Consumes}
 use Rattle.emu_top.proofs.asked.read_bytes.Given as goal
 
 abbrev pub invariant-reading : goal.invariant-reading

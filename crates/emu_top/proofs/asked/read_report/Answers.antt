@@ -1,6 +1,5 @@
-use Rattle.std.proofs.Common.{◌≡◌, ap, Err, length, rules}
-use Rattle.emu_io.specs.Causes.{raised}
-use Rattle.emu_top.specs.Inside.Asking.{AsksFor}
+use Rattle.emu_top.proofs.Imports.{◌≡◌, ap, length, rules, raised, AsksFor}
+use Rattle.std.proofs.Common.{Err}
 use Rattle.emu_top.proofs.Asks.{begins, fails_in_report}
 use Rattle.emu_top.proofs.asked.read_report.Goals as goal
 

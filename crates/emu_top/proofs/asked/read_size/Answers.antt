@@ -1,8 +1,4 @@
-use Rattle.std.proofs.Common.{◌≡◌, ◌<◌, ◌≤◌, ◌∙◌, ap, subst, ◌∷◌, [], length, inl, inr, rules, arith}
-use Rattle.std.proofs.lemmas.Grind.{common_steps}
-use Rattle.std.proofs.KnownBytes.{Consumes-trans}
-use Rattle.std.specs.Io.KnownBytes.{Consumes, IsAtEnd}
-use Rattle.emu_top.specs.Checking.{size_of}
+use Rattle.emu_top.proofs.Imports.{◌≡◌, ◌<◌, ◌≤◌, ◌∙◌, ap, subst, ◌∷◌, [], length, inl, inr, rules, arith, common_steps, Consumes-trans, Consumes, IsAtEnd, size_of}
 use Rattle.emu_top.proofs.Asks.{in_line, no_line, one_byte, when_other, when_sized}
 use Rattle.emu_top.proofs.asked.read_size.Goals as goal
 

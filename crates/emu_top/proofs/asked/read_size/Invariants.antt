@@ -1,6 +1,4 @@
-use Rattle.std.proofs.Common.{◌≡◌, ◌≤◌, ◌-◌, length}
-use Rattle.std.specs.Io.KnownBytes.{Consumes}
-use Rattle.client_script.specs.Inside.Part.{HasNoFeed}
+use Rattle.emu_top.proofs.Imports.{◌≡◌, ◌≤◌, ◌-◌, length, Consumes, HasNoFeed}
 use Rattle.emu_top.proofs.asked.read_size.Given as goal
 
 abbrev pub invariant-reading : goal.invariant-reading

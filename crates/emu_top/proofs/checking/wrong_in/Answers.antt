@@ -1,6 +1,6 @@
-use Rattle.std.proofs.Common.{◌∙◌, ap, sym, subst, length, ◌++◌, Err}
+use Rattle.emu_top.proofs.Imports.{◌∙◌, ap, sym, subst, length, ◌++◌, IsPacket}
+use Rattle.std.proofs.Common.{Err}
 use Rattle.std.specs.Prelude.{All}
-use Rattle.ts_packet.specs.Fields.{IsPacket}
 use Rattle.emu_top.proofs.Judging.{counted, declined_by_session, declined_by_stream, handed_on, judged, packets_are}
 use Rattle.emu_top.proofs.checking.wrong_in.Goals as goal
 

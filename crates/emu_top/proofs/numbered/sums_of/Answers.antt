@@ -1,7 +1,5 @@
-use Rattle.std.proofs.Common.{◌≡◌, ◌∙◌, List, ℕ, Some, subst}
-use Rattle.ts_make.specs.Made.{made}
-use Rattle.ts_packet.specs.declared.size.PacketSize.TheVariants.{Of188}
-use Rattle.emu_top.specs.Session.{Refuses, Runs}
+use Rattle.emu_top.proofs.Imports.{◌≡◌, ◌∙◌, List, ℕ, subst, made, Of188, Refuses, Runs}
+use Rattle.std.proofs.Common.{Some}
 use Rattle.emu_top.proofs.Numbers.{refused, summed, unfailed}
 use Rattle.emu_top.proofs.numbered.sums_of.Goals as goal
 

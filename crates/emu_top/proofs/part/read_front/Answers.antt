@@ -1,8 +1,5 @@
-use Rattle.std.proofs.Common.{◌≡◌, ◌≤◌, ◌++◌, ◌+◌, ◌∙◌, ap, take, drop, length, None, rules, arith, length-append, length-take-le}
-use Rattle.std.proofs.lemmas.List.{take-append-le}
-use Rattle.std.proofs.lemmas.Grind.{common_steps}
-use Rattle.std.proofs.KnownBytes.{Consumes-trans}
-use Rattle.client_script.specs.Script.{script_len, whole_lines}
+use Rattle.emu_top.proofs.Imports.{◌≡◌, ◌≤◌, ◌++◌, ◌+◌, ◌∙◌, ap, take, drop, length, rules, arith, length-append, length-take-le, take-append-le, common_steps, Consumes-trans, script_len, whole_lines}
+use Rattle.std.proofs.Common.{None}
 use Rattle.emu_top.proofs.Fronts.{ahead_of}
 use Rattle.emu_top.proofs.part.read_front.Goals as goal
 

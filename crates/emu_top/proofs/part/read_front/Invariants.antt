@@ -1,7 +1,4 @@
-use Rattle.std.proofs.Common.{◌≡◌, ◌≤◌, ◌-◌, ◌+◌, length}
-use Rattle.std.specs.Prelude.{IfSome}
-use Rattle.std.specs.Io.KnownBytes.{Consumes}
-use Rattle.client_script.specs.Script.{script_len, whole_lines, most_bytes}
+use Rattle.emu_top.proofs.Imports.{◌≡◌, ◌≤◌, ◌-◌, ◌+◌, length, IfSome, Consumes, script_len, whole_lines, most_bytes}
 use Rattle.emu_top.proofs.part.read_front.Given as goal
 
 abbrev pub invariant-reading : goal.invariant-reading

@@ -1,5 +1,4 @@
-use Rattle.std.proofs.Common.{rules}
-use Rattle.std.proofs.lemmas.Result.{IfErr-weaker}
+use Rattle.emu_top.proofs.Imports.{rules, IfErr-weaker}
 use Rattle.emu_top.proofs.Outputs.{fails_early, refused_by}
 use Rattle.emu_top.proofs.session.read_session.Goals as goal
 

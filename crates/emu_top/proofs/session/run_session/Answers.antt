@@ -10,4 +10,4 @@ returns-clause-refuses g c begun size first takes h =
 pub returns-in-Ok-clause-runs : goal.returns-in-Ok-clause-runs
 returns-in-Ok-clause-runs g c begun size first takes h =
     run_of c.args.batch size c.args.session.script c.args.session.puller begun _ _ first c.in-Ok.ran c.requires.some takes h
-    c.in-Ok.ensures.left c.in-Ok.ensures.rose c.in-Ok.ensures.later c.in-Ok.ensures.end
+    c.in-Ok.ensures.left c.in-Ok.ensures.rose c.in-Ok.ensures.later c.in-Ok.ensures.end c.look_at.ensures

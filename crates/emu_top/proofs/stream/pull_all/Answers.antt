@@ -1,7 +1,4 @@
-use Rattle.std.proofs.Common.{◌≡◌, subst, ◌++◌, [], append-nil, length-append, rules, arith}
-use Rattle.feed_pull.specs.Pulling.{given_by}
-use Rattle.feed_pull.specs.Streams.{Draws}
-use Rattle.feed_pull.proofs.Drawing.{draws_none, draws_then}
+use Rattle.emu_top.proofs.Imports.{◌≡◌, subst, ◌++◌, [], append-nil, length-append, rules, arith, given_by, Draws, draws_none, draws_then}
 use Rattle.emu_top.proofs.stream.pull_all.Goals as goal
 
 pub batches-init : goal.batches-init

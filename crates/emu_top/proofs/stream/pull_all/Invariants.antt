@@ -1,5 +1,4 @@
-use Rattle.std.proofs.Common.{◌≡◌, ◌+◌, ◌-◌, ◌^◌, length}
-use Rattle.feed_pull.specs.Streams.{Draws}
+use Rattle.emu_top.proofs.Imports.{◌≡◌, ◌+◌, ◌-◌, ◌^◌, length, Draws}
 use Rattle.emu_top.proofs.stream.pull_all.Given as goal
 
 abbrev pub invariant-batches : goal.invariant-batches

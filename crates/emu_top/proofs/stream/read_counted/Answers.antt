@@ -1,5 +1,5 @@
-use Rattle.std.proofs.Common.{◌≡◌, None, Some, rules}
-use Rattle.feed_pull.specs.Pulling.{fault_of}
+use Rattle.emu_top.proofs.Imports.{◌≡◌, rules, fault_of}
+use Rattle.std.proofs.Common.{None, Some}
 use Rattle.feed_pull.specs.declared.fault.PullFault.TheVariants as pull
 use Rattle.emu_top.proofs.Whole.{reads_cut_off, unfailed_of, whole_of}
 use Rattle.emu_top.proofs.stream.read_counted.Goals as goal

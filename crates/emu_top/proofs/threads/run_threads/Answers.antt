@@ -14,4 +14,4 @@ returns-in-Ok-histories_of_run-clause-makes g c begun size first takes h =
     let is = c.in-Ok-work.ensures in
     threads_made c.args.batch size _ c.args.session.script left begun _ _ first c.args.session.puller c.in-Ok-histories_of_run.histories left.head.read_fault _ _
     takes h is.left (λ among stream w. c.in-Ok-histories_of_run.ensures.run c.args.session.script among c.args.batch _ stream _ w) is.rose is.later is.end
-    refl refl refl
+    c.look_at.ensures refl refl refl

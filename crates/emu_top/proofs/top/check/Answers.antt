@@ -1,5 +1,4 @@
-use Rattle.std.proofs.Common.{refl, codes, true, false, rules}
-use Rattle.emu_top.specs.Checking.{Judges}
+use Rattle.emu_top.proofs.Imports.{refl, codes, true, false, rules, Judges}
 use Rattle.emu_top.proofs.Judging.{answers_no, answers_yes}
 use Rattle.emu_top.proofs.top.check.Goals as goal
 

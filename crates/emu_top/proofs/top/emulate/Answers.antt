@@ -1,6 +1,5 @@
-use Rattle.std.proofs.Common.{◌∙◌, ap, sym, Some}
-use Rattle.command_words.specs.declared.Command.TheVariants.{Run}
-use Rattle.emu_top.specs.Session.{IsThreadOutput}
+use Rattle.emu_top.proofs.Imports.{◌∙◌, ap, sym, Run, IsThreadOutput}
+use Rattle.std.proofs.Common.{Some}
 use Rattle.emu_top.proofs.Answering.{does, serves}
 use Rattle.emu_top.proofs.top.emulate.Goals as goal
 

@@ -1,5 +1,4 @@
-use Rattle.std.proofs.Common.{◌≡◌, ◌∙◌}
-use Rattle.ts_make.specs.Made.{made}
+use Rattle.emu_top.proofs.Imports.{◌≡◌, ◌∙◌, made}
 use Rattle.emu_top.proofs.Answering.{told_as}
 use Rattle.emu_top.proofs.top.make.Goals as goal
 

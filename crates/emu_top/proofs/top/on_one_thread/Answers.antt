@@ -1,6 +1,4 @@
-use Rattle.std.proofs.Common.{◌≡◌}
-use Rattle.ts_make.specs.Made.{made}
-use Rattle.emu_top.specs.Session.{IsSerialOutput, IsSums}
+use Rattle.emu_top.proofs.Imports.{◌≡◌, made, IsSerialOutput, IsSums}
 use Rattle.emu_top.proofs.Answering.{does, gives}
 use Rattle.emu_top.proofs.Judging.{checks}
 use Rattle.emu_top.proofs.top.on_one_thread.Goals as goal

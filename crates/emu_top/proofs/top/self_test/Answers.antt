@@ -1,5 +1,4 @@
-use Rattle.std.proofs.Common.{sym, subst}
-use Rattle.emu_top.specs.Session.{IsSums}
+use Rattle.emu_top.proofs.Imports.{sym, subst, IsSums}
 use Rattle.emu_top.proofs.Answering.{told_as}
 use Rattle.emu_top.proofs.top.self_test.Goals as goal
 

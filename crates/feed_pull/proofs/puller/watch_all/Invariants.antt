@@ -1,5 +1,4 @@
-use Rattle.std.proofs.Common.{◌≡◌, ◌+◌, ◌++◌, ℕ, List, take}
-use Rattle.ts_watch.specs.Watching.{Watched}
+use Rattle.feed_pull.proofs.Imports.{◌≡◌, ◌+◌, ◌++◌, ℕ, List, take, Watched}
 use Rattle.feed_pull.proofs.puller.watch_all.Given as goal
 
 abbrev pub invariant-packets : goal.invariant-packets

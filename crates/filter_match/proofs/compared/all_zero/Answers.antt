@@ -1,8 +1,4 @@
-use Rattle.std.proofs.Common.{not, slice_index, nat_eq, ◌∙◌, ap, sym, arith, w8}
-use Rattle.std.specs.List.{list_all}
-use Rattle.std.proofs.lemmas.List.{take_all}
-use Rattle.std.proofs.lemmas.Simd.{bitmask_splat}
-use Rattle.std.proofs.Math.Bool.{not-not}
+use Rattle.filter_match.proofs.Imports.{not, slice_index, nat_eq, ◌∙◌, ap, sym, arith, w8, list_all, take_all, bitmask_splat, not-not}
 use Rattle.filter_match.proofs.Lanes.{mask-none, all-places, all-same}
 use Rattle.filter_match.proofs.compared.all_zero.Goals as goal
 

@@ -1,5 +1,4 @@
-use Rattle.std.proofs.Common.{◌∙◌, refl}
-use Rattle.filter_match.specs.Match.{equals_at, differs_at}
+use Rattle.filter_match.proofs.Imports.{◌∙◌, refl, equals_at, differs_at}
 use Rattle.filter_match.proofs.Bytes.{all-none, any-none, all-more, any-more, differences-is, equals-is, differs-is}
 use Rattle.filter_match.proofs.compared.compare_bytes.Goals as goal
 

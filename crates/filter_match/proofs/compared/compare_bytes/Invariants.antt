@@ -1,6 +1,4 @@
-use Rattle.std.proofs.Common.{◌≡◌}
-use Rattle.std.specs.List.{list_all, list_any}
-use Rattle.filter_match.specs.Match.{numbers_below, equals_at, differs_at}
+use Rattle.filter_match.proofs.Imports.{◌≡◌, list_all, list_any, numbers_below, equals_at, differs_at}
 use Rattle.filter_match.proofs.compared.compare_bytes.Given as goal
 
 abbrev pub invariant-bytes : goal.invariant-bytes

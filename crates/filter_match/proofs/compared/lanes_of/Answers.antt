@@ -1,8 +1,4 @@
-use Rattle.std.proofs.Common.{◌≡◌, ◌≢◌, ◌+◌, ◌∙◌, zero, suc, slice_index, arith, ap}
-use Rattle.std.proofs.lemmas.List.{get_or-set_same, get_or-set_other}
-use Rattle.std.proofs.lemmas.Simd.{get_or-chunk, length-chunk}
-use Rattle.std.specs.Simd.Lanes.{chunk}
-use Rattle.filter_match.specs.Match.{place_of}
+use Rattle.filter_match.proofs.Imports.{◌≡◌, ◌≢◌, ◌+◌, ◌∙◌, zero, suc, slice_index, arith, ap, get_or-set_same, get_or-set_other, get_or-chunk, length-chunk, chunk, place_of}
 use Rattle.filter_match.proofs.Bytes.{place-more}
 use Rattle.filter_match.proofs.compared.lanes_of.Goals as goal
 

@@ -1,5 +1,4 @@
-use Rattle.std.proofs.Common.{◌≡◌}
-use Rattle.section_parse.specs.Inside.Keeping.{all_given, bytes_kept}
+use Rattle.item_select.proofs.Imports.{◌≡◌, all_given, bytes_kept}
 use Rattle.item_select.proofs.section.drain.Given as goal
 
 abbrev pub invariant-sections : goal.invariant-sections

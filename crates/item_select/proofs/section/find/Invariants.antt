@@ -1,6 +1,4 @@
-use Rattle.std.proofs.Common.{◌≡◌, ◌≤◌, filter, vec_capacity}
-use Rattle.section_parse.specs.Inside.Keeping.{all_given, bytes_kept}
-use Rattle.item_select.specs.Items.{is_selected}
+use Rattle.item_select.proofs.Imports.{◌≡◌, ◌≤◌, filter, vec_capacity, all_given, bytes_kept, is_selected}
 use Rattle.item_select.proofs.section.find.Given as goal
 
 abbrev pub invariant-sections : goal.invariant-sections

@@ -1,7 +1,4 @@
-use Rattle.std.proofs.Common.{arith, ◌≡◌, ◌*◌, bit_and}
-use Rattle.std.specs.Int.{bit_at}
-use Rattle.std.proofs.lemmas.Nat.Bits.{and_pow}
-use Rattle.std.proofs.lemmas.Bool.Decides.{nat_tests}
+use Rattle.node_buffer.proofs.Imports.{arith, ◌≡◌, ◌*◌, bit_and, bit_at, and_pow, nat_tests}
 use Rattle.node_buffer.proofs.filter.is_oneshot.Goals as goal
 
 pub returns : goal.returns

@@ -1,9 +1,4 @@
-use Rattle.std.proofs.Common.{◌∙◌, ◌||◌, ◌∷◌, [], ap, sym}
-use Rattle.std.proofs.Math.Bool.{or-false}
-use Rattle.dmx_calls.specs.Calls.{pids_of}
-use Rattle.dmx_calls.specs.Items.{is_named}
-use Rattle.ts_batch.specs.Places.{names}
-use Rattle.ts_batch.proofs.Named.{named-by}
+use Rattle.node_core.proofs.Imports.{◌∙◌, ◌||◌, ◌∷◌, [], ap, sym, or-false, pids_of, is_named, names, named-by}
 use Rattle.node_core.proofs.offer.named_places.Goals as goal
 
 pub returns-in-Section : goal.returns-in-Section

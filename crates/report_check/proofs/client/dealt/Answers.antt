@@ -1,9 +1,5 @@
-use Rattle.std.proofs.Common.{◌≡◌, ◌+◌, ◌-◌, ◌∙◌, ◌++◌, ◌∷◌, [], List, Bor, length, map, sym, ap, subst, arith}
+use Rattle.report_check.proofs.Imports.{◌≡◌, ◌+◌, ◌-◌, ◌∙◌, ◌++◌, ◌∷◌, [], List, Bor, length, map, sym, ap, subst, arith, DEMUX_NODES, ToldEntry, complete, told_nodes, dealt}
 use Rattle.std.proofs.lemmas.List.{length-append}
-use Rattle.dmx_calls.specs.declared.limits.TheConstants.{DEMUX_NODES}
-use Rattle.dmx_calls.specs.declared.log.Entry.{Entry as ToldEntry}
-use Rattle.report_check.specs.Completed.{complete}
-use Rattle.report_check.specs.Inside.Parts.{told_nodes, dealt}
 use Rattle.report_check.proofs.Dealt.{told_of, dealt_more, dealt_all}
 use Rattle.report_check.proofs.client.dealt.Goals as goal
 

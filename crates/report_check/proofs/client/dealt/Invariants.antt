@@ -1,8 +1,4 @@
-use Rattle.std.proofs.Common.{◌≡◌, ◌+◌, ◌-◌, ◌++◌, [], length, map}
-use Rattle.dmx_calls.specs.declared.limits.TheConstants.{DEMUX_NODES}
-use Rattle.dmx_calls.specs.Calls.{told_entry}
-use Rattle.report_check.specs.Completed.{complete}
-use Rattle.report_check.specs.Inside.Parts.{told_nodes, dealt}
+use Rattle.report_check.proofs.Imports.{◌≡◌, ◌+◌, ◌-◌, ◌++◌, [], length, map, DEMUX_NODES, told_entry, complete, told_nodes, dealt}
 use Rattle.report_check.proofs.client.dealt.Given as goal
 
 abbrev pub invariant-nodes : goal.invariant-nodes

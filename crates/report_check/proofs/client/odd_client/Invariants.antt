@@ -1,5 +1,4 @@
-use Rattle.std.proofs.Common.{◌≡◌, ◌+◌, length, map}
-use Rattle.report_check.specs.Inside.Parts.{told_nodes, dealt, AreDoneAs}
+use Rattle.report_check.proofs.Imports.{◌≡◌, ◌+◌, length, map, told_nodes, dealt, AreDoneAs}
 use Rattle.report_check.proofs.client.odd_client.Given as goal
 
 abbrev pub invariant-clients : goal.invariant-clients

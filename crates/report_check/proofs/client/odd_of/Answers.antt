@@ -1,9 +1,4 @@
-use Rattle.std.proofs.Common.{◌≡◌, [], List, map, subst}
-use Rattle.dmx_calls.specs.Log.{LogEntry}
-use Rattle.client_core.specs.Outcomes.{outcomes}
-use Rattle.script_run.specs.IsRun.{replies}
-use Rattle.report_check.specs.Walk.{CanRest, HasWalked, queues_in}
-use Rattle.report_check.specs.Inside.Parts.{told_nodes, dealt}
+use Rattle.report_check.proofs.Imports.{◌≡◌, [], List, map, subst, LogEntry, outcomes, replies, CanRest, HasWalked, queues_in, told_nodes, dealt}
 use Rattle.report_check.proofs.Dealt.{told_of, is_done, no_walk, other_outcomes}
 use Rattle.report_check.proofs.client.odd_of.Goals as goal
 

@@ -1,6 +1,4 @@
-use Rattle.std.proofs.Common.{length, map}
-use Rattle.dmx_calls.specs.Calls.{told_entry}
-use Rattle.report_check.specs.Inside.Feeding.{IsFedAlike}
+use Rattle.report_check.proofs.Imports.{length, map, told_entry, IsFedAlike}
 use Rattle.report_check.proofs.feeder.fed_unlike.Given as goal
 
 abbrev pub invariant-calls : goal.invariant-calls

@@ -1,6 +1,4 @@
-use Rattle.std.proofs.Common.{◌≡◌, ◌≤◌, length, map}
-use Rattle.dmx_calls.specs.Calls.{told_entry}
-use Rattle.script_run.specs.IsRun.{steps_of}
+use Rattle.report_check.proofs.Imports.{◌≡◌, ◌≤◌, length, map, told_entry, steps_of}
 use Rattle.report_check.proofs.feeder.next_of.Given as goal
 
 abbrev pub invariant-entries : goal.invariant-entries

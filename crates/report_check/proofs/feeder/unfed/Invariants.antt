@@ -1,7 +1,4 @@
-use Rattle.std.proofs.Common.{◌≡◌, ◌≤◌, ◌+◌, length, map}
-use Rattle.dmx_calls.specs.Calls.{told_entry}
-use Rattle.script_run.specs.IsRun.{steps_of}
-use Rattle.report_check.specs.Inside.Feeding.{feeds}
+use Rattle.report_check.proofs.Imports.{◌≡◌, ◌≤◌, ◌+◌, length, map, told_entry, steps_of, feeds}
 use Rattle.report_check.proofs.feeder.unfed.Given as goal
 
 abbrev pub invariant-calls : goal.invariant-calls

@@ -1,8 +1,5 @@
 -- Where `==` says whether two outcomes are the same, it says so of two lists of them.
-use Rattle.std.proofs.Common.{◌≡◌, ◌∙◌, sym, Bool, List, Decides, rules}
-use Rattle.std.proofs.lemmas.Bool.{false≢true}
-use Rattle.std.proofs.lemmas.Slice.Eq.{slice_eq-Decides}
-use Rattle.std.specs.Cmp.Lexicographic.{pointwise}
+use Rattle.report_check.proofs.Imports.{◌≡◌, ◌∙◌, sym, Bool, List, Decides, rules, false≢true, slice_eq-Decides, pointwise}
 use Rattle.report_check.proofs.head.are_same_rows.Goals as goal
 
 decided : {A : Type 0} {E : A → A → Bool} (xs ys : List A) (r : Bool) → r ≡ pointwise E xs ys → ((a b : A) → Decides (E a b) (a ≡ b)) → Decides r (xs ≡ ys)

@@ -1,6 +1,4 @@
-use Rattle.std.proofs.Common.{◌≡◌, ◌∙◌, sym, subst, length, map, arith}
-use Rattle.dmx_calls.specs.declared.params.Input.{Input}
-use Rattle.report_check.specs.Inside.Parts.{count_for}
+use Rattle.report_check.proofs.Imports.{◌≡◌, ◌∙◌, sym, subst, length, map, arith, Input, count_for}
 use Rattle.report_check.proofs.Players.{count_at}
 use Rattle.report_check.proofs.node.count_for.Goals as goal
 

@@ -1,7 +1,4 @@
-use Rattle.std.proofs.Common.{length, map}
-use Rattle.dmx_calls.specs.Calls.{told_entry}
-use Rattle.report_text.specs.Told.{ToldNode}
-use Rattle.report_check.specs.Inside.Parts.{told_node, IsSoundNode}
+use Rattle.report_check.proofs.Imports.{length, map, told_entry, ToldNode, told_node, IsSoundNode}
 use Rattle.report_check.proofs.Lists.{at_front, at_behind, at_both, at_none}
 use Rattle.report_check.proofs.node.odd_among.Goals as goal
 

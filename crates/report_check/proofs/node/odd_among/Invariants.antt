@@ -1,6 +1,5 @@
-use Rattle.std.proofs.Common.{length, map, All}
-use Rattle.dmx_calls.specs.Calls.{told_entry}
-use Rattle.report_check.specs.Inside.Parts.{told_nodes, IsSoundNode}
+use Rattle.report_check.proofs.Imports.{length, map, told_entry, told_nodes, IsSoundNode}
+use Rattle.std.proofs.Common.{All}
 use Rattle.report_check.proofs.node.odd_among.Given as goal
 
 abbrev pub invariant-nodes : goal.invariant-nodes

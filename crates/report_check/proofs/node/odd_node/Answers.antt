@@ -1,8 +1,4 @@
-use Rattle.std.proofs.Common.{◌∙◌, List, length, map, sym, subst}
-use Rattle.std.proofs.lemmas.Bool.{false≢true}
-use Rattle.std.specs.List.{All}
-use Rattle.report_text.specs.Told.{ToldNode}
-use Rattle.report_check.specs.Inside.Parts.{told_node, told_nodes, IsSoundNode, AreSoundNodes}
+use Rattle.report_check.proofs.Imports.{◌∙◌, List, length, map, sym, subst, false≢true, All, ToldNode, told_node, told_nodes, IsSoundNode, AreSoundNodes}
 use Rattle.report_check.proofs.Lists.{behind, parted, none_left}
 use Rattle.report_check.proofs.Ways.{by_other}
 use Rattle.report_check.proofs.node.odd_node.Goals as goal

@@ -1,6 +1,4 @@
-use Rattle.std.proofs.Common.{◌≡◌, length, map}
-use Rattle.dmx_calls.specs.Calls.{told_entry}
-use Rattle.report_check.specs.Inside.Parts.{are_sound}
+use Rattle.report_check.proofs.Imports.{◌≡◌, length, map, told_entry, are_sound}
 use Rattle.report_check.proofs.node.unsound.Given as goal
 
 abbrev pub invariant-entries : goal.invariant-entries

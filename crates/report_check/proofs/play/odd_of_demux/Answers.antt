@@ -1,6 +1,4 @@
-use Rattle.std.proofs.Common.{map}
-use Rattle.dmx_calls.specs.Calls.{told_entry}
-use Rattle.dmx_calls.specs.Rules.{rules_at}
+use Rattle.report_check.proofs.Imports.{map, told_entry, rules_at}
 use Rattle.report_check.proofs.Checking.{can_all}
 use Rattle.report_check.proofs.Playing.{demux_plays}
 use Rattle.report_check.proofs.play.odd_of_demux.Goals as goal

@@ -1,7 +1,4 @@
-use Rattle.std.proofs.Common.{map}
-use Rattle.dmx_calls.specs.declared.limits.TheConstants.{DEMUX_NODES}
-use Rattle.dmx_calls.specs.Calls.{told_entry}
-use Rattle.dmx_calls.specs.Rules.{rules_at}
+use Rattle.report_check.proofs.Imports.{map, DEMUX_NODES, told_entry, rules_at}
 use Rattle.report_check.proofs.Checking.{can_all}
 use Rattle.report_check.proofs.Playing.{dvr_plays}
 use Rattle.report_check.proofs.play.odd_of_dvr.Goals as goal

@@ -1,11 +1,4 @@
-use Rattle.std.proofs.Common.{◌≡◌, ◌≤◌, ◌<◌, ◌^◌, ℕ, List, true, map, length, sym, subst}
-use Rattle.std.proofs.lemmas.List.{length-map}
-use Rattle.dmx_calls.specs.declared.limits.TheConstants.{DEMUX_NODES}
-use Rattle.dmx_calls.specs.declared.log.Entry.{Entry as ToldEntry}
-use Rattle.dmx_calls.specs.Calls.{told_entry}
-use Rattle.report_text.specs.Told.{ToldNode}
-use Rattle.report_check.specs.Playing.{brought_from}
-use Rattle.report_check.specs.Inside.Parts.{told_node, are_sound, IsPlayed}
+use Rattle.report_check.proofs.Imports.{◌≡◌, ◌≤◌, ◌<◌, ◌^◌, ℕ, List, true, map, length, sym, subst, length-map, DEMUX_NODES, ToldEntry, told_entry, ToldNode, brought_from, told_node, are_sound, IsPlayed}
 use Rattle.report_check.proofs.Lists.{at_front, at_behind, at_both, at_none}
 use Rattle.report_check.proofs.play.odd_play.Goals as goal
 

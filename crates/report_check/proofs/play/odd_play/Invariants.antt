@@ -1,7 +1,5 @@
-use Rattle.std.proofs.Common.{◌≡◌, ◌<◌, ◌≤◌, ◌^◌, ℕ, true, length, map, All}
-use Rattle.dmx_calls.specs.declared.limits.TheConstants.{DEMUX_NODES}
-use Rattle.report_check.specs.Playing.{brought_from}
-use Rattle.report_check.specs.Inside.Parts.{told_nodes, are_sound, IsPlayed}
+use Rattle.report_check.proofs.Imports.{◌≡◌, ◌<◌, ◌≤◌, ◌^◌, ℕ, true, length, map, DEMUX_NODES, brought_from, told_nodes, are_sound, IsPlayed}
+use Rattle.std.proofs.Common.{All}
 use Rattle.report_check.proofs.play.odd_play.Given as goal
 
 abbrev pub invariant-nodes : goal.invariant-nodes

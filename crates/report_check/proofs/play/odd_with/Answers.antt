@@ -1,8 +1,4 @@
-use Rattle.std.proofs.Common.{◌≡◌, ℕ, map, sym, subst, arith}
-use Rattle.dmx_calls.specs.declared.limits.TheConstants.{DEMUX_NODES}
-use Rattle.dmx_calls.specs.Calls.{told_entry}
-use Rattle.report_check.specs.Playing.{brought_from}
-use Rattle.report_check.specs.Inside.Parts.{IsPlayed}
+use Rattle.report_check.proofs.Imports.{◌≡◌, ℕ, map, sym, subst, arith, DEMUX_NODES, told_entry, brought_from, IsPlayed}
 use Rattle.report_check.proofs.Ways.{ok_by_other}
 use Rattle.report_check.proofs.play.odd_with.Goals as goal
 

@@ -1,11 +1,4 @@
-use Rattle.std.proofs.Common.{◌≡◌, ◌∷◌, ◌++◌, [], List, ℕ, map, sym, ap, subst, ◌∙◌, arith}
-use Rattle.std.proofs.lemmas.List.{map-append}
-use Rattle.std.proofs.lemmas.List.FromFn.{map-range_with_len_more}
-use Rattle.std.specs.Prelude.{Vec}
-use Rattle.std.specs.List.{All, range_with_len}
-use Rattle.std.specs.declared.alloc.Global.{Global}
-use Rattle.client_core.specs.Commands.{played}
-use Rattle.report_check.specs.Playing.{AreFewPackets}
+use Rattle.report_check.proofs.Imports.{◌≡◌, ◌∷◌, ◌++◌, [], List, ℕ, map, sym, ap, subst, ◌∙◌, arith, map-append, map-range_with_len_more, Vec, All, range_with_len, Global, played, AreFewPackets}
 use Rattle.report_check.proofs.Players.{all_few}
 use Rattle.report_check.proofs.played.all_played.Goals as goal
 

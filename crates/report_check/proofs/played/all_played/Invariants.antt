@@ -1,6 +1,4 @@
-use Rattle.std.proofs.Common.{◌≡◌, [], ◌∷◌, map}
-use Rattle.std.specs.List.{range_with_len}
-use Rattle.client_core.specs.Commands.{played}
+use Rattle.report_check.proofs.Imports.{◌≡◌, [], ◌∷◌, map, range_with_len, played}
 use Rattle.report_check.proofs.played.all_played.Given as goal
 
 -- the feeder's, and those of the first clients

@@ -1,11 +1,5 @@
-use Rattle.std.proofs.Common.{◌≡◌, ◌<◌, ◌+◌, [], ◌∷◌, ◌++◌, length, take, arith, sym, ap, subst, ◌∙◌}
-use Rattle.std.proofs.lemmas.List.{length-take-le, take_all, take_more}
-use Rattle.std.specs.List.{flat_map}
-use Rattle.std.specs.Prelude.{None, slice_index_or}
-use Rattle.client_script.specs.Script.{writes_of}
-use Rattle.client_core.specs.PlayLaws.{packets_in}
-use Rattle.client_core.specs.Plays.{HasPlayed, cut_of}
-use Rattle.client_core.proofs.Joining.{are_counted, are_joined}
+use Rattle.report_check.proofs.Imports.{◌≡◌, ◌<◌, ◌+◌, [], ◌∷◌, ◌++◌, length, take, arith, sym, ap, subst, ◌∙◌, length-take-le, take_more, flat_map, None, slice_index_or, writes_of, packets_in, HasPlayed, cut_of, are_counted, are_joined}
+use Rattle.std.proofs.lemmas.List.{take_all}
 use Rattle.report_check.proofs.Players.{batch_more, batches_more}
 use Rattle.report_check.proofs.played.played_with.Goals as goal
 

@@ -1,8 +1,4 @@
-use Rattle.std.proofs.Common.{◌≡◌, take}
-use Rattle.std.specs.List.{flat_map}
-use Rattle.client_script.specs.Script.{writes_of}
-use Rattle.client_core.specs.PlayLaws.{packets_in}
-use Rattle.client_core.specs.Plays.{HasPlayed}
+use Rattle.report_check.proofs.Imports.{◌≡◌, take, flat_map, writes_of, packets_in, HasPlayed}
 use Rattle.report_check.proofs.played.played_with.Given as goal
 
 -- the first writes were made, and their batches are there

@@ -1,5 +1,4 @@
-use Rattle.ts_watch.specs.Head.{told_head}
-use Rattle.report_check.specs.Right.{IsRightReport}
+use Rattle.report_check.proofs.Imports.{told_head, IsRightReport}
 use Rattle.report_check.proofs.Ways.{where_none, where_some}
 use Rattle.report_check.proofs.report.check.Goals as goal
 

@@ -1,7 +1,4 @@
-use Rattle.std.proofs.Common.{◌<◌, ◌^◌, List, ℕ, length, subst}
-use Rattle.ts_watch.specs.Head.{told_head}
-use Rattle.report_read.specs.Report.{told_of, IsNoReport, IsReport}
-use Rattle.report_check.specs.Inside.Parts.{HasPassed}
+use Rattle.report_check.proofs.Imports.{◌<◌, ◌^◌, List, ℕ, length, subst, told_head, told_of, IsNoReport, IsReport, HasPassed}
 use Rattle.report_check.proofs.Checking.{right, no_report, other_head, not_passed}
 use Rattle.report_check.proofs.Ways.{at_none, at_some}
 use Rattle.report_check.proofs.report.first_fault.Goals as goal

@@ -1,15 +1,4 @@
-use Rattle.std.proofs.Common.{◌≡◌, ◌<◌, ◌^◌, ◌∙◌, ℕ, List, map, length, sym, ap, subst, arith}
-use Rattle.std.proofs.lemmas.List.{length-map}
-use Rattle.std.specs.Prelude.{IfOk, MatchOption, Vec}
-use Rattle.std.specs.declared.alloc.Global.{Global}
-use Rattle.dmx_calls.specs.declared.outcome.Outcome.{Outcome}
-use Rattle.std.specs.List.{All}
-use Rattle.client_script.specs.Script.{clients_in}
-use Rattle.report_text.specs.Told.{ToldNode}
-use Rattle.report_read.specs.Report.{told_of}
-use Rattle.report_check.specs.Playing.{AreFewPackets, brought_from}
-use Rattle.report_check.specs.Inside.Parts.{all_played, told_nodes, AreSoundNodes, IsPlayed, dealt, AreDoneAs, HasPassed}
-use Rattle.report_check.specs.Inside.Steps.{left_on}
+use Rattle.report_check.proofs.Imports.{◌≡◌, ◌<◌, ◌^◌, ◌∙◌, ℕ, List, map, length, sym, ap, subst, arith, length-map, IfOk, MatchOption, Vec, Global, Outcome, All, clients_in, ToldNode, told_of, AreFewPackets, brought_from, all_played, told_nodes, AreSoundNodes, IsPlayed, dealt, AreDoneAs, HasPassed, left_on}
 use Rattle.report_check.proofs.Dealt.{Node}
 use Rattle.report_check.proofs.Few.{few_left}
 use Rattle.report_check.proofs.Checking.{bounds, sound_all}
@@ -42,16 +31,29 @@ returns-in-Some-2 c passed =
     at_some c.in_ok-odd.field-0 c.in-Some-2.odd (Done c.deref-2.result.now c.deref-3.result.now) (Done c.deref-2.result.now c.deref-3.result.now → ⊥) c.in_ok-odd.ensures c.in-Some-2.is there
 
 pub odd_play-requires-clause-nodes : goal.odd_play-requires-clause-nodes
-odd_play-requires-clause-nodes c = rw c.deref-4.ensures.value (bounds (told_of c.args.told.now) c.requires.range c.requires.few)
+odd_play-requires-clause-nodes c = rw c.deref-in-Some-2.ensures.value (bounds (told_of c.args.told.now) c.requires.range c.requires.few)
 
 pub odd_play-requires-clause-sound : goal.odd_play-requires-clause-sound
 odd_play-requires-clause-sound c =
     let counts : List ℕ = map (λ ps. length ps) (map (λ p. p.items) c.as_slice-played.result.now) in
     let sound : AreSoundNodes c.clients-clients.result (length c.args.packets.now) counts (told_nodes c.args.told.now.nodes.items) = rw c.deref.ensures.value at c.in_default.ensures in
-    (c.clients-clients.result, rw c.deref-4.ensures.value (sound_all c.clients-clients.result (length c.args.packets.now) counts (told_nodes c.args.told.now.nodes.items) sound))
+    (c.clients-clients.result, rw c.deref-in-Some-2.ensures.value (sound_all c.clients-clients.result (length c.args.packets.now) counts (told_nodes c.args.told.now.nodes.items) sound))
 
 pub odd_play-requires-clause-played : goal.odd_play-requires-clause-played
 odd_play-requires-clause-played c =
+    subst (λ (xs : List (Vec (List ℕ) Global)). All AreFewPackets (map (λ p. p.items) xs)) (sym c.as_slice-played.ensures.value) c.in_ok-all.ensures.few
+
+pub odd_play-requires-2-clause-nodes : goal.odd_play-requires-2-clause-nodes
+odd_play-requires-2-clause-nodes c = rw c.deref-4.ensures.value (bounds (told_of c.args.told.now) c.requires.range c.requires.few)
+
+pub odd_play-requires-2-clause-sound : goal.odd_play-requires-2-clause-sound
+odd_play-requires-2-clause-sound c =
+    let counts : List ℕ = map (λ ps. length ps) (map (λ p. p.items) c.as_slice-played.result.now) in
+    let sound : AreSoundNodes c.clients-clients.result (length c.args.packets.now) counts (told_nodes c.args.told.now.nodes.items) = rw c.deref.ensures.value at c.in_default.ensures in
+    (c.clients-clients.result, rw c.deref-4.ensures.value (sound_all c.clients-clients.result (length c.args.packets.now) counts (told_nodes c.args.told.now.nodes.items) sound))
+
+pub odd_play-requires-2-clause-played : goal.odd_play-requires-2-clause-played
+odd_play-requires-2-clause-played c =
     subst (λ (xs : List (Vec (List ℕ) Global)). All AreFewPackets (map (λ p. p.items) xs)) (sym c.as_slice-played.ensures.value) c.in_ok-all.ensures.few
 
 pub returns : goal.returns
@@ -66,6 +68,6 @@ returns c =
     subst (λ (ns : List Node). Done ns c.args.told.now.outcomes.items) c.deref-2.ensures.value (subst (λ (os : List (Vec Outcome Global)). Done c.deref-2.result.now os) c.deref-3.ensures.value there) in
     let same : length c.args.told.now.outcomes.items ≡ clients_in c.args.script.now = omega (arith, c.if-len-clients.false, c.args.told.now.outcomes.ok.0) in
     let clients : length (map (λ o. o.items) c.args.told.now.outcomes.items) ≡ clients_in c.args.script.now = rw length-map same in
-    let played : IfOk c.odd_play.result (λ odd. MatchOption odd (All (IsPlayed (brought_from c.args.packets.now (all_played c.args.script.now))) (told_nodes c.args.told.now.nodes.items)) (λ _. All (IsPlayed (brought_from c.args.packets.now (all_played c.args.script.now))) (told_nodes c.args.told.now.nodes.items) → ⊥)) = rw (c.deref-4.ensures.value, all) at c.odd_play.ensures in
-    ok_by_other c.odd_play.result (All (IsPlayed (brought_from c.args.packets.now (all_played c.args.script.now))) (told_nodes c.args.told.now.nodes.items)) (HasPassed c.args.script.now c.args.packets.now (told_of c.args.told.now))
+    let played : IfOk c.odd_play-2.result (λ odd. MatchOption odd (All (IsPlayed (brought_from c.args.packets.now (all_played c.args.script.now))) (told_nodes c.args.told.now.nodes.items)) (λ _. All (IsPlayed (brought_from c.args.packets.now (all_played c.args.script.now))) (told_nodes c.args.told.now.nodes.items) → ⊥)) = rw (c.deref-4.ensures.value, all) at c.odd_play-2.ensures in
+    ok_by_other c.odd_play-2.result (All (IsPlayed (brought_from c.args.packets.now (all_played c.args.script.now))) (told_nodes c.args.told.now.nodes.items)) (HasPassed c.args.script.now c.args.packets.now (told_of c.args.told.now))
     (λ all. record { clients = clients; nodes = sound; done = done; played = all }) (λ passed. passed.played) played

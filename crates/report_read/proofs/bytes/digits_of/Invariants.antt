@@ -1,5 +1,4 @@
-use Rattle.std.proofs.Common.{◌≡◌, ◌+◌, length}
-use Rattle.report_read.specs.Inside.Reading.{digits}
+use Rattle.report_read.proofs.Imports.{◌≡◌, ◌+◌, length, digits}
 use Rattle.report_read.proofs.bytes.digits_of.Given as goal
 
 abbrev pub invariant-digits : goal.invariant-digits

@@ -1,10 +1,4 @@
-use Rattle.std.proofs.Common.{◌≡◌, ◌∙◌, ◌∷◌, [], rules, arith, map, true, Some, codes}
-use Rattle.std.proofs.lemmas.List.{map-append}
-use Rattle.std.proofs.lemmas.List.Elements.{All-push}
-use Rattle.std.specs.List.{All}
-use Rattle.report_read.specs.Inside.Reading.{begins_with}
-use Rattle.report_read.specs.Inside.Whole.{client_in}
-use Rattle.report_read.specs.Ranges.{IsOutcomeInRange}
+use Rattle.report_read.proofs.Imports.{◌≡◌, ◌∙◌, ◌∷◌, [], rules, arith, map, true, Some, codes, map-append, All-push, All, begins_with, client_in, IsOutcomeInRange}
 use Rattle.report_read.proofs.Many.{many_on}
 use Rattle.report_read.proofs.clients.read_clients.Goals as goal
 

@@ -1,8 +1,4 @@
-use Rattle.std.proofs.Common.{◌≡◌, map, codes}
-use Rattle.std.specs.List.{All}
-use Rattle.report_read.specs.Ranges.{IsOutcomeInRange}
-use Rattle.report_read.specs.Inside.Reading.{onto, many, begins_with}
-use Rattle.report_read.specs.Inside.Whole.{client_in, clients_in}
+use Rattle.report_read.proofs.Imports.{◌≡◌, map, codes, All, IsOutcomeInRange, onto, many, begins_with, client_in, clients_in}
 use Rattle.report_read.proofs.clients.read_clients.Given as goal
 
 abbrev pub invariant-clients : goal.invariant-clients

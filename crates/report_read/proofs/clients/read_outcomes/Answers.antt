@@ -1,8 +1,4 @@
-use Rattle.std.proofs.Common.{◌≡◌, ◌∙◌, rules, arith, true, Some, codes}
-use Rattle.std.proofs.lemmas.List.Elements.{All-push}
-use Rattle.report_read.specs.Inside.Reading.{begins_with}
-use Rattle.report_read.specs.Inside.Whole.{outcome_in}
-use Rattle.report_read.specs.Ranges.{IsOutcomeInRange}
+use Rattle.report_read.proofs.Imports.{◌≡◌, ◌∙◌, rules, arith, true, Some, codes, All-push, begins_with, outcome_in, IsOutcomeInRange}
 use Rattle.report_read.proofs.Many.{many_on}
 use Rattle.report_read.proofs.clients.read_outcomes.Goals as goal
 

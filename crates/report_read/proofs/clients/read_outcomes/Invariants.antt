@@ -1,8 +1,4 @@
-use Rattle.std.proofs.Common.{◌≡◌, codes}
-use Rattle.std.specs.List.{All}
-use Rattle.report_read.specs.Ranges.{IsOutcomeInRange}
-use Rattle.report_read.specs.Inside.Reading.{onto, many, begins_with}
-use Rattle.report_read.specs.Inside.Whole.{outcome_in, outcomes_in}
+use Rattle.report_read.proofs.Imports.{◌≡◌, codes, All, IsOutcomeInRange, onto, many, begins_with, outcome_in, outcomes_in}
 use Rattle.report_read.proofs.clients.read_outcomes.Given as goal
 
 abbrev pub invariant-outcomes : goal.invariant-outcomes

@@ -1,10 +1,4 @@
-use Rattle.std.proofs.Common.{◌≡◌, ◌∙◌, ◌∷◌, [], rules, arith, map, true, Some}
-use Rattle.std.proofs.lemmas.List.{map-append}
-use Rattle.std.proofs.lemmas.List.Elements.{All-push}
-use Rattle.dmx_calls.specs.Calls.{told_entry}
-use Rattle.report_read.specs.Inside.Reading.{begins_number}
-use Rattle.report_read.specs.Inside.Entries.{entry_in}
-use Rattle.report_read.specs.Ranges.{IsEntryOf}
+use Rattle.report_read.proofs.Imports.{◌≡◌, ◌∙◌, ◌∷◌, [], rules, arith, map, true, Some, map-append, All-push, told_entry, begins_number, entry_in, IsEntryOf}
 use Rattle.report_read.proofs.Many.{many_on}
 use Rattle.report_read.proofs.entries.read_entries.Goals as goal
 

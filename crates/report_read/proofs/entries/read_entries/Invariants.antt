@@ -1,9 +1,4 @@
-use Rattle.std.proofs.Common.{◌≡◌, map}
-use Rattle.dmx_calls.specs.Calls.{told_entry}
-use Rattle.std.specs.List.{All}
-use Rattle.report_read.specs.Ranges.{IsEntryOf}
-use Rattle.report_read.specs.Inside.Reading.{onto, many, all_in, begins_number}
-use Rattle.report_read.specs.Inside.Entries.{entry_in}
+use Rattle.report_read.proofs.Imports.{◌≡◌, map, told_entry, All, IsEntryOf, onto, many, all_in, begins_number, entry_in}
 use Rattle.report_read.proofs.entries.read_entries.Given as goal
 
 abbrev pub invariant-entries : goal.invariant-entries

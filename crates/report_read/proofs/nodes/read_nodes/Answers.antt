@@ -1,11 +1,4 @@
-use Rattle.std.proofs.Common.{◌≡◌, ◌∙◌, List, ◌∷◌, [], rules, arith, map, true, Some, codes}
-use Rattle.std.proofs.lemmas.List.{map-append}
-use Rattle.std.proofs.lemmas.List.Elements.{All-push}
-use Rattle.dmx_calls.specs.Calls.{told_entry}
-use Rattle.report_text.specs.Told.{ToldNode}
-use Rattle.report_read.specs.Inside.Reading.{begins_with}
-use Rattle.report_read.specs.Inside.Whole.{node_in}
-use Rattle.report_read.specs.Ranges.{IsNodeInRange}
+use Rattle.report_read.proofs.Imports.{◌≡◌, ◌∙◌, List, ◌∷◌, [], rules, arith, map, true, Some, codes, map-append, All-push, told_entry, ToldNode, begins_with, node_in, IsNodeInRange}
 use Rattle.report_read.proofs.Many.{many_on}
 use Rattle.report_read.proofs.nodes.read_nodes.Goals as goal
 

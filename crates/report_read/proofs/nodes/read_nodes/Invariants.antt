@@ -1,9 +1,4 @@
-use Rattle.std.proofs.Common.{◌≡◌, map, codes}
-use Rattle.dmx_calls.specs.Calls.{told_entry}
-use Rattle.std.specs.List.{All}
-use Rattle.report_read.specs.Ranges.{IsNodeInRange}
-use Rattle.report_read.specs.Inside.Reading.{onto, many, begins_with}
-use Rattle.report_read.specs.Inside.Whole.{node_in, nodes_in}
+use Rattle.report_read.proofs.Imports.{◌≡◌, map, codes, told_entry, All, IsNodeInRange, onto, many, begins_with, node_in, nodes_in}
 use Rattle.report_read.proofs.nodes.read_nodes.Given as goal
 
 abbrev pub invariant-nodes : goal.invariant-nodes

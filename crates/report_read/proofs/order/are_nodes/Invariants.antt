@@ -1,6 +1,4 @@
-use Rattle.std.proofs.Common.{◌≡◌, length, map}
-use Rattle.dmx_calls.specs.Calls.{told_entry}
-use Rattle.report_read.specs.Report.{are_nodes}
+use Rattle.report_read.proofs.Imports.{◌≡◌, length, map, told_entry, are_nodes}
 use Rattle.report_read.proofs.order.are_nodes.Given as goal
 
 abbrev pub invariant-nodes : goal.invariant-nodes

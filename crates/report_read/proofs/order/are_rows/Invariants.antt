@@ -1,5 +1,4 @@
-use Rattle.std.proofs.Common.{◌≡◌, ◌≤◌, length}
-use Rattle.report_read.specs.Report.{are_rows}
+use Rattle.report_read.proofs.Imports.{◌≡◌, ◌≤◌, length, are_rows}
 use Rattle.report_read.proofs.order.are_rows.Given as goal
 
 abbrev pub invariant-rows : goal.invariant-rows

@@ -1,6 +1,4 @@
-use Rattle.std.proofs.Common.{◌≡◌, ◌<◌, ◌++◌, length}
-use Rattle.std.specs.List.{All}
-use Rattle.report_read.specs.Inside.Reading.{bytes_in}
+use Rattle.report_read.proofs.Imports.{◌≡◌, ◌<◌, ◌++◌, length, All, bytes_in}
 use Rattle.report_read.proofs.replies.read_bytes.Given as goal
 
 abbrev pub invariant-bytes : goal.invariant-bytes

@@ -1,5 +1,4 @@
-use Rattle.std.proofs.Common.{◌≡◌}
-use Rattle.report_read.specs.Inside.Parts.{more_pids}
+use Rattle.report_read.proofs.Imports.{◌≡◌, more_pids}
 use Rattle.report_read.proofs.sets.read_more_pids.Given as goal
 
 abbrev pub invariant-pids : goal.invariant-pids

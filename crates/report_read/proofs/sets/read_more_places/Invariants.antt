@@ -1,6 +1,4 @@
-use Rattle.std.proofs.Common.{◌≡◌}
-use Rattle.text_forms.specs.Places.{IsFilter}
-use Rattle.report_read.specs.Inside.Parts.{more_places}
+use Rattle.report_read.proofs.Imports.{◌≡◌, IsFilter, more_places}
 use Rattle.report_read.proofs.sets.read_more_places.Given as goal
 
 abbrev pub invariant-places : goal.invariant-places

@@ -1,8 +1,4 @@
-use Rattle.std.proofs.Common.{◌≡◌, ◌∙◌, rules, arith, true, Some, codes}
-use Rattle.std.proofs.lemmas.List.Elements.{All-push}
-use Rattle.report_read.specs.Inside.Reading.{begins_with}
-use Rattle.report_read.specs.Inside.Whole.{row_in}
-use Rattle.report_read.specs.Ranges.{IsRowInRange}
+use Rattle.report_read.proofs.Imports.{◌≡◌, ◌∙◌, rules, arith, true, Some, codes, All-push, begins_with, row_in, IsRowInRange}
 use Rattle.report_read.proofs.Many.{many_on}
 use Rattle.report_read.proofs.stream.read_rows.Goals as goal
 

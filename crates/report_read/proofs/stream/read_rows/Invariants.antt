@@ -1,8 +1,4 @@
-use Rattle.std.proofs.Common.{◌≡◌, codes}
-use Rattle.std.specs.List.{All}
-use Rattle.report_read.specs.Ranges.{IsRowInRange}
-use Rattle.report_read.specs.Inside.Reading.{onto, many, begins_with}
-use Rattle.report_read.specs.Inside.Whole.{row_in, rows_in}
+use Rattle.report_read.proofs.Imports.{◌≡◌, codes, All, IsRowInRange, onto, many, begins_with, row_in, rows_in}
 use Rattle.report_read.proofs.stream.read_rows.Given as goal
 
 abbrev pub invariant-rows : goal.invariant-rows

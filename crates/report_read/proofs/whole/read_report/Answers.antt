@@ -1,9 +1,4 @@
-use Rattle.std.proofs.Common.{◌≡◌, ◌<◌, ◌≤◌, rules, length, Some}
-use Rattle.std.proofs.lemmas.List.{length-map}
-use Rattle.report_text.specs.Told.{text_of}
-use Rattle.report_read.specs.Inside.Whole.{told_in}
-use Rattle.report_read.specs.Ranges.{ArePartsInRange}
-use Rattle.report_read.specs.Report.{told_of}
+use Rattle.report_read.proofs.Imports.{◌≡◌, ◌<◌, ◌≤◌, rules, length, Some, length-map, text_of, told_in, ArePartsInRange, told_of}
 use Rattle.report_read.proofs.WholeAgain.{no_clients}
 use Rattle.report_read.proofs.whole.read_report.Goals as goal
 

@@ -1,6 +1,4 @@
-use Rattle.std.proofs.Common.{◌++◌, codes, decimal}
-use Rattle.std.proofs.lemmas.Result.{on_ok_weaker}
-use Rattle.dmx_calls.specs.Names.{input_text}
+use Rattle.report_text.proofs.Imports.{◌++◌, codes, decimal, on_ok_weaker, input_text}
 use Rattle.report_text.proofs.Texts.{behind}
 use Rattle.report_text.proofs.acts.add_pass.Goals as goal
 

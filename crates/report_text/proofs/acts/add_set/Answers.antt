@@ -1,8 +1,4 @@
-use Rattle.std.proofs.Common.{◌≡◌, ◌+◌, ◌++◌, ◌<◌, ◌∷◌, [], ◌∙◌, ℕ, List, refl, ap, sym, length, arith}
-use Rattle.std.specs.Prelude.{slice_index, vec_len, vec_capacity}
-use Rattle.std.specs.List.{flat_map}
-use Rattle.std.proofs.lemmas.List.{flat_map_more}
-use Rattle.report_text.specs.Acts.{next_pid_text}
+use Rattle.report_text.proofs.Imports.{◌≡◌, ◌+◌, ◌++◌, ◌<◌, ◌∷◌, [], ◌∙◌, ℕ, List, refl, ap, sym, length, arith, slice_index, vec_len, vec_capacity, flat_map, flat_map_more, next_pid_text}
 use Rattle.report_text.proofs.Texts.{behind_first, behind_first-next}
 use Rattle.report_text.proofs.acts.add_set.Goals as goal
 use Rattle.report_text.proofs.acts.add_set.Goals.{in-Some-get+in_ok-add_field, in_default-get}

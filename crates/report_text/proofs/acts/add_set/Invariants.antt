@@ -1,7 +1,4 @@
-use Rattle.std.proofs.Common.{◌≡◌, ◌++◌, ◌+◌, ◌*◌, ◌≤◌}
-use Rattle.std.specs.Prelude.{vec_len, vec_capacity}
-use Rattle.std.specs.List.{flat_map}
-use Rattle.report_text.specs.Acts.{next_pid_text}
+use Rattle.report_text.proofs.Imports.{◌≡◌, ◌++◌, ◌+◌, ◌*◌, ◌≤◌, vec_len, vec_capacity, flat_map, next_pid_text}
 use Rattle.report_text.proofs.Texts.{behind_first}
 use Rattle.report_text.proofs.acts.add_set.Given as goal
 

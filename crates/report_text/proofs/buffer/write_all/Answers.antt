@@ -1,7 +1,6 @@
-use Rattle.std.proofs.Common.{◌≡◌, ◌≤◌, length, take, drop, ◌-◌, arith}
-use Rattle.std.proofs.lemmas.List.{take-take, length-take, length-drop}
+use Rattle.report_text.proofs.Imports.{◌≡◌, ◌≤◌, length, take, drop, ◌-◌, arith, take-take, length-take, Appends-trans}
+use Rattle.std.proofs.lemmas.List.{length-drop}
 use Rattle.std.proofs.Math.Seq.{take-add}
-use Rattle.std.proofs.KnownBytes.{Appends-trans}
 use Rattle.report_text.proofs.buffer.write_all.Goals as goal
 
 pub writing-preserved : goal.writing-preserved

@@ -1,5 +1,4 @@
-use Rattle.std.proofs.Common.{length, ◌-◌, ◌≡◌, ◌≤◌, take}
-use Rattle.std.specs.Io.KnownBytes.{Appends}
+use Rattle.report_text.proofs.Imports.{length, ◌-◌, ◌≡◌, ◌≤◌, take, Appends}
 use Rattle.report_text.proofs.buffer.write_all.Given as goal
 
 abbrev pub invariant-writing : goal.invariant-writing

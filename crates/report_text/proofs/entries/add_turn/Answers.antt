@@ -1,7 +1,5 @@
-use Rattle.std.proofs.Common.{◌∙◌, ◌++◌, ap}
-use Rattle.std.proofs.lemmas.Result.{on_ok_weaker}
+use Rattle.report_text.proofs.Imports.{◌∙◌, ◌++◌, ap, on_ok_weaker, tail_text, turn}
 use Rattle.std.specs.Fmt.{decimal}
-use Rattle.report_text.specs.Inside.Turns.{tail_text, turn}
 use Rattle.report_text.proofs.Texts.{behind}
 use Rattle.report_text.proofs.Turning.{line-is}
 use Rattle.report_text.proofs.entries.add_turn.Goals as goal

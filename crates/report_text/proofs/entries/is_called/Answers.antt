@@ -1,10 +1,4 @@
-use Rattle.std.proofs.Common.{◌≡◌, ◌||◌, Bool, List, [], ◌∷◌, map, refl, ap, sym, ◌∙◌, rules, tests}
-use Rattle.std.specs.List.{list_any}
-use Rattle.std.proofs.lemmas.Iterator.{YieldsList-from_slice}
-use Rattle.std.proofs.lemmas.Iterator.Search.{any_from_yields_List}
-use Rattle.lemmas.proofs.Lists.{any_of_map}
-use Rattle.dmx_calls.specs.Calls.{told_entry}
-use Rattle.report_text.specs.Entries.{is_of_client}
+use Rattle.report_text.proofs.Imports.{◌≡◌, ◌||◌, Bool, List, [], ◌∷◌, map, refl, ap, sym, ◌∙◌, rules, tests, list_any, YieldsList-from_slice, any_from_yields_List, any_of_map, told_entry, is_of_client}
 use Rattle.report_text.proofs.entries.is_called.Goals as goal
 
 pub returns : goal.returns

@@ -1,5 +1,4 @@
-use Rattle.std.proofs.Common.{◌≡◌, ◌≤◌, ◌+◌, [], length}
-use Rattle.report_text.specs.Inside.Pieces.{AddsSome}
+use Rattle.report_text.proofs.Imports.{◌≡◌, ◌≤◌, ◌+◌, [], length, AddsSome}
 use Rattle.report_text.proofs.Turning.{IsWeaving}
 use Rattle.report_text.proofs.histories.write_entries.Given as goal
 

@@ -1,7 +1,4 @@
-use Rattle.std.proofs.Common.{◌≡◌, map, length, refl, arith}
-use Rattle.dmx_calls.specs.Calls.{told_entry}
-use Rattle.dmx_calls.specs.Histories.{feeder_acts, woven}
-use Rattle.report_text.specs.Entries.{history_text, histories_text}
+use Rattle.report_text.proofs.Imports.{◌≡◌, map, length, refl, arith, told_entry, feeder_acts, woven, history_text, histories_text}
 use Rattle.report_text.proofs.Pieces.{some_nothing, on_any_err}
 use Rattle.report_text.proofs.Wholes.{writes_more, breaks_at, writes_all}
 use Rattle.report_text.proofs.histories.write_histories.Goals as goal

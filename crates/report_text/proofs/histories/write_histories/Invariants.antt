@@ -1,6 +1,4 @@
-use Rattle.std.proofs.Common.{◌≡◌, ◌<◌, ◌++◌, [], drop, length}
-use Rattle.report_text.specs.Inside.Pieces.{AddsSome}
-use Rattle.report_text.specs.Entries.{histories_text}
+use Rattle.report_text.proofs.Imports.{◌≡◌, ◌<◌, ◌++◌, [], drop, length, AddsSome, histories_text}
 use Rattle.report_text.proofs.histories.write_histories.Given as goal
 
 -- `node` tells how many nodes there are

@@ -1,5 +1,4 @@
-use Rattle.std.proofs.Common.{◌∙◌, sym}
-use Rattle.std.proofs.lemmas.Result.{on_ok_weaker, on_err_weaker}
+use Rattle.report_text.proofs.Imports.{◌∙◌, sym, on_ok_weaker, on_err_weaker}
 use Rattle.report_text.proofs.Pieces.{on_any_err}
 use Rattle.report_text.proofs.Writing.{history_none, history_some, history_breaks, history_breaks_first}
 use Rattle.report_text.proofs.histories.write_history.Goals as goal

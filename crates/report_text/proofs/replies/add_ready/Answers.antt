@@ -1,5 +1,4 @@
-use Rattle.std.proofs.Common.{◌++◌, codes, decimal}
-use Rattle.std.proofs.lemmas.Result.{on_ok_weaker}
+use Rattle.report_text.proofs.Imports.{◌++◌, codes, decimal, on_ok_weaker}
 use Rattle.report_text.proofs.Texts.{behind}
 use Rattle.report_text.proofs.replies.add_ready.Goals as goal
 

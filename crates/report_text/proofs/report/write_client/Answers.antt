@@ -1,9 +1,4 @@
-use Rattle.std.proofs.Common.{◌≡◌, ◌++◌, ◌∙◌, List, ℕ, ap, subst, codes, decimal, append_assoc}
-use Rattle.std.specs.List.{flat_map}
-use Rattle.std.proofs.lemmas.Result.{on_ok_weaker, on_err_weaker}
-use Rattle.dmx_calls.specs.declared.outcome.Outcome.{Outcome}
-use Rattle.report_text.specs.Report.{client_text, outcome_text}
-use Rattle.report_text.specs.Inside.Pieces.{Adds, AddsPart}
+use Rattle.report_text.proofs.Imports.{◌≡◌, ◌++◌, ◌∙◌, List, ℕ, ap, subst, codes, decimal, append_assoc, flat_map, on_ok_weaker, on_err_weaker, Outcome, client_text, outcome_text, Adds, AddsPart}
 use Rattle.report_text.proofs.Pieces.{adds_both, part_behind, part_before, on_any_err}
 use Rattle.report_text.proofs.report.write_client.Goals as goal
 

@@ -1,7 +1,4 @@
-use Rattle.std.proofs.Common.{◌≡◌, ◌∙◌, Some, map, length, refl, ap, arith, slice_get, option_map}
-use Rattle.std.proofs.lemmas.List.{length-map}
-use Rattle.std.proofs.lemmas.Option.{slice_get_read, slice_get-map}
-use Rattle.report_text.specs.Report.{client_text, clients_text}
+use Rattle.report_text.proofs.Imports.{◌≡◌, ◌∙◌, Some, map, length, refl, ap, arith, slice_get, option_map, length-map, slice_get_read, slice_get-map, client_text, clients_text}
 use Rattle.report_text.proofs.Pieces.{some_nothing, adds_as, part_as, on_any_err}
 use Rattle.report_text.proofs.Wholes.{writes_more, breaks_at, writes_all}
 use Rattle.report_text.proofs.report.write_clients.Goals as goal

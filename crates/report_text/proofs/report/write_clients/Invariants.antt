@@ -1,6 +1,4 @@
-use Rattle.std.proofs.Common.{◌≡◌, ◌++◌, [], map, drop}
-use Rattle.report_text.specs.Inside.Pieces.{AddsSome}
-use Rattle.report_text.specs.Report.{clients_text}
+use Rattle.report_text.proofs.Imports.{◌≡◌, ◌++◌, [], map, drop, AddsSome, clients_text}
 use Rattle.report_text.proofs.report.write_clients.Given as goal
 
 abbrev pub invariant-clients : goal.invariant-clients

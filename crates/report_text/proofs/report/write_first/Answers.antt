@@ -1,5 +1,4 @@
-use Rattle.std.proofs.Common.{◌++◌, codes}
-use Rattle.report_text.specs.Report.{tally_text}
+use Rattle.report_text.proofs.Imports.{◌++◌, codes, tally_text}
 use Rattle.report_text.proofs.Pieces.{line_failed}
 use Rattle.report_text.proofs.report.write_first.Goals as goal
 

@@ -1,13 +1,4 @@
-use Rattle.std.proofs.Common.{◌≡◌, ◌++◌, List, ℕ, map, ap, subst, codes, append_assoc}
-use Rattle.std.specs.Prelude.{Option}
-use Rattle.std.specs.List.{flat_map}
-use Rattle.std.proofs.lemmas.Result.{on_ok_weaker, on_err_weaker}
-use Rattle.ts_watch.specs.Head.{StreamHead, told_head}
-use Rattle.dmx_calls.specs.declared.outcome.Outcome.{Outcome}
-use Rattle.dmx_calls.specs.Log.{LogEntry}
-use Rattle.report_text.specs.Entries.{histories_text}
-use Rattle.report_text.specs.Report.{tally_text, row_text, clients_text, end_text, report_of}
-use Rattle.report_text.specs.Inside.Pieces.{Adds, AddsPart}
+use Rattle.report_text.proofs.Imports.{◌≡◌, ◌++◌, List, ℕ, map, ap, subst, codes, append_assoc, Option, flat_map, on_ok_weaker, on_err_weaker, StreamHead, told_head, Outcome, LogEntry, histories_text, tally_text, row_text, clients_text, end_text, report_of, Adds, AddsPart}
 use Rattle.report_text.proofs.Pieces.{adds_both, adds_as, part_behind, part_before, part_as, none_waits, on_any_err}
 use Rattle.report_text.proofs.report.write_lines.Goals as goal
 

@@ -1,5 +1,4 @@
-use Rattle.std.proofs.Common.{arith}
-use Rattle.report_text.specs.Report.{row_text}
+use Rattle.report_text.proofs.Imports.{arith, row_text}
 use Rattle.report_text.proofs.Pieces.{adds_next, part_next, on_any_err}
 use Rattle.report_text.proofs.report.write_rows.Goals as goal
 

@@ -1,7 +1,4 @@
-use Rattle.std.proofs.Common.{◌≡◌, take}
-use Rattle.std.specs.List.{flat_map}
-use Rattle.report_text.specs.Inside.Pieces.{Adds}
-use Rattle.report_text.specs.Report.{row_text}
+use Rattle.report_text.proofs.Imports.{◌≡◌, take, flat_map, Adds, row_text}
 use Rattle.report_text.proofs.report.write_rows.Given as goal
 
 abbrev pub invariant-rows : goal.invariant-rows

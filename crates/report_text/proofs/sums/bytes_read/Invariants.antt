@@ -1,6 +1,4 @@
-use Rattle.std.proofs.Common.{◌≡◌, ◌≤◌, ◌*◌, ◌^◌, map, take}
-use Rattle.dmx_calls.specs.Calls.{told_entry}
-use Rattle.report_text.specs.Summary.{bytes_read}
+use Rattle.report_text.proofs.Imports.{◌≡◌, ◌≤◌, ◌*◌, ◌^◌, map, take, told_entry, bytes_read}
 use Rattle.report_text.proofs.sums.bytes_read.Given as goal
 
 abbrev pub invariant-calls : goal.invariant-calls

@@ -1,5 +1,4 @@
-use Rattle.std.proofs.Common.{◌∙◌, ◌+◌, ap₂, sym, length, arith}
-use Rattle.report_text.specs.Summary.{bytes_read, overflows}
+use Rattle.report_text.proofs.Imports.{◌∙◌, ◌+◌, ap₂, sym, length, arith, bytes_read, overflows}
 use Rattle.report_text.proofs.Adding.{sum-more}
 use Rattle.report_text.proofs.sums.demux_sums.Goals as goal
 

@@ -1,5 +1,4 @@
-use Rattle.std.proofs.Common.{◌*◌, ◌^◌, take}
-use Rattle.report_text.specs.Inside.Sums.{AreSums, AreAtMost}
+use Rattle.report_text.proofs.Imports.{◌*◌, ◌^◌, take, AreSums, AreAtMost}
 use Rattle.report_text.proofs.sums.demux_sums.Given as goal
 
 abbrev pub invariant-nodes : goal.invariant-nodes

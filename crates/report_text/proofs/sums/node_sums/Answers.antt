@@ -1,7 +1,4 @@
-use Rattle.std.proofs.Common.{◌≡◌, ◌∙◌, ◌∷◌, [], ap, sym, map, take, drop, length, cond, sum_by, refl}
-use Rattle.dmx_calls.specs.Calls.{told_entry}
-use Rattle.dmx_calls.specs.Histories.{feeder_acts, woven}
-use Rattle.report_text.specs.Summary.{data_bytes, is_overflow, bytes_read, overflows}
+use Rattle.report_text.proofs.Imports.{◌≡◌, ◌∙◌, ◌∷◌, [], ap, sym, map, take, drop, length, cond, sum_by, refl, told_entry, feeder_acts, woven, data_bytes, is_overflow, bytes_read, overflows}
 use Rattle.report_text.proofs.Adding.{just-one, sum-one, sum-woven, entries-woven}
 use Rattle.report_text.proofs.sums.node_sums.Goals as goal
 

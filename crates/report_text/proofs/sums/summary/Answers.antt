@@ -1,5 +1,4 @@
-use Rattle.std.proofs.Common.{◌∙◌, ◌+◌, ◌++◌, ap, ap₂, length, codes, decimal, sum_by}
-use Rattle.report_text.specs.Summary.{bytes_read, overflows, sums_text}
+use Rattle.report_text.proofs.Imports.{◌∙◌, ◌+◌, ◌++◌, ap, ap₂, length, codes, decimal, sum_by, bytes_read, overflows, sums_text}
 use Rattle.report_text.proofs.Texts.{behind}
 use Rattle.report_text.proofs.Adding.{last-is-rest, sum-whole, same-sums}
 use Rattle.report_text.proofs.sums.summary.Goals as goal

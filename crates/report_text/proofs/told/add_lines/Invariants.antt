@@ -1,7 +1,4 @@
-use Rattle.std.proofs.Common.{◌≡◌, ◌++◌, map, take}
-use Rattle.std.specs.List.{flat_map}
-use Rattle.dmx_calls.specs.Calls.{told_entry}
-use Rattle.report_text.specs.Entries.{entry_text}
+use Rattle.report_text.proofs.Imports.{◌≡◌, ◌++◌, map, take, flat_map, told_entry, entry_text}
 use Rattle.report_text.proofs.told.add_lines.Given as goal
 
 abbrev pub invariant-entries : goal.invariant-entries

@@ -1,7 +1,4 @@
-use Rattle.std.proofs.Common.{◌≡◌, ◌++◌, map, take}
-use Rattle.std.specs.List.{flat_map}
-use Rattle.dmx_calls.specs.Calls.{told_entry}
-use Rattle.report_text.specs.Told.{told_node_text}
+use Rattle.report_text.proofs.Imports.{◌≡◌, ◌++◌, map, take, flat_map, told_entry, told_node_text}
 use Rattle.report_text.proofs.told.add_told_nodes.Given as goal
 
 abbrev pub invariant-nodes : goal.invariant-nodes

@@ -1,6 +1,4 @@
-use Rattle.std.proofs.Common.{◌≡◌, ◌∙◌, ◌++◌, Some, map, length, refl, ap, arith, slice_get, option_map}
-use Rattle.std.proofs.lemmas.Option.{slice_get_read, slice_get-map}
-use Rattle.report_text.specs.Report.{client_text, clients_text}
+use Rattle.report_text.proofs.Imports.{◌≡◌, ◌∙◌, ◌++◌, Some, map, length, refl, ap, arith, slice_get, option_map, slice_get_read, slice_get-map, client_text, clients_text}
 use Rattle.report_text.proofs.Wholes.{told-more}
 use Rattle.report_text.proofs.whole.add_clients.Goals as goal
 

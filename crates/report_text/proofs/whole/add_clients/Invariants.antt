@@ -1,5 +1,4 @@
-use Rattle.std.proofs.Common.{◌≡◌, ◌++◌, map, drop}
-use Rattle.report_text.specs.Report.{clients_text}
+use Rattle.report_text.proofs.Imports.{◌≡◌, ◌++◌, map, drop, clients_text}
 use Rattle.report_text.proofs.whole.add_clients.Given as goal
 
 abbrev pub invariant-clients : goal.invariant-clients

@@ -1,10 +1,4 @@
-use Rattle.std.proofs.Common.{◌≡◌, subst, sym}
-use Rattle.std.proofs.lemmas.Result.{IfOk-weaker}
-use Rattle.dmx_calls.specs.Invocation.{Invocation}
-use Rattle.dmx_calls.specs.Calls.{invocation_of}
-use Rattle.dmx_calls.specs.Log.{act_of}
-use Rattle.client_core.specs.Commands.{own_call}
-use Rattle.seats.specs.Calls.{PassesNone}
+use Rattle.seats.proofs.Imports.{◌≡◌, subst, sym, IfOk-weaker, Invocation, invocation_of, act_of, own_call, PassesNone}
 use Rattle.seats.proofs.Ranges.{in_range, no_pass}
 use Rattle.seats.proofs.answers.own_call.Goals as goal
 

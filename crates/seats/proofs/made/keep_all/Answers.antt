@@ -1,10 +1,4 @@
-use Rattle.std.proofs.Common.{rules, ◌≡◌, ◌+◌, [], ◌∷◌, ◌++◌, List, map, take, refl, ap, sym, ◌∙◌}
-use Rattle.std.proofs.lemmas.List.{append-nil, append_assoc, map-append, take_more, take_all}
-use Rattle.dmx_calls.specs.Calls.{told_entry}
-use Rattle.dmx_calls.specs.Log.{LogEntry}
-use Rattle.dmx_calls.specs.declared.log.Entry.{Entry as ToldEntry}
-use Rattle.seats.specs.declared.made.Made.{Made}
-use Rattle.seats.specs.Seated.{told_made}
+use Rattle.seats.proofs.Imports.{rules, ◌≡◌, ◌+◌, [], ◌∷◌, ◌++◌, List, map, take, refl, ap, sym, ◌∙◌, append-nil, append_assoc, map-append, take_more, take_all, told_entry, LogEntry, ToldEntry, Made, told_made}
 use Rattle.seats.proofs.made.keep_all.Goals as goal
 
 pub calls-init : goal.calls-init

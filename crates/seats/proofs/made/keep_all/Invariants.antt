@@ -1,7 +1,4 @@
-use Rattle.std.proofs.Common.{◌≡◌, ◌++◌, List, map, take}
-use Rattle.dmx_calls.specs.Calls.{told_entry}
-use Rattle.dmx_calls.specs.declared.log.Entry.{Entry as ToldEntry}
-use Rattle.seats.specs.Seated.{told_made}
+use Rattle.seats.proofs.Imports.{◌≡◌, ◌++◌, List, map, take, told_entry, ToldEntry, told_made}
 use Rattle.seats.proofs.made.keep_all.Given as goal
 
 -- the entries of the calls so far stand behind those of the log

@@ -1,10 +1,4 @@
-use Rattle.std.proofs.Common.{rules, ◌≡◌, ◌+◌, ℕ, List, [], ◌∷◌, ◌++◌, length, map, reverse, refl, sym, ap, ◌∙◌, arith, length-append}
-use Rattle.std.proofs.lemmas.List.{map-append, append-nil, append_assoc, reverse-append}
-use Rattle.std.proofs.lemmas.Iterator.Consumers.{YieldsList-end}
-use Rattle.std.proofs.lemmas.Iterator.Adapters.{YieldsList-from_vec}
-use Rattle.adapter.specs.Callers.{Caller}
-use Rattle.seats.specs.declared.run.Desk.{Desk}
-use Rattle.seats.specs.Seated.{IsNew}
+use Rattle.seats.proofs.Imports.{rules, ◌≡◌, ◌+◌, ℕ, List, [], ◌∷◌, ◌++◌, length, map, reverse, refl, sym, ap, ◌∙◌, arith, length-append, map-append, append-nil, append_assoc, reverse-append, YieldsList-end, YieldsList-from_vec, Caller, Desk, IsNew}
 use Rattle.seats.proofs.Going.{ready_desks}
 use Rattle.seats.proofs.Lists.{each_more}
 use Rattle.seats.proofs.making.desks_of.Goals as goal

@@ -1,7 +1,4 @@
-use Rattle.std.proofs.Common.{◌≡◌, ◌+◌, ◌++◌, ℕ, length, map, reverse, Some}
-use Rattle.std.specs.Prelude.{slice_get}
-use Rattle.seats.specs.declared.run.Desk.{Desk}
-use Rattle.seats.specs.Seated.{IsNew}
+use Rattle.seats.proofs.Imports.{◌≡◌, ◌+◌, ◌++◌, ℕ, length, map, reverse, Some, slice_get, Desk, IsNew}
 use Rattle.seats.proofs.making.desks_of.Given as goal
 
 abbrev pub invariant-clients : goal.invariant-clients

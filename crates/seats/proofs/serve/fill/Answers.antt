@@ -1,8 +1,4 @@
-use Rattle.std.proofs.Common.{◌≡◌, ◌≤◌, ◌+◌, ◌-◌, ◌++◌, ◌∙◌, ℕ, length, take, rules, subst, arith}
-use Rattle.std.proofs.lemmas.List.{places}
-use Rattle.std.specs.Io.KnownBytes.{Consumes}
-use Rattle.std.proofs.KnownBytes.{Consumes-trans}
-use borrow.Rule.Slice.PartMut.{put_mid}
+use Rattle.seats.proofs.Imports.{◌≡◌, ◌≤◌, ◌+◌, ◌-◌, ◌++◌, ◌∙◌, ℕ, length, take, rules, subst, arith, places, Consumes, Consumes-trans, put_mid}
 use Rattle.seats.proofs.Lists.{take_put}
 use Rattle.seats.proofs.Wiring.{ends_short, fails_short, keeps_all}
 use Rattle.seats.proofs.serve.fill.Goals as goal

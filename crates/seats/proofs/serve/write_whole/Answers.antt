@@ -1,8 +1,4 @@
-use Rattle.std.proofs.Common.{◌≡◌, ℕ, List, length, take, drop, ◌-◌, ◌∙◌, arith, ap, subst}
-use Rattle.std.proofs.lemmas.List.{length-drop, take_all}
-use Rattle.std.proofs.Math.Seq.{take-add}
-use Rattle.std.specs.Io.KnownBytes.{Appends}
-use Rattle.std.proofs.KnownBytes.{Appends-trans}
+use Rattle.seats.proofs.Imports.{◌≡◌, ℕ, List, length, take, drop, ◌-◌, ◌∙◌, arith, ap, subst, length-drop, take_all, take-add, Appends, Appends-trans}
 use Rattle.seats.proofs.serve.write_whole.Goals as goal
 
 pub writing-preserved : goal.writing-preserved

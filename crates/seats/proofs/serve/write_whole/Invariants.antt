@@ -1,5 +1,4 @@
-use Rattle.std.proofs.Common.{length, ◌-◌, ◌≡◌, ◌≤◌, take}
-use Rattle.std.specs.Io.KnownBytes.{Appends}
+use Rattle.seats.proofs.Imports.{length, ◌-◌, ◌≡◌, ◌≤◌, take, Appends}
 use Rattle.seats.proofs.serve.write_whole.Given as goal
 
 abbrev pub invariant-writing : goal.invariant-writing

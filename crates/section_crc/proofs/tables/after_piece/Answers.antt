@@ -1,9 +1,4 @@
-use Rattle.std.proofs.Common.{rules, ◌≡◌, ◌∙◌, ◌-◌, ◌+◌, ◌*◌, ◌/◌, ◌%◌, ◌^◌, ◌<◌, suc, ℕ, List, [], ap, ap₂, bit_xor, fold, get_or, slice_index, arith, sym, refl, take}
-use Rattle.std.specs.List.{flat_map}
-use Rattle.std.proofs.lemmas.Nat.{xor_lt}
-use Rattle.std.proofs.lemmas.List.{take_all}
-use Rattle.section_crc.specs.Crc.{after_bit, bits_of}
-use Rattle.section_crc.specs.Inside.Tables.{entry_of}
+use Rattle.section_crc.proofs.Imports.{rules, ◌≡◌, ◌∙◌, ◌-◌, ◌+◌, ◌*◌, ◌/◌, ◌%◌, ◌^◌, ◌<◌, suc, ℕ, List, [], ap, ap₂, bit_xor, fold, get_or, slice_index, arith, sym, refl, take, flat_map, xor_lt, take_all, after_bit, bits_of, entry_of}
 use Rattle.section_crc.proofs.Linear.{fold-lt}
 use Rattle.section_crc.proofs.Zeros.{zeros, piece-step, fold-more}
 use Rattle.section_crc.proofs.tables.after_piece.Goals as goal

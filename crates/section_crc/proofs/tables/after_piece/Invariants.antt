@@ -1,6 +1,4 @@
-use Rattle.std.proofs.Common.{◌≡◌, ◌-◌, take, fold, bit_xor}
-use Rattle.std.specs.List.{flat_map}
-use Rattle.section_crc.specs.Crc.{after_bit, bits_of}
+use Rattle.section_crc.proofs.Imports.{◌≡◌, ◌-◌, take, fold, bit_xor, flat_map, after_bit, bits_of}
 use Rattle.section_crc.proofs.Zeros.{zeros}
 use Rattle.section_crc.proofs.tables.after_piece.Given as goal
 

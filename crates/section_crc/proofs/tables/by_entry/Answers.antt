@@ -1,5 +1,4 @@
-use Rattle.std.proofs.Common.{◌≡◌, ◌<◌, ◌*◌, ◌/◌, ◌%◌, ◌^◌, bit_xor, sym, arith}
-use Rattle.std.proofs.lemmas.Nat.{xor_lt}
+use Rattle.section_crc.proofs.Imports.{◌≡◌, ◌<◌, ◌*◌, ◌/◌, ◌%◌, ◌^◌, bit_xor, sym, arith, xor_lt}
 use Rattle.section_crc.proofs.Bits.{byte-by-entry}
 use Rattle.section_crc.proofs.tables.by_entry.Goals as goal
 

@@ -1,6 +1,4 @@
-use Rattle.std.proofs.Common.{◌≡◌, length, fold, take}
-use Rattle.std.specs.List.{flat_map}
-use Rattle.section_crc.specs.Crc.{after_bit, bits_of}
+use Rattle.section_crc.proofs.Imports.{◌≡◌, length, fold, take, flat_map, after_bit, bits_of}
 use Rattle.section_crc.proofs.tables.crc_by.Given as goal
 
 -- what is left makes of the register what all bytes make of the ones

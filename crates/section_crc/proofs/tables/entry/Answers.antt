@@ -1,6 +1,4 @@
-use Rattle.std.proofs.Common.{◌≡◌, ◌∙◌, ◌+◌, suc, ℕ, ap, fold, arith}
-use Rattle.section_crc.specs.Crc.{after_bit, bits_of}
-use Rattle.section_crc.specs.Inside.Tables.{entry_of}
+use Rattle.section_crc.proofs.Imports.{◌≡◌, ◌∙◌, ◌+◌, suc, ℕ, ap, fold, arith, after_bit, bits_of, entry_of}
 use Rattle.section_crc.proofs.Zeros.{entry-more}
 use Rattle.section_crc.proofs.tables.entry.Goals as goal
 

@@ -1,5 +1,4 @@
-use Rattle.std.proofs.Common.{◌≡◌}
-use Rattle.section_crc.specs.Inside.Tables.{entry_of}
+use Rattle.section_crc.proofs.Imports.{◌≡◌, entry_of}
 use Rattle.section_crc.proofs.tables.entry.Given as goal
 
 abbrev pub invariant-zeros : goal.invariant-zeros

@@ -1,5 +1,4 @@
-use Rattle.std.proofs.Common.{◌≡◌, ℕ, ◌<◌, length, get_or}
-use Rattle.section_crc.specs.Inside.Tables.{entry_of}
+use Rattle.section_crc.proofs.Imports.{◌≡◌, ℕ, ◌<◌, length, get_or, entry_of}
 use Rattle.section_crc.proofs.tables.fill.Given as goal
 
 abbrev pub invariant-entries : goal.invariant-entries

@@ -1,6 +1,4 @@
-use Rattle.std.proofs.Common.{◌∙◌, ap}
-use Rattle.section_parse.specs.Inside.Keeping.{Assembly}
-use Rattle.std.proofs.lemmas.List.{take_more, map-append}
+use Rattle.section_parse.proofs.Imports.{◌∙◌, ap, Assembly, take_more, map-append}
 use Rattle.section_parse.proofs.assembler.all_sections.Goals as goal
 
 pub sections-init : goal.sections-init

@@ -1,5 +1,4 @@
-use Rattle.std.proofs.Common.{◌≡◌, ◌+◌, [], map, take}
-use Rattle.section_parse.specs.Inside.Keeping.{Assembled, bytes_kept}
+use Rattle.section_parse.proofs.Imports.{◌≡◌, ◌+◌, [], map, take, Assembled, bytes_kept}
 use Rattle.section_parse.proofs.assembler.all_sections.Given as goal
 
 abbrev pub invariant-sections : goal.invariant-sections

@@ -1,10 +1,4 @@
-use Rattle.std.proofs.Common.{◌≡◌, ◌+◌, ◌++◌, ◌∷◌, [], ◌≤◌, ℕ, List, map, arith, refl, subst, sym}
-use Rattle.std.specs.List.{range_with_len}
-use Rattle.std.proofs.lemmas.List.FromFn.{map-range_with_len_more}
-use Rattle.dmx_calls.specs.declared.limits.TheConstants.{DEMUX_NODES}
-use Rattle.serial_core.specs.declared.node.AnyCore.{AnyCore}
-use Rattle.serial_core.specs.Nodes.{uncalled}
-use Rattle.serial_core.specs.Inside.Standing.{IsSeat, IsUnder, Pairs, StandsAt, entries_in}
+use Rattle.serial_core.proofs.Imports.{◌≡◌, ◌+◌, ◌++◌, ◌∷◌, [], ◌≤◌, ℕ, List, map, arith, refl, subst, sym, range_with_len, map-range_with_len_more, DEMUX_NODES, AnyCore, uncalled, IsSeat, IsUnder, Pairs, StandsAt, entries_in}
 use Rattle.serial_core.proofs.Pairs.{pair_push}
 use Rattle.serial_core.proofs.Seats.{seat_fresh, entries_count}
 use Rattle.serial_core.proofs.nodes.fresh_seats.Goals as goal

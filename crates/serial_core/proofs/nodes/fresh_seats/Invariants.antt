@@ -1,7 +1,4 @@
-use Rattle.std.proofs.Common.{map, []}
-use Rattle.std.specs.List.{range_with_len}
-use Rattle.serial_core.specs.Nodes.{uncalled}
-use Rattle.serial_core.specs.Inside.Standing.{Pairs, IsSeat, IsUnder}
+use Rattle.serial_core.proofs.Imports.{map, [], range_with_len, uncalled, Pairs, IsSeat, IsUnder}
 use Rattle.serial_core.proofs.nodes.fresh_seats.Given as goal
 
 abbrev pub invariant-nodes : goal.invariant-nodes

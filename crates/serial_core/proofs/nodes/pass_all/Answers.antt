@@ -1,5 +1,4 @@
-use Rattle.std.proofs.Common.{◌<◌, ◌≤◌, length, arith}
-use Rattle.dmx_calls.specs.declared.params.Input.TheVariants.{Frontend}
+use Rattle.serial_core.proofs.Imports.{◌<◌, ◌≤◌, length, arith, Frontend}
 use Rattle.dmx_calls.specs.Invocation as call
 use Rattle.serial_core.proofs.FedOn.{fed_more, fed_few, fed_at, fed_under}
 use Rattle.serial_core.proofs.nodes.pass_all.Goals as goal

@@ -1,11 +1,4 @@
-use Rattle.std.proofs.Common.{◌≡◌, refl, sym, subst, ◌∙◌, ℕ, ◌<◌, List, [], ◌∷◌, ◌++◌, length, length-append, inl, inr, arith}
-use Rattle.std.specs.Prelude.{slice_index_or}
-use Rattle.std.proofs.lemmas.Bool.{cases_lt}
-use Rattle.std.proofs.lemmas.List.{get_or_append_left}
-use Rattle.std.proofs.Math.Seq.{get_or-append_seam}
-use Rattle.std.proofs.lemmas.List.Elements.{All-push, All-nil}
-use Rattle.client_script.specs.Script.{Scripted}
-use Rattle.client_core.specs.Inside.Core.{Core, IsAfter}
+use Rattle.serial_core.proofs.Imports.{◌≡◌, refl, sym, subst, ◌∙◌, ℕ, ◌<◌, List, [], ◌∷◌, ◌++◌, length, length-append, inl, inr, arith, slice_index_or, cases_lt, get_or_append_left, get_or-append_seam, All-push, All-nil, Scripted, Core, IsAfter}
 use Rattle.serial_core.proofs.run.cores_of.Goals as goal
 
 after_push : (script : Scripted) (cores : List Core) (core : Core) (n : ℕ) → length cores ≡ n → ((c : ℕ) (d : Core) → c < length cores → IsAfter c script [] (slice_index_or cores c d))

@@ -1,6 +1,6 @@
-use Rattle.std.proofs.Common.{◌≡◌, ◌<◌, ℕ, [], length, slice_index_or}
+use Rattle.serial_core.proofs.Imports.{◌≡◌, ◌<◌, ℕ, [], length, Core, IsAfter}
+use Rattle.std.proofs.Common.{slice_index_or}
 use Rattle.std.specs.Prelude.{All}
-use Rattle.client_core.specs.Inside.Core.{Core, IsAfter}
 use Rattle.serial_core.proofs.run.cores_of.Given as goal
 
 abbrev pub invariant-clients : goal.invariant-clients

@@ -1,5 +1,4 @@
-use Rattle.std.proofs.Common.{sym, ap, ◌∙◌, ◌++◌}
-use Rattle.ts_watch.specs.Head.{head_of}
+use Rattle.serial_core.proofs.Imports.{sym, ap, ◌∙◌, ◌++◌, head_of}
 use Rattle.serial_core.proofs.Ending.{all_woven}
 use Rattle.serial_core.proofs.run.left_by.Goals as goal
 

@@ -1,10 +1,4 @@
-use Rattle.std.proofs.Common.{sym, ap, subst, ◌∙◌, ◌<◌, [], ◌∷◌, ◌++◌, length, map, arith}
-use Rattle.std.specs.List.{range_with_len}
-use Rattle.std.proofs.lemmas.List.{map-append}
-use Rattle.std.proofs.lemmas.List.FromFn.{map-range_with_len_more}
-use Rattle.client_core.specs.Inside.Core.{Core, IsAfter}
-use Rattle.client_core.specs.Outcomes.{outcomes}
-use Rattle.serial_core.specs.SerialRun.{replies_of}
+use Rattle.serial_core.proofs.Imports.{sym, ap, subst, ◌∙◌, ◌<◌, [], ◌∷◌, ◌++◌, length, map, arith, range_with_len, map-append, map-range_with_len_more, Core, IsAfter, outcomes, replies_of}
 use Rattle.serial_core.proofs.run.outcomes_of.Goals as goal
 
 pub cores-preserved : goal.cores-preserved

@@ -1,9 +1,4 @@
-use Rattle.std.proofs.Common.{◌≡◌, map}
-use Rattle.std.specs.List.{range_with_len}
-use Rattle.client_script.specs.Script.{Scripted}
-use Rattle.client_core.specs.Outcomes.{outcomes}
-use Rattle.serial_core.specs.Inside.Lines.{AreAfter}
-use Rattle.serial_core.specs.SerialRun.{Run, replies_of}
+use Rattle.serial_core.proofs.Imports.{◌≡◌, map, range_with_len, Scripted, outcomes, AreAfter, Run, replies_of}
 use Rattle.serial_core.proofs.run.outcomes_of.Given as goal
 
 abbrev pub invariant-cores : goal.invariant-cores

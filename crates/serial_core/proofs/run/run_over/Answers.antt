@@ -1,21 +1,5 @@
-use Rattle.std.proofs.Common.{◌^◌, ◌≡◌, ◌≢◌, sym, ap, ◌∙◌, ℕ, ◌+◌, ◌≤◌, List, ◌++◌, length, map, Err, inl, inr, true, false, arith}
-use Rattle.std.specs.List.{range_with_len}
-use Rattle.client_script.specs.Script.{Scripted}
-use Rattle.client_core.specs.Outcomes.{outcomes}
-use Rattle.feed_pull.specs.Pulling.{Pulls, has_failed}
-use Rattle.ts_watch.specs.Head.{told_head, head_of}
-use Rattle.feed_pull.specs.declared.fault.Reading.TheVariants.{TooMany}
-use Rattle.client_core.specs.declared.stop.Stop.TheVariants.{TooLong}
-use Rattle.script_run.specs.Budget.{all_commands, bytes_written, IsTooLong, most_calls}
-use Rattle.script_run.proofs.Clients.{clients_within}
-use Rattle.serial_core.specs.declared.run.Left.{Left}
-use Rattle.serial_core.specs.SerialRun.{Run, replies_of}
-use Rattle.serial_core.specs.Inside.Legal.{AreLegal}
-use Rattle.serial_core.specs.Inside.Lines.{AreAfter}
-use Rattle.serial_core.specs.Inside.Standing.{IsNodes}
-use Rattle.serial_core.specs.Left.{histories_in}
+use Rattle.serial_core.proofs.Imports.{◌^◌, ◌≡◌, ◌≢◌, sym, ap, ◌∙◌, ℕ, ◌+◌, ◌≤◌, List, ◌++◌, length, map, Err, inl, inr, true, false, arith, range_with_len, Scripted, outcomes, Pulls, has_failed, told_head, head_of, TooMany, TooLong, all_commands, bytes_written, IsTooLong, most_calls, clients_within, Left, Run, replies_of, AreLegal, AreAfter, IsNodes, histories_in, on_err, rose_by, end_by, many_reads, of_stream}
 use Rattle.serial_core.proofs.Ending.{left_is, overrun_is, ok_by}
-use Rattle.feed_pull.proofs.Stopping.{on_err, rose_by, end_by, many_reads, of_stream}
 use Rattle.serial_core.proofs.run.run_over.Goals as goal
 
 pub returns-in-Ok-clause-left : goal.returns-in-Ok-clause-left

@@ -1,5 +1,4 @@
-use Rattle.std.proofs.Common.{refl, []}
-use Rattle.feed_pull.proofs.Drawing.{draws_none}
+use Rattle.serial_core.proofs.Imports.{refl, [], draws_none}
 use Rattle.serial_core.proofs.run.run_steps.Goals as goal
 
 pub returns-in-Err-clause-draws : goal.returns-in-Err-clause-draws

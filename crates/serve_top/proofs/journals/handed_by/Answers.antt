@@ -1,6 +1,4 @@
-use Rattle.std.proofs.Common.{[], ◌∷◌, ◌++◌, List, subst}
-use Rattle.adapter.specs.Callers.{Caller}
-use Rattle.adapter.specs.Ends.{HaveHistories}
+use Rattle.serve_top.proofs.Imports.{[], ◌∷◌, ◌++◌, List, subst, Caller, HaveHistories}
 use Rattle.serve_top.proofs.journals.handed_by.Goals as goal
 
 pub returns-clause-left : goal.returns-clause-left

@@ -1,6 +1,4 @@
-use Rattle.std.proofs.Common.{◌≡◌, map}
-use Rattle.seats.specs.declared.journal.JournalLine.{JournalLine}
-use Rattle.seats.specs.declared.run.Desk.{Desk}
+use Rattle.serve_top.proofs.Imports.{◌≡◌, map, JournalLine, Desk}
 use Rattle.serve_top.proofs.journals.parts_of.Given as goal
 
 abbrev pub invariant-desks : goal.invariant-desks

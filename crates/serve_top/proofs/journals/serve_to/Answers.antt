@@ -1,7 +1,4 @@
-use Rattle.std.proofs.Common.{◌≡◌, ◌∙◌, Result, Err, Some, ap, sym, arith, refl, subst}
-use Rattle.adapter.specs.Callers.{Caller, IsSameCaller}
-use Rattle.serve_top.specs.declared.server.NoReport.TheVariants.{Failed, TooLong}
-use Rattle.workers.proofs.Leaving.{no_stop}
+use Rattle.serve_top.proofs.Imports.{◌≡◌, ◌∙◌, Result, Err, Some, ap, sym, arith, refl, subst, Caller, IsSameCaller, Failed, TooLong, no_stop}
 use Rattle.serve_top.proofs.Handover.{desks_ready, still_callers, has_served}
 use Rattle.serve_top.proofs.PassedOn.{begun_fit, begun_passed}
 use Rattle.serve_top.proofs.Reporting.{counted}

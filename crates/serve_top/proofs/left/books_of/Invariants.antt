@@ -1,7 +1,4 @@
-use Rattle.std.proofs.Common.{◌≡◌, map}
-use Rattle.dmx_calls.specs.Calls.{told_entry}
-use Rattle.seats.specs.declared.run.Desk.{Desk}
-use Rattle.seats.specs.Seated.{log_of}
+use Rattle.serve_top.proofs.Imports.{◌≡◌, map, told_entry, Desk, log_of}
 use Rattle.serve_top.proofs.left.books_of.Given as goal
 
 abbrev pub invariant-desks : goal.invariant-desks

@@ -1,5 +1,4 @@
-use Rattle.std.proofs.Common.{rules, ◌≡◌, ◌∙◌, Some, ap, arith, refl}
-use Rattle.serve_top.specs.declared.server.NoReport.TheVariants.{Failed, TooLong}
+use Rattle.serve_top.proofs.Imports.{rules, ◌≡◌, ◌∙◌, Some, ap, arith, refl, Failed, TooLong}
 use Rattle.serve_top.proofs.Reporting.{desks_ready, may_pass, has_passed, counted, is_done, are_all, are_on_nodes, is_reported}
 use Rattle.serve_top.proofs.Streaming.{too_often}
 use Rattle.serve_top.proofs.server.serve.Goals as goal

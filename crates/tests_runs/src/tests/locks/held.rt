@@ -1,16 +1,17 @@
 //! A try beside a call that is held inside the machine.
-ghost use Rattle.std.specs.Prelude.{◌≡◌, ◌≤◌, IfSome};
+ghost use Rattle.std.specs.Prelude.{◌≡◌, ◌<◌, ◌≤◌, IfSome};
 ghost use Rattle.node_lock.specs.Passes.{IsFresh};
 
-use super::{call, lock_of_two, try_call};
+use super::{call, lock_of_two};
 use crate::tests::comes_to;
 use machine::Machine;
 use machine::steps::Steps;
 use node_lock::{Held, NodeLock, Pass};
 use std::alloc::Global;
+use std::marker::Brand;
 use std::sync::atomic::AtomicU64;
 use std::sync::atomic::Ordering::SeqCst;
-use std::sync::ledger::Ledger;
+use std::sync::ledger::{Blank, Ledger};
 use std::sync::{Arc, Wait};
 use std::thread::{Threads, join};
 
@@ -104,13 +105,28 @@ fn make_five<R: Wait>(rt: &R, lock: &NodeLock<Gated>, mut pass: Pass<Gated>)
     call(rt, lock, &mut pass, Call::Hold);
 }
 
+// As `try_call`, with the ledger of the steps.
+fn try_counted<L: Ledger>(
+    lock: &NodeLock<Gated>,
+    mut pass: Pass<Gated>,
+    call: Call,
+    blank: Blank,
+) -> Result<(u64, u64), (Call, Held)>
+    requires own { pass.0 ≡ lock.now }
+    requires left { 1 ≤ pass.1.left }
+    requires ledger { (blank.name ≡ L.name) × (blank.parts ≡ L.parts) × (0 < L.parts) }
+{
+    let mut steps: Steps<L> = Steps::new(blank);
+    lock.try_call(&mut pass, call, &mut steps)
+}
+
 // Tries a call while the fifth is held, and lets that go then.
 fn attempt(lock: &NodeLock<Gated>, pass: Pass<Gated>, flags: &Flags) -> Option<(Call, Held)>
     requires own { pass.0 ≡ lock.now }
     requires left { 1000 ≤ pass.1.left }
 {
     comes_to(&flags.entered, 1);
-    let answer = try_call(lock, pass, Call::Count(7));
+    let answer = try_counted::<Brand>(lock, pass, Call::Count(7), Blank::new(1));
     flags.go.store(1, SeqCst);
     answer.err()
 }

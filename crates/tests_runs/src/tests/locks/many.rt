@@ -2,33 +2,24 @@
 ghost use Rattle.std.specs.Prelude.{◌≡◌, ◌++◌, ◌<◌, ◌≤◌, All, length, vec_len};
 ghost use Rattle.node_lock.specs.Passes.{AreFresh};
 
-use super::{call, make};
+use super::call;
 use machine::Adder;
 use node_lock::{NodeLock, Pass};
-use std::alloc::Global;
 use std::sync::Wait;
 use std::sync::atomic::AtomicU64;
 use std::sync::atomic::Ordering::SeqCst;
 use std::thread;
 use std::thread::Threads;
 
-// Makes a hundred calls, and counts those whose answer is their place plus one.
-fn make_all<R: Wait>(
-    rt: &R,
-    alloc: Global,
-    lock: &NodeLock<Adder>,
-    pass: &mut Pass<Adder>,
-    right: &AtomicU64,
-)
+// Makes a hundred calls that add 1, and counts those whose answer is their place plus one.
+fn make_all<R: Wait>(rt: &R, lock: &NodeLock<Adder>, pass: &mut Pass<Adder>, right: &AtomicU64)
     requires own { pass.old.0 ≡ lock.now }
     requires left { 1000 ≤ pass.old.1.left }
     ensures { (pass.new.0 ≡ lock.now) × (1 ≤ pass.new.1.left) }
 {
-    let Ok(made) = make(rt, alloc, lock, pass, 100) else {
-        return;
-    };
-    for (place, sum) in made.iter() {
-        if sum.checked_sub(*place) == Some(1) {
+    for _ in 0..100u32 {
+        let (place, sum) = call(rt, lock, pass, 1);
+        if sum.checked_sub(place) == Some(1) {
             right.fetch_add(1, SeqCst);
         }
     }
@@ -37,7 +28,6 @@ fn make_all<R: Wait>(
 // The place of a call behind those of eight threads, of which each makes calls with a pass of its own, and the sum there.
 fn eight<R: Threads + Wait + Sync>(
     rt: &R,
-    alloc: Global,
     lock: &NodeLock<Adder>,
     passes: &mut [Pass<Adder>],
     right: &AtomicU64,
@@ -48,7 +38,7 @@ fn eight<R: Threads + Wait + Sync>(
     let each = |_: usize, pass: &mut Pass<Adder>|
         requires { (pass.old.0 ≡ lock.now) × (1000 ≤ pass.old.1.left) }
         ensures { (pass.new.0 ≡ pass.old.0) × (1 ≤ pass.new.1.left) }
-    { make_all(rt, alloc, lock, pass, right) };
+    { make_all(rt, lock, pass, right) };
     thread::for_each_mut(rt, passes, 8, &each);
     call(rt, lock, &mut passes[0], 0)
 }
@@ -59,7 +49,7 @@ fn eight_threads_on_one_lock_are_answered_their_place_plus_one(rt: HostRuntime) 
         panic!(rt; "no memory");
     };
     let right = AtomicU64::new(0);
-    let behind = eight(&rt, rt.alloc(), &lock, &mut passes, &right);
+    let behind = eight(&rt, &lock, &mut passes, &right);
     assert!(rt; (right.load(SeqCst), behind) == (800, (800, 800)));
 }
 

@@ -1,5 +1,4 @@
-use Rattle.std.proofs.Common.{◌≡◌, ◌*◌, take, length}
-use Rattle.text_forms.specs.Hex.{hex_text}
+use Rattle.text_forms.proofs.Imports.{◌≡◌, ◌*◌, take, length, hex_text}
 use Rattle.text_forms.proofs.hex.fill_digits.Given as goal
 
 abbrev pub invariant-bytes : goal.invariant-bytes

@@ -1,5 +1,4 @@
-use Rattle.std.proofs.Common.{◌≡◌, ◌≤◌, ◌+◌, ◌*◌, length}
-use Rattle.text_forms.specs.Hex.{hex_bytes}
+use Rattle.text_forms.proofs.Imports.{◌≡◌, ◌≤◌, ◌+◌, ◌*◌, length, hex_bytes}
 use Rattle.text_forms.proofs.HexWords.{IsReading}
 use Rattle.text_forms.proofs.hex.hex_bytes.Given as goal
 

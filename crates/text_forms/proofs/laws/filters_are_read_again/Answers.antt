@@ -1,4 +1,4 @@
-use Rattle.std.proofs.Common.{ap}
+use Rattle.text_forms.proofs.Imports.{ap}
 use Rattle.std.specs.Prelude.{Some}
 use Rattle.text_forms.proofs.FiltersRead.{filter_text-words, places_named-filter_words, filter_with-filter_places}
 use Rattle.text_forms.proofs.laws.filters_are_read_again.Goals as goal

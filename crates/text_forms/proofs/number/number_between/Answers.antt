@@ -1,5 +1,4 @@
-use Rattle.std.proofs.Common.{◌<◌, arith}
-use Rattle.text_forms.specs.Numbers.{value_after}
+use Rattle.text_forms.proofs.Imports.{◌<◌, arith, value_after}
 use Rattle.text_forms.proofs.Values.{value_after-over, number_between-over}
 use Rattle.text_forms.proofs.number.number_between.Goals as goal
 

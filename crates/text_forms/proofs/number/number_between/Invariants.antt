@@ -1,6 +1,4 @@
-use Rattle.std.proofs.Common.{◌≡◌, ◌≤◌, length}
-use Rattle.std.specs.Str.{all_ascii_digits}
-use Rattle.text_forms.specs.Numbers.{value_after, value_of}
+use Rattle.text_forms.proofs.Imports.{◌≡◌, ◌≤◌, length, all_ascii_digits, value_after, value_of}
 use Rattle.text_forms.proofs.number.number_between.Given as goal
 
 abbrev pub invariant-digits : goal.invariant-digits

@@ -1,6 +1,4 @@
-use Rattle.std.proofs.Common.{◌≡◌, ◌≤◌, length, ap, arith}
-use Rattle.std.proofs.lemmas.Fmt.{length-decimal-le}
-use Rattle.std.specs.Fmt.{decimal}
+use Rattle.text_forms.proofs.Imports.{◌≡◌, ◌≤◌, length, ap, arith, length-decimal-le, decimal}
 use Rattle.text_forms.proofs.places.put_place.Goals as goal
 
 pub put-requires-2 : goal.put-requires-2

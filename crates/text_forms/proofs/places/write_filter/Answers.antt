@@ -1,7 +1,5 @@
-use Rattle.std.proofs.Common.{◌++◌, ◌∙◌, ap, sym, append-nil, arith, rules}
-use Rattle.std.proofs.lemmas.List.{flat_map_more}
+use Rattle.text_forms.proofs.Imports.{◌++◌, ◌∙◌, ap, sym, append-nil, arith, rules, flat_map_more, filter_place_text}
 use Rattle.filter_match.specs.Match.{numbers_below}
-use Rattle.text_forms.specs.Places.{filter_place_text}
 use Rattle.text_forms.proofs.Below.{below_more}
 use Rattle.text_forms.proofs.places.write_filter.Goals as goal
 

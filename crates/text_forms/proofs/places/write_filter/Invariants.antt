@@ -1,7 +1,4 @@
-use Rattle.std.proofs.Common.{◌≡◌, ◌+◌, ◌*◌, ◌-◌, ◌≤◌, ◌++◌, vec_len, vec_capacity}
-use Rattle.std.specs.List.{flat_map}
-use Rattle.filter_match.specs.Match.{numbers_below}
-use Rattle.text_forms.specs.Places.{filter_place_text}
+use Rattle.text_forms.proofs.Imports.{◌≡◌, ◌+◌, ◌*◌, ◌-◌, ◌≤◌, ◌++◌, vec_len, vec_capacity, flat_map, numbers_below, filter_place_text}
 use Rattle.text_forms.proofs.places.write_filter.Given as goal
 
 abbrev pub invariant-places : goal.invariant-places

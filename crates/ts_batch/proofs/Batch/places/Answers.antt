@@ -1,6 +1,4 @@
-use Rattle.std.proofs.Common.{◌≡◌, ◌∙◌, sym, ap, false}
-use Rattle.std.proofs.lemmas.List.{take_all}
-use Rattle.ts_batch.specs.Inside.IsIndex.{has_run}
+use Rattle.ts_batch.proofs.Imports.{◌≡◌, ◌∙◌, sym, ap, false, take_all, has_run}
 use Rattle.ts_batch.proofs.Places.{none-named}
 use Rattle.ts_batch.proofs.Batch.places.Goals as goal
 

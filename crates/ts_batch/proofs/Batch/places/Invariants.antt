@@ -1,5 +1,4 @@
-use Rattle.std.proofs.Common.{◌≡◌, take, false}
-use Rattle.ts_batch.specs.Inside.IsIndex.{has_run}
+use Rattle.ts_batch.proofs.Imports.{◌≡◌, take, false, has_run}
 use Rattle.ts_batch.proofs.Batch.places.Given as goal
 
 abbrev pub invariant-runs : goal.invariant-runs

@@ -1,5 +1,4 @@
-use Rattle.std.proofs.Common.{◌≡◌, ◌∙◌, sym, ap, get_or}
-use Rattle.ts_batch.specs.Places.{names}
+use Rattle.ts_batch.proofs.Imports.{◌≡◌, ◌∙◌, sym, ap, get_or, names}
 use Rattle.ts_batch.proofs.Places.{places-yes, places-no, places-end}
 use Rattle.ts_batch.proofs.index.put_places.Goals.{then-is_named+in_ok-push, else-is_named}
 use Rattle.ts_batch.proofs.index.put_places.Goals as goal

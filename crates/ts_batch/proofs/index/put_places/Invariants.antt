@@ -1,5 +1,4 @@
-use Rattle.std.proofs.Common.{◌≡◌, ◌++◌, drop}
-use Rattle.ts_batch.specs.Places.{places_of, places_from, names}
+use Rattle.ts_batch.proofs.Imports.{◌≡◌, ◌++◌, drop, places_of, places_from, names}
 use Rattle.ts_batch.proofs.index.put_places.Given as goal
 
 -- the places so far and those still to come are together all

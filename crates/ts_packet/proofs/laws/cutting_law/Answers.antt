@@ -1,4 +1,4 @@
-use Rattle.std.proofs.Common.{arith}
+use Rattle.ts_packet.proofs.Imports.{arith}
 use Rattle.ts_packet.specs.Cut.{cut}
 use Rattle.ts_packet.proofs.CutLemmas.{cut-append}
 use Rattle.ts_packet.proofs.PieceLemmas.{has-pieces, same-pieces}

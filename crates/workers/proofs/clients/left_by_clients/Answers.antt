@@ -1,10 +1,5 @@
-use Rattle.std.proofs.Common.{rules, ◌≡◌, ◌+◌, ℕ, List, [], ◌∷◌, ◌++◌, length, Vec, Global, refl, sym, ap, subst, ◌∙◌, length-append}
-use Rattle.std.proofs.lemmas.List.{map-id}
-use Rattle.std.proofs.lemmas.Iterator.Consumers.{YieldsList-end}
-use Rattle.std.proofs.lemmas.Iterator.Adapters.{YieldsList-from_vec}
+use Rattle.workers.proofs.Imports.{rules, ◌≡◌, ◌+◌, ℕ, List, [], ◌∷◌, ◌++◌, length, Vec, Global, refl, sym, ap, subst, ◌∙◌, length-append, map-id, YieldsList-end, YieldsList-from_vec, ClientWorker, IsLeftByClients}
 use Rattle.dmx_calls.specs.declared.log.Entry.{Entry}
-use Rattle.workers.specs.declared.client_worker.ClientWorker.{ClientWorker}
-use Rattle.workers.specs.Inside.Begun.{IsLeftByClients}
 use Rattle.workers.proofs.Lists.{maps_more, gives_more, outcomes_more}
 use Rattle.workers.proofs.clients.left_by_clients.Goals as goal
 

@@ -1,8 +1,5 @@
-use Rattle.std.proofs.Common.{◌≡◌, ℕ, List, length, map, Some}
+use Rattle.workers.proofs.Imports.{◌≡◌, ℕ, List, length, map, Some, Outcome, ClientWorker, AreOutcomesOf}
 use Rattle.std.specs.Prelude.{slice_get}
-use Rattle.dmx_calls.specs.declared.outcome.Outcome.{Outcome}
-use Rattle.workers.specs.declared.client_worker.ClientWorker.{ClientWorker}
-use Rattle.workers.specs.Inside.Begun.{AreOutcomesOf}
 use Rattle.workers.proofs.clients.left_by_clients.Given as goal
 
 abbrev pub invariant-workers : goal.invariant-workers

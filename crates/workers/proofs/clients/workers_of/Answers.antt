@@ -1,10 +1,4 @@
-use Rattle.std.proofs.Common.{rules, ◌≡◌, ◌+◌, ℕ, List, [], ◌∷◌, ◌++◌, length, map, None, refl, sym, ap, ◌∙◌, arith, length-append}
-use Rattle.std.proofs.lemmas.List.{map-append, length-map}
-use Rattle.std.proofs.lemmas.Iterator.Consumers.{YieldsList-turn}
-use Rattle.std.proofs.lemmas.Iterator.Adapters.{YieldsList-from_vec}
-use Rattle.adapter.specs.Callers.{Caller}
-use Rattle.workers.specs.declared.client_worker.ClientWorker.{ClientWorker}
-use Rattle.workers.specs.Inside.Begun.{IsFreshWorker}
+use Rattle.workers.proofs.Imports.{rules, ◌≡◌, ◌+◌, ℕ, List, [], ◌∷◌, ◌++◌, length, map, None, refl, sym, ap, ◌∙◌, arith, length-append, map-append, length-map, YieldsList-turn, YieldsList-from_vec, Caller, ClientWorker, IsFreshWorker}
 use Rattle.workers.proofs.Lists.{each_more}
 use Rattle.workers.proofs.clients.workers_of.Goals as goal
 

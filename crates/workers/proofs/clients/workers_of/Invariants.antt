@@ -1,7 +1,5 @@
-use Rattle.std.proofs.Common.{◌≡◌, ℕ, length, map, Some}
+use Rattle.workers.proofs.Imports.{◌≡◌, ℕ, length, map, Some, ClientWorker, IsFreshWorker}
 use Rattle.std.specs.Prelude.{slice_get}
-use Rattle.workers.specs.declared.client_worker.ClientWorker.{ClientWorker}
-use Rattle.workers.specs.Inside.Begun.{IsFreshWorker}
 use Rattle.workers.proofs.clients.workers_of.Given as goal
 
 abbrev pub invariant-callers : goal.invariant-callers

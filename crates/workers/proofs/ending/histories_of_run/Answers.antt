@@ -1,15 +1,4 @@
-use Rattle.std.proofs.Common.{List, map, sym, subst}
-use Rattle.std.proofs.lemmas.List.Elements.{All-map}
-use Rattle.std.proofs.lemmas.Result.{IfOk-weaker}
-use Rattle.std.proofs.lemmas.Simd.{map-map}
-use Rattle.dmx_calls.specs.declared.log.Entry.{Entry as ToldEntry}
-use Rattle.dmx_calls.specs.Calls.{told_entry}
-use Rattle.dmx_calls.specs.Histories.{histories_of}
-use Rattle.script_run.specs.IsRun.{sources}
-use Rattle.script_run.specs.WholeRun.{IsWholeRun}
-use Rattle.adapter.specs.Merging.{AreOnNodes}
-use Rattle.workers.specs.Left.{AreWorked}
-use Rattle.workers.specs.Telling.{HaveCalled, TellWhatWasCalled}
+use Rattle.workers.proofs.Imports.{List, map, sym, subst, All-map, IfOk-weaker, map-map, ToldEntry, told_entry, histories_of, sources, IsWholeRun, AreOnNodes, AreWorked, HaveCalled, TellWhatWasCalled}
 use Rattle.workers.proofs.Ended.{have_called, whole_run}
 use Rattle.workers.proofs.Merged.{books_of, full, merged_woven, nodes_low, tell}
 use Rattle.workers.proofs.ending.histories_of_run.Goals as goal

@@ -1,6 +1,4 @@
-use Rattle.std.proofs.Common.{List, [], ◌∷◌, ◌++◌, subst}
-use Rattle.adapter.specs.Callers.{Caller}
-use Rattle.adapter.specs.Ends.{HaveHistories}
+use Rattle.workers.proofs.Imports.{List, [], ◌∷◌, ◌++◌, subst, Caller, HaveHistories}
 use Rattle.workers.proofs.run.gather.Goals as goal
 
 pub returns : goal.returns

@@ -1,5 +1,4 @@
-use Rattle.std.proofs.Common.{◌++◌, refl, sym, ap, ◌∙◌}
-use Rattle.ts_watch.specs.Head.{head_of}
+use Rattle.workers.proofs.Imports.{◌++◌, sym, ap, ◌∙◌, head_of}
 use Rattle.workers.proofs.run.left_by.Goals as goal
 
 pub returns : goal.returns
@@ -7,8 +6,8 @@ returns c =
     let d = c.in_ok-clients.ensures in
     let h = c.in_ok-head.ensures in
     record {
-      feeder = refl;
-      feeding = refl;
+      feeder = c.into_parts-feeder.ensures.feeder;
+      feeding = c.into_parts-feeder.ensures.feeding;
       head = λ ahead taken given p. h.head ahead taken given p ∙ ap (head_of c.args.feeder.puller.cutting.size (ahead ++ taken)) (sym h.fault);
       fault = h.fault;
       clients = d.clients;

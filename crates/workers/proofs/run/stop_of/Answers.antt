@@ -1,7 +1,4 @@
-use Rattle.std.proofs.Common.{◌≡◌, ◌+◌, ◌∷◌, ◌++◌, [], List, take, sym, ap, ◌∙◌, subst}
-use Rattle.std.proofs.lemmas.List.{take_more, take_all}
-use Rattle.workers.specs.declared.client_worker.ClientWorker.{ClientWorker}
-use Rattle.workers.specs.Inside.Leaving.{StopsBy}
+use Rattle.workers.proofs.Imports.{◌≡◌, ◌+◌, ◌∷◌, ◌++◌, [], List, take, sym, ap, ◌∙◌, subst, take_more, take_all, ClientWorker, StopsBy}
 use Rattle.workers.proofs.Leaving.{stops_none, stops_more}
 use Rattle.workers.proofs.run.stop_of.Goals as goal
 

@@ -1,5 +1,4 @@
-use Rattle.std.proofs.Common.{take}
-use Rattle.workers.specs.Inside.Leaving.{StopsBy}
+use Rattle.workers.proofs.Imports.{take, StopsBy}
 use Rattle.workers.proofs.run.stop_of.Given as goal
 
 abbrev pub invariant-clients : goal.invariant-clients

@@ -1,16 +1,6 @@
-use Rattle.std.proofs.Common.{rules, ◌≡◌, ◌≢◌, ◌≤◌, ◌+◌, ◌^◌, length, ◌++◌, inl, ⊎_elim, [], None, Some, refl, ap, ◌∙◌}
-use Rattle.std.specs.Prelude.{slice_index_or}
-use Rattle.std.proofs.lemmas.Option.{slice_get-get_or}
-use Rattle.script_run.specs.Budget.{IsTooLong}
-use Rattle.ts_watch.specs.Head.{head_of}
-use Rattle.client_core.specs.declared.stop.Stop.TheVariants.{NoMemory, TooLong}
-use Rattle.workers.specs.Inside.Leaving.{IsLeftByWorkers, StopsBy}
-use Rattle.feed_pull.proofs.Drawing.{draws_none}
+use Rattle.workers.proofs.Imports.{rules, ◌≡◌, ◌≢◌, ◌≤◌, ◌+◌, ◌^◌, length, ◌++◌, inl, ⊎_elim, [], None, Some, refl, ap, ◌∙◌, slice_index_or, slice_get-get_or, IsTooLong, head_of, NoMemory, TooLong, IsLeftByWorkers, StopsBy, draws_none, on_err, many_reads, of_stream, is_in, is_named}
 use Rattle.workers.proofs.Beginning.{begun_fit, begun_few, begun_feeder, begun_passed}
-use Rattle.feed_pull.proofs.Stopping.{on_err, many_reads, of_stream}
 use Rattle.workers.proofs.Leaving.{all_worked, all_same, all_on_nodes, worked_feeder, no_stop, one_of_both, still_callers}
-use Rattle.adapter.specs.Nodes.{is_in}
-use Rattle.workers.specs.Named.{is_named}
 use Rattle.workers.proofs.FeederWork.{as_named}
 use Rattle.workers.proofs.TooLong.{calls_by}
 use Rattle.workers.proofs.Budgeting.{many_calls}

@@ -1,9 +1,4 @@
-use Rattle.std.proofs.Common.{subst, sym, List, ◌++◌, ◌∷◌, []}
-use Rattle.atomic_table.specs.Seated.{TableId}
-use Rattle.node_lock.specs.declared.view.View.{View}
-use Rattle.dmx_calls.specs.History.{Entry}
-use Rattle.adapter.specs.Rows.{AreAllRows}
-use Rattle.adapter.specs.Ends.{AreHistories}
+use Rattle.adapter.proofs.Imports.{subst, sym, List, ◌++◌, ◌∷◌, [], TableId, View, Entry, AreAllRows, AreHistories}
 use Rattle.adapter.proofs.Everybody.{all_rows, rows_end}
 use Rattle.adapter.proofs.adapter.Adapter.lengths.Goals as goal
 

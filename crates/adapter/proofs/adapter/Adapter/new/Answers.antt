@@ -1,8 +1,4 @@
-use Rattle.std.proofs.Common.{rules, ◌≡◌, ℕ, ◌+◌, ◌≤◌, ◌^◌, ◌∙◌, ◌++◌, ◌∷◌, [], List, length, vec_len, ap, subst, sym, refl, arith}
-use Rattle.atomic_table.specs.Seated.{TableId}
-use Rattle.adapter.specs.Rows.{IsFreshRow}
-use Rattle.adapter.specs.Callers.{Caller}
-use Rattle.adapter.specs.Inside.Making.{AreLastFirst, AreFreshClients}
+use Rattle.adapter.proofs.Imports.{rules, ◌≡◌, ℕ, ◌+◌, ◌≤◌, ◌^◌, ◌∙◌, ◌++◌, ◌∷◌, [], List, length, vec_len, ap, subst, sym, refl, arith, TableId, IsFreshRow, Caller, AreLastFirst, AreFreshClients}
 use Rattle.adapter.proofs.Pairs.{fresh_first, fresh_mine, fresh_all}
 use Rattle.adapter.proofs.adapter.Adapter.new.Goals as goal
 

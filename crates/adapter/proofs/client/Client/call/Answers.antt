@@ -1,8 +1,4 @@
-use Rattle.std.proofs.Common.{rules, ◌<◌, subst, sym, refl}
-use Rattle.dmx_calls.specs.Entries.{told}
-use Rattle.adapter.specs.Nodes.{IsLegalAt}
-use Rattle.adapter.specs.Rows.{Fits}
-use Rattle.adapter.specs.Callers.{Caller}
+use Rattle.adapter.proofs.Imports.{rules, ◌<◌, subst, sym, refl, told, IsLegalAt, Fits, Caller}
 use Rattle.adapter.proofs.Mine.{may_call_at, mine_after, by_me, fits_same, same_after}
 use Rattle.adapter.proofs.client.Client.call.Goals as goal
 

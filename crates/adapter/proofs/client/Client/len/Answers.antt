@@ -1,6 +1,4 @@
-use Rattle.std.proofs.Common.{rules, ℕ, ◌≤◌, subst, sym, refl}
-use Rattle.adapter.specs.Rows.{Fits}
-use Rattle.adapter.specs.Callers.{Caller}
+use Rattle.adapter.proofs.Imports.{rules, ℕ, ◌≤◌, subst, sym, refl, Fits, Caller}
 use Rattle.adapter.proofs.Mine.{mine_set, fits_same, same_after}
 use Rattle.adapter.proofs.client.Client.len.Goals as goal
 

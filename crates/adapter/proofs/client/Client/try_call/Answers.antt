@@ -1,9 +1,4 @@
-use Rattle.std.proofs.Common.{rules, ◌≡◌, ◌<◌, subst, sym, refl, true, false}
-use Rattle.std.specs.Result.{is_ok}
-use Rattle.dmx_calls.specs.Entries.{told}
-use Rattle.adapter.specs.Nodes.{IsLegalAt}
-use Rattle.adapter.specs.Rows.{Fits}
-use Rattle.adapter.specs.Callers.{Caller}
+use Rattle.adapter.proofs.Imports.{rules, ◌≡◌, ◌<◌, subst, sym, refl, true, false, is_ok, told, IsLegalAt, Fits, Caller}
 use Rattle.adapter.proofs.Mine.{may_call_at, fits_same}
 use Rattle.adapter.proofs.Tries.{same_tried, mine_called, mine_missed, called_by_me}
 use Rattle.adapter.proofs.client.Client.try_call.Goals as goal

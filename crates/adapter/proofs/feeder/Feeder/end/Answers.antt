@@ -1,11 +1,5 @@
-use Rattle.std.proofs.Common.{rules, ◌<◌, subst, sym, refl}
-use Rattle.dmx_calls.specs.History.{entry_of}
+use Rattle.adapter.proofs.Imports.{rules, ◌<◌, subst, sym, refl, entry_of, Passed, caller_of, IsLegalAt, is_in, Fits, Caller}
 use Rattle.dmx_calls.specs.Invocation as asks
-use Rattle.dmx_calls.specs.Response.{Passed}
-use Rattle.dmx_calls.specs.Entries.{caller_of}
-use Rattle.adapter.specs.Nodes.{IsLegalAt, is_in}
-use Rattle.adapter.specs.Rows.{Fits}
-use Rattle.adapter.specs.Callers.{Caller}
 use Rattle.adapter.proofs.Mine.{may_call, all_mine, all_by_me, fits_same, same_all}
 use Rattle.adapter.proofs.feeder.Feeder.end.Goals as goal
 

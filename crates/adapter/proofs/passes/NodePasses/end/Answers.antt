@@ -1,10 +1,5 @@
-use Rattle.std.proofs.Common.{rules, ◌≡◌, true, ◌+◌, ◌≤◌, [], ◌∷◌, ap, arith, length-append}
-use Rattle.dmx_calls.specs.declared.limits.TheConstants.{DEMUX_NODES as nodes}
-use Rattle.dmx_calls.specs.History.{entry_of}
-use Rattle.dmx_calls.specs.Calls.{response_of}
+use Rattle.adapter.proofs.Imports.{rules, ◌≡◌, true, ◌+◌, ◌≤◌, [], ◌∷◌, ap, arith, length-append, nodes, entry_of, response_of, Passed, is_in}
 use Rattle.dmx_calls.specs.Invocation as asks
-use Rattle.dmx_calls.specs.Response.{Passed}
-use Rattle.adapter.specs.Nodes.{is_in}
 use Rattle.adapter.proofs.Passing.{may_now, next_passed, all_passed, ends_at}
 use Rattle.adapter.proofs.passes.NodePasses.end.Goals as goal
 

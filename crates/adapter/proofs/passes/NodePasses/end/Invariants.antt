@@ -1,8 +1,5 @@
-use Rattle.std.proofs.Common.{◌≤◌}
-use Rattle.dmx_calls.specs.History.{entry_of}
+use Rattle.adapter.proofs.Imports.{◌≤◌, entry_of, Passed, is_in}
 use Rattle.dmx_calls.specs.Invocation as asks
-use Rattle.dmx_calls.specs.Response.{Passed}
-use Rattle.adapter.specs.Nodes.{is_in}
 use Rattle.adapter.proofs.Passing.{PassedTo}
 use Rattle.adapter.proofs.passes.NodePasses.end.Given as goal
 

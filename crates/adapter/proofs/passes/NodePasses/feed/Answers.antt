@@ -1,13 +1,6 @@
-use Rattle.std.proofs.Common.{rules, ◌≡◌, true, ℕ, ◌+◌, ◌*◌, ◌≤◌, length, [], ◌∷◌, ap, ◌∙◌, subst, arith, length-append}
-use Rattle.dmx_calls.specs.declared.limits.TheConstants.{DEMUX_NODES as nodes}
-use Rattle.dmx_calls.specs.History.{entry_of}
-use Rattle.dmx_calls.specs.Calls.{response_of}
+use Rattle.adapter.proofs.Imports.{rules, ◌≡◌, true, ℕ, ◌+◌, ◌*◌, ◌≤◌, length, [], ◌∷◌, ap, ◌∙◌, subst, arith, length-append, nodes, entry_of, response_of, Passed, Frontend, Packets, is_in}
 use Rattle.dmx_calls.specs.Invocation as asks
-use Rattle.dmx_calls.specs.Response.{Passed}
-use Rattle.dmx_calls.specs.declared.params.Input.TheVariants.{Frontend}
-use Rattle.ts_batch.specs.Batch.{Packets}
 use Rattle.adapter.proofs.Growing.{one_node_more}
-use Rattle.adapter.specs.Nodes.{is_in}
 use Rattle.adapter.proofs.Passing.{may_now, next_passed, all_passed, passes_at}
 use Rattle.adapter.proofs.passes.NodePasses.feed.Goals as goal
 

@@ -1,9 +1,5 @@
-use Rattle.std.proofs.Common.{◌≡◌, ◌≤◌, ◌+◌, ◌*◌, length}
-use Rattle.dmx_calls.specs.History.{entry_of}
+use Rattle.adapter.proofs.Imports.{◌≡◌, ◌≤◌, ◌+◌, ◌*◌, length, entry_of, Passed, Frontend, is_in}
 use Rattle.dmx_calls.specs.Invocation as asks
-use Rattle.dmx_calls.specs.Response.{Passed}
-use Rattle.dmx_calls.specs.declared.params.Input.TheVariants.{Frontend}
-use Rattle.adapter.specs.Nodes.{is_in}
 use Rattle.adapter.proofs.Passing.{PassedTo}
 use Rattle.adapter.proofs.passes.NodePasses.feed.Given as goal
 

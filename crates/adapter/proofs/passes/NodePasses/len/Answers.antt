@@ -1,8 +1,4 @@
-use Rattle.std.proofs.Common.{rules, ◌≡◌, ℕ, ◌<◌, length, subst, sym, [], ◌∷◌, ◌++◌}
-use Rattle.dmx_calls.specs.declared.limits.TheConstants.{DEMUX_NODES as nodes}
-use Rattle.dmx_calls.specs.Entries.{caller_of}
-use Rattle.adapter.specs.Nodes.{IsLegalAt}
-use Rattle.adapter.specs.Rows.{OneLooks, OneLook}
+use Rattle.adapter.proofs.Imports.{rules, ◌≡◌, ℕ, ◌<◌, length, subst, sym, [], ◌∷◌, ◌++◌, nodes, caller_of, IsLegalAt, OneLooks, OneLook}
 use Rattle.adapter.proofs.Pieces.{looks_left, looks_last}
 use Rattle.adapter.proofs.ByNumber.{DemuxStood, DvrStood, demux_legal, dvr_legal}
 use Rattle.adapter.proofs.passes.NodePasses.len.Goals as goal

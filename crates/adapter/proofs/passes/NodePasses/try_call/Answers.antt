@@ -1,9 +1,4 @@
-use Rattle.std.proofs.Common.{rules, ◌≡◌, ℕ, ◌<◌, length, subst, sym, [], ◌∷◌, ◌++◌}
-use Rattle.dmx_calls.specs.declared.limits.TheConstants.{DEMUX_NODES as nodes}
-use Rattle.std.proofs.lemmas.Result.{IfOk-weaker, IfErr-weaker}
-use Rattle.dmx_calls.specs.Entries.{told, caller_of}
-use Rattle.adapter.specs.Nodes.{IsLegalAt}
-use Rattle.adapter.specs.Rows.{OneCalls, OneMisses}
+use Rattle.adapter.proofs.Imports.{rules, ◌≡◌, ℕ, ◌<◌, length, subst, sym, [], ◌∷◌, ◌++◌, nodes, IfOk-weaker, IfErr-weaker, told, caller_of, IsLegalAt, OneCalls, OneMisses}
 use Rattle.adapter.proofs.Pieces.{calls_left, calls_last, misses_left, misses_last}
 use Rattle.adapter.proofs.Tries.{tried_more, tried_miss}
 use Rattle.adapter.proofs.ByNumber.{DemuxStood, DvrStood, demux_legal, dvr_legal}

@@ -1,16 +1,5 @@
-use Rattle.std.proofs.Common.{◌≡◌, ◌<◌, ◌+◌, ◌∙◌, sym, ap, subst, [], ◌∷◌, Some, length, map, get_or, nat_eq, slice_get, option_map, arith, length-append}
-use Rattle.std.proofs.lemmas.List.{length-map}
-use Rattle.std.proofs.lemmas.List.Sorted.{All-permutation, IsPermutation-map, length_permutation}
-use Rattle.std.proofs.lemmas.Map.Keys.{IsDistinct-IsPermutation}
-use Rattle.std.proofs.lemmas.Option.{slice_get-get_or, slice_get-map}
-use Rattle.dmx_calls.specs.declared.log.Entry.{Entry as ToldEntry}
-use Rattle.dmx_calls.specs.Calls.{told_entry}
-use Rattle.dmx_calls.specs.Histories.{pass_act, feeder_acts, woven, AreInPlace}
-use Rattle.dmx_calls.specs.declared.log.Act.TheVariants.{End as EndAct}
-use Rattle.dmx_calls.proofs.Weaving.{woven-length, woven_nodes-at}
-use Rattle.adapter.specs.Inside.Placing.{entries_on, length_on, StandAtTheirPlaces}
+use Rattle.adapter.proofs.Imports.{◌≡◌, ◌<◌, ◌+◌, ◌∙◌, sym, ap, subst, [], ◌∷◌, Some, length, map, get_or, nat_eq, slice_get, option_map, arith, length-append, length-map, All-permutation, IsPermutation-map, length_permutation, IsDistinct-IsPermutation, slice_get-get_or, slice_get-map, ToldEntry, told_entry, pass_act, feeder_acts, woven, AreInPlace, EndAct, woven-length, woven_nodes-at, entries_on, length_on, StandAtTheirPlaces, nat_eq_turned}
 use Rattle.adapter.proofs.Standing.{ascends, in-place}
-use Rattle.lemmas.proofs.Tests.{nat_eq_turned}
 use Rattle.adapter.proofs.trace_merge.laws.entries_stand_at_their_places.Goals as goal
 
 stand : StandAtTheirPlaces

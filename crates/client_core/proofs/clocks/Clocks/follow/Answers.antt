@@ -1,10 +1,4 @@
-use Rattle.std.proofs.Common.{rules, ◌≡◌, ℕ, List, subst, sym, ◌∙◌}
-use Rattle.std.proofs.lemmas.List.{get_or_default}
-use Rattle.std.specs.Prelude.{slice_index_or}
-use Rattle.dmx_calls.specs.Calls.{response_of}
-use Rattle.client_core.specs.Clock.{HasFollowed}
-use Rattle.client_core.specs.Stc.{bytes_after, type_after}
-use Rattle.client_core.specs.Inside.Clocks.{NodeClock, uncalled, HaveFollowed}
+use Rattle.client_core.proofs.Imports.{rules, ◌≡◌, ℕ, List, subst, sym, ◌∙◌, get_or_default, slice_index_or, response_of, HasFollowed, bytes_after, type_after, NodeClock, uncalled, HaveFollowed}
 use Rattle.client_core.proofs.Following.{followed_more}
 use Rattle.client_core.proofs.clocks.Clocks.follow.Goals as goal
 

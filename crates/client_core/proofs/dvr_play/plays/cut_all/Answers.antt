@@ -1,8 +1,4 @@
-use Rattle.std.proofs.Common.{◌≡◌, ◌∙◌, ◌-◌, ◌++◌, ℕ, List, [], ap, sym, subst, length, take, drop}
-use Rattle.std.proofs.lemmas.List.{length-drop}
-use Rattle.std.proofs.Math.Seq.{take-length}
-use Rattle.ts_packet.specs.Cutting.{Cutting, Cuts, fresh}
-use Rattle.ts_packet.specs.declared.size.PacketSize.TheVariants.{Of188}
+use Rattle.client_core.proofs.Imports.{◌≡◌, ◌∙◌, ◌-◌, ◌++◌, ℕ, List, [], ap, sym, subst, length, take, drop, length-drop, take-length, Cutting, Cuts, fresh, Of188}
 use Rattle.client_core.proofs.Joining.{all_found, all_left, last_bytes}
 use Rattle.client_core.proofs.dvr_play.plays.cut_all.Goals as goal
 

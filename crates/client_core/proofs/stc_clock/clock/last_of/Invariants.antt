@@ -1,6 +1,4 @@
-use Rattle.std.proofs.Common.{◌≡◌, drop}
-use Rattle.std.specs.Option.{option_or}
-use Rattle.client_core.specs.Clock.{last_pcr}
+use Rattle.client_core.proofs.Imports.{◌≡◌, drop, option_or, last_pcr}
 use Rattle.client_core.proofs.stc_clock.clock.last_of.Given as goal
 
 -- the packets that are left give the same over what was found so far as all packets over what stood before

@@ -1,7 +1,4 @@
-use Rattle.std.proofs.Common.{◌≡◌, ◌≤◌, ◌-◌, ◌++◌, ◌∙◌, ap, length, take, drop, true, false, rules}
-use Rattle.std.proofs.lemmas.List.{take_rest}
-use Rattle.std.specs.Prelude.{is_none}
-use Rattle.client_script.specs.Inside.Part.{HasNoFeed, Passes}
+use Rattle.client_script.proofs.Imports.{◌≡◌, ◌≤◌, ◌-◌, ◌++◌, ◌∙◌, ap, length, take, drop, true, false, rules, take_rest, is_none, HasNoFeed, Passes}
 use Rattle.client_script.proofs.Searching.{searched-on, searched-kept, none_by_test}
 use Rattle.client_script.proofs.part.ScriptPart.add.Goals as goal
 

@@ -1,5 +1,4 @@
-use Rattle.std.proofs.Common.{◌≡◌, rules}
-use Rattle.client_script.specs.Script.{script_len, whole_lines}
+use Rattle.client_script.proofs.Imports.{◌≡◌, rules, script_len, whole_lines}
 use Rattle.client_script.proofs.Searching.{end-within}
 use Rattle.client_script.proofs.part.ScriptPart.end.Goals as goal
 

@@ -1,10 +1,4 @@
-use Rattle.std.proofs.Common.{rules, ◌≡◌, ◌<◌, ◌∷◌, ◌++◌, [], length, refl, ap, ◌∙◌, List, ℕ, arith}
-use Rattle.std.proofs.lemmas.List.{get_or_default}
-use Rattle.std.specs.Prelude.{slice_index_or}
-use Rattle.client_script.specs.Script.{Scripted, writes_of}
-use Rattle.client_script.specs.declared.line.Target.TheVariants.{Dvr}
-use Rattle.client_script.specs.declared.line.Line.TheVariants.{Command}
-use Rattle.client_script.specs.declared.line.Verb.TheVariants.{Write}
+use Rattle.client_script.proofs.Imports.{rules, ◌≡◌, ◌<◌, ◌∷◌, ◌++◌, [], length, refl, ap, ◌∙◌, List, ℕ, arith, get_or_default, slice_index_or, Scripted, writes_of, Dvr, Command, Write}
 use Rattle.client_script.proofs.Taking.{script_write}
 use Rattle.client_script.proofs.script.Script.add_write.Goals as goal
 

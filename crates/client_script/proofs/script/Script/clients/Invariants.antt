@@ -1,5 +1,4 @@
-use Rattle.std.proofs.Common.{◌≡◌, ◌≤◌, take}
-use Rattle.client_script.specs.Script.{clients_among}
+use Rattle.client_script.proofs.Imports.{◌≡◌, ◌≤◌, take, clients_among}
 use Rattle.client_script.proofs.script.Script.clients.Given as goal
 
 abbrev pub invariant-lines : goal.invariant-lines

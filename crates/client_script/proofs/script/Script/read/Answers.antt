@@ -1,7 +1,4 @@
-use Rattle.std.proofs.Common.{◌≡◌, ◌∷◌, [], length, true, false, ap, ◌∙◌, rules, arith}
-use Rattle.std.specs.Prelude.{Ok, Err}
-use Rattle.client_script.specs.Grammar.{meaning}
-use Rattle.client_script.specs.Script.{whole_lines, is_stream, with_said}
+use Rattle.client_script.proofs.Imports.{◌≡◌, ◌∷◌, [], length, true, false, ap, ◌∙◌, rules, arith, Ok, Err, meaning, whole_lines, is_stream, with_said}
 use Rattle.client_script.proofs.Cuts.{length-whole_lines}
 use Rattle.client_script.proofs.Scripts.{missing_in, script_by-start, script_by-end, script_by-stream, script_by-fault, script_by-line}
 use Rattle.client_script.proofs.Taking.{lines_more, writes_more, writes_below, no_writes_below}

@@ -1,6 +1,4 @@
-use Rattle.std.proofs.Common.{◌≡◌, ◌+◌, ◌≤◌, length}
-use Rattle.std.specs.List.{All}
-use Rattle.client_script.specs.Script.{grammar, whole_lines}
+use Rattle.client_script.proofs.Imports.{◌≡◌, ◌+◌, ◌≤◌, length, All, grammar, whole_lines}
 use Rattle.client_script.proofs.Scripts.{script_by, missing_in}
 use Rattle.client_script.proofs.script.Script.read.Given as goal
 

@@ -1,8 +1,5 @@
-use Rattle.std.proofs.Common.{◌≡◌, ◌∙◌, ◌+◌, Some, length, map, slice_get, arith, ap, sym, option_map}
-use Rattle.std.proofs.lemmas.List.{length-map}
-use Rattle.std.proofs.lemmas.Option.{slice_get_read, slice_get-map}
-use Rattle.dmx_calls.specs.Calls.{told_entry}
-use Rattle.dmx_calls.specs.Histories.{feeder_acts, woven}
+use Rattle.dmx_calls.proofs.Imports.{◌≡◌, ◌∙◌, ◌+◌, Some, length, map, slice_get, arith, ap, sym, length-map, slice_get_read, slice_get-map, told_entry, feeder_acts, woven}
+use Rattle.std.proofs.Common.{option_map}
 use Rattle.dmx_calls.proofs.Weaving.{woven_nodes-at, woven_nodes-length}
 use Rattle.dmx_calls.proofs.histories.Histories.node.Goals as goal
 

@@ -1,6 +1,4 @@
-use Rattle.std.proofs.Common.{◌+◌, refl}
-use Rattle.dmx_calls.specs.Calls.{invocation_of, response_of}
-use Rattle.dvr_core.specs.Inside.CoreView.{core_view}
+use Rattle.dvr_core.proofs.Imports.{◌+◌, refl, invocation_of, response_of, core_view}
 use Rattle.dvr_core.proofs.Standing.{stands_on}
 use Rattle.dvr_core.proofs.Causing.{causes_of}
 use Rattle.dvr_core.proofs.dvr.DvrCore.apply.Goals as goal

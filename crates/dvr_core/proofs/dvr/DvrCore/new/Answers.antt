@@ -1,4 +1,4 @@
-use Rattle.std.proofs.Common.{refl}
+use Rattle.dvr_core.proofs.Imports.{refl}
 use Rattle.dmx_calls.specs.Tenure.{has_ended, tenure, owner, dvr_size, size_or}
 use Rattle.dmx_calls.specs.Capture.{dvr_capture}
 use Rattle.dmx_calls.specs.Facts.{facts}

@@ -1,7 +1,4 @@
-use Rattle.std.proofs.Common.{◌+◌, refl, inl}
-use Rattle.dmx_calls.specs.Invocation.{Pass}
-use Rattle.dmx_calls.specs.Response.{Passed}
-use Rattle.dvr_core.specs.Inside.CoreView.{core_view}
+use Rattle.dvr_core.proofs.Imports.{◌+◌, refl, inl, Pass, Passed, core_view}
 use Rattle.dvr_core.proofs.Standing.{stands_on}
 use Rattle.dvr_core.proofs.dvr.DvrCore.pass.Goals as goal
 

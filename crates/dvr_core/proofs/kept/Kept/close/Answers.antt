@@ -1,12 +1,4 @@
-use Rattle.std.proofs.Common.{rules, ◌≡◌, refl, ◌∙◌, ap, true, Some, None, inl}
-use Rattle.dmx_calls.specs.declared.node.NodeKind.TheVariants.{Dvr}
-use Rattle.dmx_calls.specs.Calls.{response_of}
-use Rattle.dmx_calls.specs.Invocation.{Close}
-use Rattle.dmx_calls.specs.Response.{Passed, is_accepted}
-use Rattle.node_buffer.proofs.Accepted.{dropping_accepted}
-use Rattle.node_buffer.proofs.Owners.{gives_granted}
-use Rattle.dvr_core.specs.Inside.Step.{Knows, moved}
-use Rattle.dvr_core.specs.Inside.KeptView.{knows_in}
+use Rattle.dvr_core.proofs.Imports.{rules, ◌≡◌, refl, ◌∙◌, ap, true, Some, None, inl, Dvr, response_of, Close, Passed, is_accepted, dropping_accepted, gives_granted, Knows, moved, knows_in}
 use Rattle.dvr_core.proofs.kept.Kept.close.Goals as goal
 
 pub returns-in-Some-clause-said : goal.returns-in-Some-clause-said

@@ -1,9 +1,4 @@
-use Rattle.std.proofs.Common.{◌∙◌, ◌||◌, Some, take, ap, sym, arith}
-use Rattle.std.proofs.Math.Bool.{or-false}
-use Rattle.std.specs.List.{list_any}
-use Rattle.std.proofs.lemmas.List.Folds.{list_any_more}
-use Rattle.dmx_calls.specs.Items.{is_named}
-use Rattle.dmx_calls.specs.Taps.{tap_names}
+use Rattle.dvr_core.proofs.Imports.{◌∙◌, ◌||◌, Some, take, ap, sym, arith, or-false, list_any, list_any_more, is_named, tap_names}
 use Rattle.dvr_core.proofs.taps.Taps.places.Goals.{in-Some, in_default}
 use Rattle.dvr_core.proofs.taps.Taps.places.Goals as goal
 

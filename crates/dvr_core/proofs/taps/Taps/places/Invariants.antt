@@ -1,8 +1,5 @@
-use Rattle.std.proofs.Common.{◌≡◌, ℕ, List, take}
-use Rattle.std.specs.Prelude.{slice_get, Some}
-use Rattle.std.specs.List.{list_any}
-use Rattle.ts_batch.specs.Places.{is_in}
-use Rattle.dmx_calls.specs.Taps.{tap_names}
+use Rattle.dvr_core.proofs.Imports.{◌≡◌, ℕ, List, take, slice_get, list_any, is_in, tap_names}
+use Rattle.std.specs.Prelude.{Some}
 use Rattle.dvr_core.proofs.taps.Taps.places.Given as goal
 
 abbrev pub invariant-taps : goal.invariant-taps

@@ -1,11 +1,4 @@
-use Rattle.std.proofs.Common.{rules, ◌≡◌, ◌∙◌, ap, List, Option, inl, false, Some}
-use Rattle.std.specs.Prelude.{option_map}
-use Rattle.dmx_calls.specs.Calls.{response_of}
-use Rattle.dmx_calls.specs.Tenure.{Empty}
-use Rattle.dmx_calls.specs.Taps.{Tap}
-use Rattle.node_buffer.specs.Inside.Capturing.{terms_of, read_by, with_response}
-use Rattle.dvr_core.specs.Inside.Step.{Knows}
-use Rattle.dvr_core.specs.Inside.KeptView.{knows_in}
+use Rattle.dvr_core.proofs.Imports.{rules, ◌≡◌, ◌∙◌, ap, List, Option, inl, false, Some, option_map, response_of, Empty, Tap, terms_of, read_by, with_response, Knows, knows_in}
 use Rattle.dvr_core.proofs.ByValues.{read-said, read-after}
 use Rattle.dvr_core.proofs.tenure.Tenure.read.Goals as goal
 

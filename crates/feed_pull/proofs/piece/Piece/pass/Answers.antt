@@ -1,5 +1,4 @@
-use Rattle.std.proofs.Common.{arith, ◌≡◌, ◌≤◌, ◌+◌, ◌-◌, drop, refl}
-use Rattle.std.proofs.lemmas.List.{drop-take, drop-drop, length-take}
+use Rattle.feed_pull.proofs.Imports.{arith, ◌≡◌, ◌≤◌, ◌+◌, ◌-◌, drop, refl, drop-take, drop-drop, length-take}
 use Rattle.feed_pull.proofs.piece.Piece.pass.Goals as goal
 
 pub returns : goal.returns

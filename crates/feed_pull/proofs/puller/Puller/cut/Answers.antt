@@ -1,5 +1,4 @@
-use Rattle.std.proofs.Common.{◌≡◌, ◌∙◌, ◌+◌, ◌≤◌, ◌++◌, ℕ, List, length, drop, ap, subst}
-use Rattle.ts_watch.specs.Watching.{Watched}
+use Rattle.feed_pull.proofs.Imports.{◌≡◌, ◌∙◌, ◌+◌, ◌≤◌, ◌++◌, ℕ, List, length, drop, ap, subst, Watched}
 use Rattle.feed_pull.proofs.PullLemmas.{Goes-cut, IsPulling-cut}
 use Rattle.feed_pull.proofs.puller.Puller.cut.Goals as goal
 

@@ -1,6 +1,4 @@
-use Rattle.std.proofs.Common.{◌≡◌, ◌≢◌, ◌+◌, ◌<◌, ◌≤◌, length}
-use Rattle.feed_pull.specs.declared.fault.Reading.TheVariants.{Going}
-use Rattle.feed_pull.specs.Steps.{Gathers, Follows, ReadsNothing, work}
+use Rattle.feed_pull.proofs.Imports.{◌≡◌, ◌≢◌, ◌+◌, ◌<◌, ◌≤◌, length, Going, Gathers, Follows, ReadsNothing, work}
 use Rattle.feed_pull.proofs.puller.Puller.fill.Given as goal
 
 abbrev pub invariant-gathering : goal.invariant-gathering

@@ -1,5 +1,4 @@
-use Rattle.std.proofs.Common.{sym, subst}
-use Rattle.feed_pull.specs.Pulling.{Pulling, IsPulling}
+use Rattle.feed_pull.proofs.Imports.{sym, subst, Pulling, IsPulling}
 use Rattle.feed_pull.proofs.PullLemmas.{Gathers-none, Gathers-room}
 use Rattle.feed_pull.proofs.puller.Puller.gather.Goals as goal
 

@@ -1,7 +1,4 @@
-use Rattle.std.proofs.Common.{◌++◌}
-use Rattle.ts_packet.specs.Cut.{cut}
-use Rattle.feed_pull.specs.Pulling.{has_failed}
-use Rattle.ts_watch.proofs.HeadLemmas.{head-is}
+use Rattle.feed_pull.proofs.Imports.{◌++◌, cut, has_failed, head-is}
 use Rattle.feed_pull.proofs.puller.Puller.head.Goals as goal
 
 pub returns-clause-head : goal.returns-clause-head

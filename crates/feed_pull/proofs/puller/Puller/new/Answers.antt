@@ -1,5 +1,4 @@
-use Rattle.std.proofs.Common.{ap, refl, ◌∙◌}
-use Rattle.ts_batch.specs.Room.{Gathered}
+use Rattle.feed_pull.proofs.Imports.{ap, refl, ◌∙◌, Gathered}
 use Rattle.feed_pull.proofs.PullLemmas.{Pulls-new}
 use Rattle.feed_pull.proofs.puller.Puller.new.Goals as goal
 

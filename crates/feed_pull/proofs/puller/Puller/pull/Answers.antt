@@ -1,5 +1,4 @@
-use Rattle.std.proofs.Common.{rules, arith, ◌≡◌, [], length}
-use Rattle.feed_pull.specs.Pulling.{given_by}
+use Rattle.feed_pull.proofs.Imports.{rules, arith, ◌≡◌, [], length, given_by}
 use Rattle.feed_pull.proofs.PullLemmas.{Carries-by, HasGiven-none, Pulls-front, Pulls-size, near-from}
 use Rattle.feed_pull.proofs.puller.Puller.pull.Goals as goal
 

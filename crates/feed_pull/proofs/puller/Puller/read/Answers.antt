@@ -1,6 +1,4 @@
-use Rattle.std.proofs.Common.{arith, ◌≡◌, [], refl, sym, ◌∙◌}
-use Rattle.std.proofs.lemmas.List.{nil_from_length}
-use Rattle.std.proofs.KnownBytes.{Consumes-nil}
+use Rattle.feed_pull.proofs.Imports.{arith, ◌≡◌, [], refl, sym, ◌∙◌, nil_from_length, Consumes-nil}
 use Rattle.feed_pull.proofs.PullLemmas.{Goes-same, Goes-read}
 use Rattle.feed_pull.proofs.puller.Puller.read.Goals as goal
 

@@ -1,5 +1,4 @@
-use Rattle.std.proofs.Common.{rules, arith, ◌≡◌}
-use Rattle.filter_match.specs.Match.{negates_at}
+use Rattle.filter_match.proofs.Imports.{rules, arith, ◌≡◌, negates_at}
 use Rattle.filter_match.proofs.Bytes.{reach-none, reach-unmasked, reach-masked, any-none, any-yes, any-no, negates-yes, negates-no, place-rises}
 use Rattle.filter_match.proofs.compiled.Compiled.of.Goals.{then-filter-i-ne0, else-filter-i-ne0, then-filter-i-ne0-2, else-filter-i-ne0-2}
 use Rattle.filter_match.proofs.compiled.Compiled.of.Goals as goal

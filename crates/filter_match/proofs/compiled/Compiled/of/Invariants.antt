@@ -1,6 +1,4 @@
-use Rattle.std.proofs.Common.{◌≡◌, ◌≤◌, ◌+◌}
-use Rattle.std.specs.List.{list_any}
-use Rattle.filter_match.specs.Match.{place_of, numbers_below, negates_at}
+use Rattle.filter_match.proofs.Imports.{◌≡◌, ◌≤◌, ◌+◌, list_any, place_of, numbers_below, negates_at}
 use Rattle.filter_match.proofs.Bytes.{ReachesBelow}
 use Rattle.filter_match.proofs.compiled.Compiled.of.Given as goal
 

@@ -1,5 +1,4 @@
-use Rattle.std.proofs.Common.{not, sym, refl}
-use Rattle.std.proofs.Math.Bool.{or-true, or-false}
+use Rattle.filter_match.proofs.Imports.{not, sym, refl, or-true, or-false}
 use Rattle.filter_match.proofs.Bytes.{not-reached, matches-is}
 use Rattle.filter_match.proofs.compiled.Compiled.selects.Goals as goal
 

@@ -1,5 +1,4 @@
-use Rattle.std.proofs.Common.{◌≡◌, take}
-use Rattle.filter_match.specs.Places.{filter_with}
+use Rattle.filter_match.proofs.Imports.{◌≡◌, take, filter_with}
 use Rattle.filter_match.proofs.filter.SectionFilter.of.Given as goal
 
 abbrev pub invariant-places : goal.invariant-places

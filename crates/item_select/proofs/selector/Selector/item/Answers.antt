@@ -1,5 +1,4 @@
-use Rattle.std.specs.Prelude.{option_map, IfSome, IsNone}
-use Rattle.std.proofs.Common.{◌≤◌, Option, Some, None, List, ℕ, length, refl, arith, Bor}
+use Rattle.item_select.proofs.Imports.{option_map, IfSome, IsNone, ◌≤◌, Option, Some, None, List, ℕ, length, refl, arith, Bor}
 use Rattle.item_select.proofs.Viewed.{next-section, next-payload}
 use Rattle.item_select.proofs.selector.Selector.item.Goals as goal
 

@@ -1,5 +1,4 @@
-use Rattle.std.proofs.Common.{rules, ◌≡◌, ◌≤◌, List, ℕ, Some, length, drop}
-use Rattle.node_buffer.specs.Inside.BufferView.{CaptureHolds}
+use Rattle.node_buffer.proofs.Imports.{rules, ◌≡◌, ◌≤◌, List, ℕ, Some, length, drop, CaptureHolds}
 use Rattle.node_buffer.proofs.Holding.{coherent_read}
 use Rattle.node_buffer.proofs.buffer.Buffer.read_bytes.Goals as goal
 

@@ -1,7 +1,4 @@
-use Rattle.std.proofs.Common.{◌∙◌, ap, sym}
-use Rattle.dmx_calls.specs.Calls.{params_of}
-use Rattle.dmx_calls.specs.Facts.{state_of, state_of_filter}
-use Rattle.node_core.specs.Inside.KeptView.{knows_in}
+use Rattle.node_core.proofs.Imports.{◌∙◌, ap, sym, params_of, state_of, state_of_filter, knows_in}
 use Rattle.node_core.proofs.ByValues.{ran_before}
 use Rattle.node_core.proofs.kept.Kept.pass.Goals as goal
 

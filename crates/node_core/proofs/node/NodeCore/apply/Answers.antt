@@ -1,6 +1,4 @@
-use Rattle.std.proofs.Common.{◌+◌, refl}
-use Rattle.dmx_calls.specs.Calls.{invocation_of, response_of}
-use Rattle.node_core.specs.Inside.CoreView.{core_view}
+use Rattle.node_core.proofs.Imports.{◌+◌, refl, invocation_of, response_of, core_view}
 use Rattle.node_core.proofs.Looking.{has_its_pid}
 use Rattle.node_core.proofs.Standing.{stands_on}
 use Rattle.node_core.proofs.Causing.{causes_of}

@@ -1,4 +1,4 @@
-use Rattle.std.proofs.Common.{refl}
+use Rattle.node_core.proofs.Imports.{refl}
 use Rattle.dmx_calls.specs.Tenure.{has_ended, tenure, owner, size, size_or, setting, params, pids}
 use Rattle.dmx_calls.specs.Capture.{capture}
 use Rattle.dmx_calls.specs.Facts.{facts}

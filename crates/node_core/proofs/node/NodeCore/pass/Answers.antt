@@ -1,7 +1,4 @@
-use Rattle.std.proofs.Common.{◌+◌, refl, inl}
-use Rattle.dmx_calls.specs.Invocation.{Pass}
-use Rattle.dmx_calls.specs.Response.{Passed}
-use Rattle.node_core.specs.Inside.CoreView.{core_view}
+use Rattle.node_core.proofs.Imports.{◌+◌, refl, inl, Pass, Passed, core_view}
 use Rattle.node_core.proofs.Looking.{has_its_pid}
 use Rattle.node_core.proofs.Standing.{stands_on}
 use Rattle.node_core.proofs.node.NodeCore.pass.Goals as goal

@@ -1,12 +1,4 @@
-use Rattle.std.proofs.Common.{◌≡◌, ◌∙◌, ap, arith, inl, Some}
-use Rattle.std.specs.Prelude.{option_map}
-use Rattle.dmx_calls.specs.Calls.{params_of, response_of}
-use Rattle.dmx_calls.specs.Items.{timeout_of}
-use Rattle.dmx_calls.specs.Answer.{is_section}
-use Rattle.node_buffer.specs.Inside.Capturing.{terms_of, expiring, with_response, read_by}
-use Rattle.node_core.specs.Inside.Step.{Knows}
-use Rattle.node_core.specs.Inside.KeptView.{knows_in}
-use Rattle.node_buffer.proofs.Readings.{total-read}
+use Rattle.node_core.proofs.Imports.{◌≡◌, ◌∙◌, ap, arith, inl, Some, option_map, params_of, response_of, timeout_of, is_section, terms_of, expiring, with_response, read_by, Knows, knows_in, total-read}
 use Rattle.node_core.proofs.ByValues.{read-said, read-after, read-sound}
 use Rattle.node_core.proofs.tenure.Tenure.read.Goals as goal
 

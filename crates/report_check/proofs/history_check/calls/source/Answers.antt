@@ -1,7 +1,4 @@
-use Rattle.std.proofs.Common.{◌≡◌, ◌∙◌, [], List, ℕ, map, sym, subst}
-use Rattle.std.specs.Prelude.{slice_index_or}
-use Rattle.dmx_calls.specs.declared.params.Input.TheVariants.{Dvr}
-use Rattle.report_check.specs.Playing.{AreFewPackets}
+use Rattle.report_check.proofs.Imports.{◌≡◌, ◌∙◌, [], List, ℕ, map, sym, subst, slice_index_or, Dvr, AreFewPackets}
 use Rattle.report_check.proofs.Sources.{at_caller, are_few}
 use Rattle.report_check.proofs.history_check.calls.source.Goals as goal
 

@@ -1,13 +1,6 @@
-use Rattle.std.proofs.Common.{rules, ◌∷◌, ◌++◌, [], List, map, take, sym, subst, All}
-use Rattle.std.specs.Prelude.{◌≢◌}
-use Rattle.std.proofs.lemmas.List.Elements.{All-push}
-use Rattle.dmx_calls.specs.Calls.{response_of, told_entry}
-use Rattle.dmx_calls.specs.History.{Entry, entry_of}
-use Rattle.dmx_calls.specs.Invocation.{Invocation}
-use Rattle.dmx_calls.specs.Legal.{May}
-use Rattle.dmx_calls.specs.Log.{LogEntry, filled}
-use Rattle.dmx_calls.specs.Response.{NoMemory}
-use Rattle.report_check.specs.Playing.{IsCallable, brought_from, played}
+use Rattle.report_check.proofs.Imports.{rules, ◌∷◌, ◌++◌, [], List, map, take, sym, subst, ◌≢◌, All-push, response_of, told_entry, Entry, entry_of, Invocation, May, LogEntry, filled, NoMemory, IsCallable, brought_from}
+use Rattle.std.proofs.Common.{All}
+use Rattle.report_check.specs.Playing.{played}
 use Rattle.report_check.proofs.ToldPlayed.{IsAt, at_told, taken_next, may_there, played_more}
 use Rattle.report_check.proofs.history_check.replay.is_played.Goals as goal
 

@@ -1,8 +1,6 @@
-use Rattle.std.proofs.Common.{◌≡◌, map, take, All}
-use Rattle.std.specs.Prelude.{◌≢◌}
-use Rattle.dmx_calls.specs.Calls.{told_entry}
-use Rattle.dmx_calls.specs.Response.{NoMemory}
-use Rattle.report_check.specs.Playing.{brought_from, played}
+use Rattle.report_check.proofs.Imports.{◌≡◌, map, take, ◌≢◌, told_entry, NoMemory, brought_from}
+use Rattle.std.proofs.Common.{All}
+use Rattle.report_check.specs.Playing.{played}
 use Rattle.report_check.proofs.history_check.replay.is_played.Given as goal
 
 abbrev pub invariant-entries : goal.invariant-entries

@@ -1,5 +1,4 @@
-use Rattle.std.proofs.Common.{◌≡◌, ◌<◌, ℕ, List, [], Bor, get_or}
-use Rattle.dmx_calls.specs.declared.log.Entry.{Entry as ToldEntry}
+use Rattle.report_check.proofs.Imports.{◌≡◌, ◌<◌, ℕ, List, [], Bor, get_or, ToldEntry}
 use Rattle.report_check.proofs.Queues.{queue}
 use Rattle.report_check.proofs.walk_check.queue.is_none_left.Given as goal
 

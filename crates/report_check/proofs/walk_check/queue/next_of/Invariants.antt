@@ -1,6 +1,4 @@
-use Rattle.std.proofs.Common.{◌≡◌, ◌≤◌, length, map}
-use Rattle.dmx_calls.specs.Calls.{told_entry}
-use Rattle.report_check.specs.Walk.{of_client}
+use Rattle.report_check.proofs.Imports.{◌≡◌, ◌≤◌, length, map, told_entry, of_client}
 use Rattle.report_check.proofs.walk_check.queue.next_of.Given as goal
 
 abbrev pub invariant-entries : goal.invariant-entries

@@ -1,18 +1,5 @@
-use Rattle.std.proofs.Common.{◌≡◌, ◌<◌, ◌≤◌, ◌+◌, ◌∙◌, ◌∷◌, ◌++◌, [], ℕ, List, length, map, Some, None, Bor, All, sym, subst, arith, append_assoc, append-nil}
-use Rattle.std.proofs.lemmas.List.{map-append}
-use Rattle.std.specs.Prelude.{Option}
-use Rattle.dmx_calls.specs.declared.log.Entry.{Entry as ToldEntry}
-use Rattle.dmx_calls.specs.Calls.{told_entry, response_of}
-use Rattle.dmx_calls.specs.Log.{LogEntry}
-use Rattle.dmx_calls.specs.Response.{Response}
-use Rattle.client_core.specs.declared.event.Event.{Event}
-use Rattle.client_core.specs.Deeds.{Batches}
-use Rattle.client_core.specs.Commands.{plays_of}
-use Rattle.client_core.specs.Events.{next_event}
-use Rattle.client_core.specs.Inside.Core.{IsAfter}
-use Rattle.script_run.specs.IsRun.{IsEvent, replies}
-use Rattle.report_check.specs.Walk.{IsRest, CanRest, queues_in}
-use Rattle.report_check.specs.Inside.Steps.{IsTaken, left_on}
+use Rattle.report_check.proofs.Imports.{◌≡◌, ◌<◌, ◌≤◌, ◌+◌, ◌∙◌, ◌∷◌, ◌++◌, [], ℕ, List, length, map, Bor, sym, subst, arith, append_assoc, append-nil, map-append, Option, ToldEntry, told_entry, response_of, LogEntry, Response, Event, Batches, plays_of, next_event, IsAfter, IsEvent, replies, IsRest, CanRest, queues_in, IsTaken, left_on}
+use Rattle.std.proofs.Common.{Some, None, All}
 use Rattle.report_check.proofs.Walking.{step_back, step_on, stuck, end_on}
 use Rattle.report_check.proofs.Queues.{told_of, queue, all_empty, each_empty}
 use Rattle.report_check.proofs.walk_check.walk.is_walked.Goals as goal

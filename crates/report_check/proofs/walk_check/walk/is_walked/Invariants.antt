@@ -1,12 +1,4 @@
-use Rattle.std.proofs.Common.{◌≡◌, ◌≤◌, ◌+◌, ℕ, List, [], ◌++◌, length, map}
-use Rattle.dmx_calls.specs.declared.limits.TheConstants.{DEMUX_NODES}
-use Rattle.dmx_calls.specs.Calls.{told_entry}
-use Rattle.dmx_calls.specs.Log.{LogEntry}
-use Rattle.client_script.specs.Script.{Scripted}
-use Rattle.client_core.specs.Inside.Core.{Core, IsAfter}
-use Rattle.script_run.specs.IsRun.{replies}
-use Rattle.report_check.specs.Walk.{IsRest, CanRest, queues_in}
-use Rattle.report_check.specs.Inside.Steps.{left_on}
+use Rattle.report_check.proofs.Imports.{◌≡◌, ◌≤◌, ◌+◌, ℕ, List, [], ◌++◌, length, map, DEMUX_NODES, told_entry, LogEntry, Scripted, Core, IsAfter, replies, IsRest, CanRest, queues_in, left_on}
 use Rattle.report_check.proofs.walk_check.walk.is_walked.Given as goal
 
 -- After some calls the client can go on as it could at the beginning, and a walk from here is one from there.

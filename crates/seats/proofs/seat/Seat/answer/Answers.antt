@@ -1,7 +1,4 @@
-use Rattle.std.proofs.Common.{◌≡◌, ℕ, Bool, true, List, [], Option, Some, ap, sym, subst}
-use Rattle.std.specs.Prelude.{slice_get}
-use Rattle.seats.specs.Doing.{HasAnswered}
-use Rattle.seats.specs.Told.{data_read, call_at}
+use Rattle.seats.proofs.Imports.{◌≡◌, ℕ, Bool, true, List, [], Option, Some, ap, sym, subst, slice_get, HasAnswered, data_read, call_at}
 use Rattle.seats.proofs.Doing.{has_answered}
 use Rattle.seats.proofs.Going.{goes_trans}
 use Rattle.seats.proofs.seat.Seat.answer.Goals as goal

@@ -1,7 +1,4 @@
-use Rattle.std.proofs.Common.{rules, ◌≡◌, length, None, ap, sym, ◌∙◌}
-use Rattle.std.specs.Prelude.{option_map}
-use Rattle.dmx_calls.specs.Calls.{invocation_of}
-use Rattle.dmx_calls.specs.Log.{act_of}
+use Rattle.seats.proofs.Imports.{rules, ◌≡◌, length, None, ap, sym, ◌∙◌, option_map, invocation_of, act_of}
 use Rattle.dmx_calls.specs.declared.call.Call.{Call}
 use Rattle.seats.proofs.Doing.{does_one, does_two}
 use Rattle.seats.proofs.Going.{goes_trans}

@@ -1,11 +1,6 @@
-use Rattle.std.proofs.Common.{rules, sym, subst, ap, Vec, Global}
+use Rattle.seats.proofs.Imports.{rules, sym, subst, ap, Vec, Global, Caller, HasLeft, Made, Outcome, WasDone}
 use Rattle.dmx_calls.specs.declared.log.Entry.{Entry}
-use Rattle.adapter.specs.Callers.{Caller}
-use Rattle.seats.specs.Holding.{HasLeft}
-use Rattle.seats.specs.declared.made.Made.{Made}
 use Rattle.seats.proofs.Doing.{command_kept}
-use Rattle.dmx_calls.specs.declared.outcome.Outcome.{Outcome}
-use Rattle.dmx_calls.specs.declared.outcome.OutcomeKind.TheVariants.{Done as WasDone}
 use Rattle.seats.proofs.Going.{goes_trans}
 use Rattle.seats.proofs.Keeping.{keeps_so}
 use Rattle.seats.proofs.seat.Seat.command.Goals as goal

@@ -1,10 +1,6 @@
-use Rattle.std.proofs.Common.{arith, ◌≡◌, ap, sym, ◌∙◌, subst, refl}
-use Rattle.seats.specs.declared.serve_frames.ask.Ask.{Ask}
-use Rattle.seats.specs.declared.serve_frames.ask.Ask.TheVariants.{OpenDemux, Call, Leave, Refused}
-use Rattle.seats.specs.Doing.{KeepsBy}
-use Rattle.seats.specs.Spelled.{commands_done_by, target_of}
+use Rattle.seats.proofs.Imports.{arith, ◌≡◌, ap, sym, ◌∙◌, subst, refl, Ask, OpenDemux, Call, Leave, KeepsBy, commands_done_by, target_of, act_of}
+use Rattle.seats.specs.declared.serve_frames.ask.Ask.TheVariants.{Refused}
 use Rattle.seats.proofs.Keeping.{keeps_none, keeps_command, none_done}
-use Rattle.dmx_calls.specs.Log.{act_of}
 use Rattle.seats.proofs.Doing.{answered_open, answered_call, answered_leave, answered_refused, answered_wanting}
 use Rattle.seats.proofs.Going.{goes_self}
 use Rattle.seats.proofs.seat.Seat.done.Goals as goal

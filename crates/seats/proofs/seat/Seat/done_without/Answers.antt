@@ -1,7 +1,4 @@
-use Rattle.std.proofs.Common.{sym, subst, refl}
-use Rattle.seats.specs.declared.serve_frames.ask.Ask.{Ask}
-use Rattle.seats.specs.Doing.{KeepsBy}
-use Rattle.seats.specs.Spelled.{commands_done_by}
+use Rattle.seats.proofs.Imports.{sym, subst, refl, Ask, KeepsBy, commands_done_by}
 use Rattle.seats.proofs.Doing.{answered_leave, answered_untold, answered_wanting}
 use Rattle.seats.proofs.Going.{goes_self}
 use Rattle.seats.proofs.Keeping.{keeps_none, none_done}

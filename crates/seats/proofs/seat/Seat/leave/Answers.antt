@@ -1,11 +1,5 @@
-use Rattle.std.proofs.Common.{rules, arith, ◌≢◌, sym, subst, refl, ℕ, true, Some}
-use Rattle.std.specs.Prelude.{slice_get}
-use mathlib.Core.Logic.{dite}
-use native.Mathlib.Decide.{ℕ_discrete}
-use Rattle.seats.specs.Holding.{HasLeft}
+use Rattle.seats.proofs.Imports.{rules, arith, ◌≢◌, sym, subst, refl, ℕ, true, Some, slice_get, dite, ℕ_discrete, HasLeft, Leave, commands_done_by}
 use Rattle.seats.proofs.Doing.{closings_none, closings_more}
-use Rattle.seats.specs.declared.serve_frames.ask.Ask.TheVariants.{Leave}
-use Rattle.seats.specs.Spelled.{commands_done_by}
 use Rattle.seats.proofs.Closing.{closes_none, closes_more}
 use Rattle.seats.proofs.Keeping.{keeps_none, keeps_more}
 use Rattle.seats.proofs.Going.{goes_self, goes_trans}

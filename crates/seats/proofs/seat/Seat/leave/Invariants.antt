@@ -1,9 +1,4 @@
-use Rattle.std.proofs.Common.{◌≡◌, ◌≢◌, ◌≤◌, ◌<◌, ◌+◌, ◌*◌, ℕ, true, Some, length, vec_capacity}
-use Rattle.std.specs.Prelude.{slice_get}
-use Rattle.seats.specs.Answered.{AreClosings}
-use Rattle.seats.specs.Doing.{ClosesHeld, Does, KeepsClosed, MarksNoMore}
-use Rattle.seats.specs.Holding.{HasLeft}
-use Rattle.seats.specs.Seated.{IsFit, GoesOn}
+use Rattle.seats.proofs.Imports.{◌≡◌, ◌≢◌, ◌≤◌, ◌<◌, ◌+◌, ◌*◌, ℕ, true, Some, length, vec_capacity, slice_get, AreClosings, ClosesHeld, Does, KeepsClosed, MarksNoMore, HasLeft, IsFit, GoesOn}
 use Rattle.seats.proofs.seat.Seat.leave.Given as goal
 
 -- two calls for each node that was closed, and all of these are left

@@ -1,7 +1,4 @@
-use Rattle.std.proofs.Common.{rules, ◌≡◌, Bool, get_or, false, true, Some, refl, ap, sym, ◌∙◌}
-use Rattle.std.proofs.lemmas.Option.{slice_get-get_or, get_or_from_slice_get}
-use Rattle.seats.specs.declared.serve_frames.ask.Ask.TheVariants.{Leave}
-use Rattle.seats.specs.Spelled.{commands_done_by}
+use Rattle.seats.proofs.Imports.{rules, ◌≡◌, Bool, get_or, false, true, Some, refl, ap, sym, ◌∙◌, slice_get-get_or, get_or_from_slice_get, Leave, commands_done_by}
 use Rattle.seats.proofs.Closing.{closes_none, closes_one}
 use Rattle.seats.proofs.Keeping.{keeps_none, keeps_closed}
 use Rattle.seats.proofs.Doing.{closing_none, closing_one}

@@ -1,14 +1,5 @@
-use Rattle.std.proofs.Common.{rules, ◌≡◌, ◌≤◌, ◌++◌, ◌∷◌, [], ◌+◌, length, map, refl, sym, ◌∙◌, subst, arith, false}
-use Rattle.std.specs.Prelude.{slice_index_or}
-use Rattle.std.proofs.lemmas.List.Elements.{All-push}
-use Rattle.std.proofs.lemmas.Option.{slice_get-get_or}
-use Rattle.dmx_calls.specs.Calls.{invocation_of, response_of, told_entry}
+use Rattle.seats.proofs.Imports.{rules, ◌≡◌, ◌≤◌, ◌++◌, ◌∷◌, [], ◌+◌, length, map, refl, sym, ◌∙◌, subst, arith, false, slice_index_or, All-push, slice_get-get_or, invocation_of, response_of, told_entry, LogEntry, DEMUX_NODES, Made, PassesNone, told_made, log_of, AreOnNodes}
 use Rattle.dmx_calls.specs.Entries.{told}
-use Rattle.dmx_calls.specs.Log.{LogEntry}
-use Rattle.dmx_calls.specs.declared.limits.TheConstants.{DEMUX_NODES}
-use Rattle.seats.specs.declared.made.Made.{Made}
-use Rattle.seats.specs.Calls.{PassesNone}
-use Rattle.seats.specs.Seated.{told_made, log_of, AreOnNodes}
 use Rattle.seats.proofs.Going.{log_long, log_one}
 use Rattle.seats.proofs.Holding.{left_call, closed_call, knows_made}
 use Rattle.seats.proofs.Marking.{marked_one, marks_no_more, close_unmarks}

@@ -1,11 +1,6 @@
-use Rattle.std.proofs.Common.{rules, arith, ◌≡◌, true, refl, ap, sym, ◌∙◌, Vec, Global}
-use Rattle.dmx_calls.specs.Calls.{response_of}
+use Rattle.seats.proofs.Imports.{rules, arith, ◌≡◌, true, refl, ap, sym, ◌∙◌, Vec, Global, response_of, Made, is_busy, Outcome, WasDone, WasEmfile}
 use Rattle.dmx_calls.specs.declared.log.Entry.{Entry}
-use Rattle.seats.specs.declared.made.Made.{Made}
-use Rattle.seats.specs.Answered.{is_busy}
 use Rattle.seats.proofs.Doing.{tried_none, tried_more, opened, full}
-use Rattle.dmx_calls.specs.declared.outcome.Outcome.{Outcome}
-use Rattle.dmx_calls.specs.declared.outcome.OutcomeKind.TheVariants.{Done as WasDone, Emfile as WasEmfile}
 use Rattle.seats.proofs.Going.{goes_self, goes_trans}
 use Rattle.seats.proofs.Keeping.{keeps_opened, keeps_so, grown_free, grown_full}
 use Rattle.seats.proofs.seat.Seat.open_demux.Goals as goal

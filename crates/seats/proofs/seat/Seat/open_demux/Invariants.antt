@@ -1,6 +1,4 @@
-use Rattle.std.proofs.Common.{◌≡◌, ◌≤◌, ◌+◌, ◌*◌, length, vec_capacity}
-use Rattle.seats.specs.Doing.{Does}
-use Rattle.seats.specs.Seated.{IsFit, GoesOn}
+use Rattle.seats.proofs.Imports.{◌≡◌, ◌≤◌, ◌+◌, ◌*◌, length, vec_capacity, Does, IsFit, GoesOn}
 use Rattle.seats.proofs.Doing.{HaveTried}
 use Rattle.seats.proofs.seat.Seat.open_demux.Given as goal
 

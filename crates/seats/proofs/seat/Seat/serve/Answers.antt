@@ -1,5 +1,4 @@
-use Rattle.std.proofs.Common.{[]}
-use Rattle.seats.specs.Seated.{log_of}
+use Rattle.seats.proofs.Imports.{[], log_of}
 use Rattle.seats.proofs.Going.{goes_self, goes_trans}
 use Rattle.seats.proofs.Turning.{told_none, told_more, answered_all}
 use Rattle.seats.proofs.seat.Seat.serve.Goals as goal

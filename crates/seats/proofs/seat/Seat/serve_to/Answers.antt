@@ -1,9 +1,4 @@
-use Rattle.std.proofs.Common.{arith, ◌≡◌, Bool, true, List, [], Some, sym, subst}
-use Rattle.std.specs.Prelude.{slice_get}
-use Rattle.adapter.specs.Callers.{Caller}
-use Rattle.seats.specs.Calls.{MakesCalls}
-use Rattle.seats.specs.Holding.{HasLeft}
-use Rattle.seats.specs.Turns.{HasAnsweredAll}
+use Rattle.seats.proofs.Imports.{arith, ◌≡◌, Bool, true, List, [], Some, sym, subst, slice_get, Caller, MakesCalls, HasLeft, HasAnsweredAll}
 use Rattle.seats.proofs.Hands.{all_calls, few_calls, hands_none, hands_turned, hands_over, hands_kept, answered_to, made_to, nodes_to, given_to}
 use Rattle.seats.proofs.seat.Seat.serve_to.Goals as goal
 

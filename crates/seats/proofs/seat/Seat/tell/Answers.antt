@@ -1,6 +1,4 @@
-use Rattle.std.proofs.Common.{rules, ◌≡◌, length}
-use Rattle.seats.specs.Tells.{head_of}
-use Rattle.seats.specs.Told.{data_read, call_at}
+use Rattle.seats.proofs.Imports.{rules, ◌≡◌, length, head_of, data_read, call_at}
 use Rattle.seats.proofs.Wiring.{told_whole, told_off, told_none}
 use Rattle.seats.proofs.seat.Seat.tell.Goals as goal
 

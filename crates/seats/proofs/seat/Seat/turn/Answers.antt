@@ -1,7 +1,4 @@
-use Rattle.std.proofs.Common.{rules, ◌≡◌, length}
-use Rattle.seats.specs.declared.serve_frames.numbers.TheConstants.{REQUEST_LEN}
-use Rattle.seats.specs.Seated.{log_of}
-use Rattle.seats.specs.Told.{data_read, call_at}
+use Rattle.seats.proofs.Imports.{rules, ◌≡◌, length, REQUEST_LEN, log_of, data_read, call_at}
 use Rattle.seats.proofs.Going.{goes_self}
 use Rattle.seats.proofs.Turning.{turned_none, turned_one}
 use Rattle.seats.proofs.Wiring.{by_ok, by_err, runs_out}

@@ -1,9 +1,5 @@
 -- What is read of the bytes that were written, field by field.
-use Rattle.std.proofs.Common.{◌≡◌, ◌<◌, ◌^◌, ℕ, List, [], ap, ◌∙◌}
-use Rattle.byteorder.specs.Numbers.{little_number-reads_back}
-use Rattle.dmx_abi.specs.Layout.{field}
-use Rattle.seats.specs.declared.serve_frames.tell.Tell.{Tell}
-use Rattle.seats.specs.Tells.{tell, head_of}
+use Rattle.seats.proofs.Imports.{◌≡◌, ◌<◌, ◌^◌, ℕ, List, [], ap, ◌∙◌, little_number-reads_back, field, Tell, tell, head_of}
 use Rattle.seats.proofs.serve_frames.laws.written_and_read.Goals as goal
 
 module _ (t : Tell) (len : ℕ) (f : (t.code < 2 ^ 32) × (t.value < 2 ^ 32) × (t.place < 2 ^ 64) × (len < 2 ^ 32)) where

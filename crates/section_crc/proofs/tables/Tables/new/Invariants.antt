@@ -1,5 +1,4 @@
-use Rattle.std.proofs.Common.{◌≡◌, ℕ, ◌<◌, [], length, slice_index_or}
-use Rattle.section_crc.specs.Inside.Tables.{IsRow}
+use Rattle.section_crc.proofs.Imports.{◌≡◌, ℕ, ◌<◌, [], length, slice_index_or, IsRow}
 use Rattle.section_crc.proofs.tables.Tables.new.Given as goal
 
 abbrev pub invariant-rows : goal.invariant-rows

@@ -1,6 +1,4 @@
-use Rattle.std.proofs.Common.{◌≤◌, length, arith, length-drop}
-use Rattle.ts_packet.specs.Clean.{carried}
-use Rattle.section_parse.specs.Inside.Held.{unread, bytes_of}
+use Rattle.section_parse.proofs.Imports.{◌≤◌, length, arith, length-drop, carried, unread, bytes_of}
 use Rattle.section_parse.proofs.Reading.{open-left}
 use Rattle.section_parse.proofs.Assembled.{pushes-clean, pushes-none}
 use Rattle.section_parse.proofs.assembler.Assembler.push.Goals as goal

@@ -1,9 +1,4 @@
-use Rattle.std.proofs.Common.{◌≡◌, true, false, List, ℕ, sym, ◌∙◌}
-use Rattle.std.proofs.Common.{arith}
-use Rattle.ts_packet.specs.Fields.{unit_start, has_payload}
-use Rattle.ts_packet.specs.Clean.{is_usable}
-use Rattle.section_parse.specs.Inside.Keeping.{Assembly, left_of_open, repeats_last, joins_last}
-use Rattle.section_parse.specs.Inside.Held.{unread, bytes_of}
+use Rattle.section_parse.proofs.Imports.{◌≡◌, true, false, List, ℕ, sym, ◌∙◌, arith, unit_start, has_payload, is_usable, Assembly, left_of_open, repeats_last, joins_last, unread, bytes_of}
 use Rattle.section_parse.proofs.Reading.{drained-open, left-settled}
 use Rattle.section_parse.proofs.Steps.{kept-repeat, kept-break, kept-unit, kept-more}
 use Rattle.section_parse.proofs.Giving.{ready-open}

@@ -1,7 +1,4 @@
-use Rattle.std.proofs.Common.{◌≡◌, ◌+◌, ◌≤◌, ◌++◌, length, take, false, arith, length-append}
-use Rattle.std.proofs.lemmas.List.{length-take, take_all}
-use Rattle.section_parse.specs.Sections.{has_section}
-use Rattle.section_parse.specs.Inside.Held.{between}
+use Rattle.section_parse.proofs.Imports.{◌≡◌, ◌+◌, ◌≤◌, ◌++◌, length, take, false, arith, length-append, length-take, take_all, has_section, between}
 use Rattle.section_parse.proofs.Pieces.{Filled, Announced, advance-packet, advance-header, advance-short, advance-whole, header-none, between-length}
 use Rattle.section_parse.proofs.segment.Segment.advance.Goals as goal
 

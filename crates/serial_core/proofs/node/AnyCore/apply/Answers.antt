@@ -1,8 +1,4 @@
-use Rattle.std.proofs.Common.{◌≡◌, sym, subst}
-use Rattle.dmx_calls.specs.Calls.{invocation_of, response_of}
-use Rattle.dmx_calls.specs.Legal.{May}
-use Rattle.dmx_calls.proofs.Numbered.{demux_rules, dvr_rules}
-use Rattle.dmx_calls.specs.Rules.{Rules, dvr, rules_at}
+use Rattle.serial_core.proofs.Imports.{◌≡◌, sym, subst, invocation_of, response_of, May, demux_rules, dvr_rules, Rules, dvr, rules_at}
 use Rattle.serial_core.proofs.node.AnyCore.apply.Goals as goal
 
 pub returns-in-Demux-clause-stands : goal.returns-in-Demux-clause-stands

@@ -1,10 +1,4 @@
-use Rattle.std.proofs.Common.{◌≡◌, ◌+◌, ◌-◌, ◌<◌, ◌≤◌, ◌^◌, refl, sym, ap, subst, ◌∙◌, [], ◌∷◌, ◌++◌, length, vec_len, arith}
-use Rattle.dmx_calls.specs.declared.limits.TheConstants.{DEMUX_NODES}
-use Rattle.client_core.specs.Commands.{call_of}
-use Rattle.client_core.specs.Inside.Core.{IsAfter}
-use Rattle.serial_core.specs.Nodes.{uncalled, answer_by, answered}
-use Rattle.serial_core.specs.SerialRun.{node_at}
-use Rattle.serial_core.specs.Inside.Standing.{IsSeat, acts_on, entries_in}
+use Rattle.serial_core.proofs.Imports.{◌≡◌, ◌+◌, ◌-◌, ◌<◌, ◌≤◌, ◌^◌, refl, sym, ap, subst, ◌∙◌, [], ◌∷◌, ◌++◌, length, vec_len, arith, DEMUX_NODES, call_of, IsAfter, uncalled, answer_by, answered, node_at, IsSeat, acts_on, entries_in}
 use Rattle.serial_core.proofs.Pairs.{pair_at, set_pair}
 use Rattle.serial_core.proofs.Going.{nodes_called, under_more, under_set, seats_count, seat_under}
 use Rattle.serial_core.proofs.nodes.Nodes.call.Goals as goal

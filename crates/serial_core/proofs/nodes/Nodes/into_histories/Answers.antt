@@ -1,6 +1,4 @@
-use Rattle.std.proofs.Common.{◌≡◌, ◌+◌, ◌∙◌, sym, ap, length, arith}
-use Rattle.std.proofs.lemmas.List.{length-map}
-use Rattle.dmx_calls.specs.declared.limits.TheConstants.{DEMUX_NODES}
+use Rattle.serial_core.proofs.Imports.{◌≡◌, ◌+◌, ◌∙◌, sym, ap, length, arith, length-map, DEMUX_NODES}
 use Rattle.serial_core.proofs.Going.{seats_count}
 use Rattle.serial_core.proofs.nodes.Nodes.into_histories.Goals as goal
 

@@ -1,10 +1,5 @@
-use Rattle.std.proofs.Common.{◌^◌, ◌≡◌, ap, subst, ◌∙◌, ℕ, List, [], ◌∷◌, ◌++◌, arith}
-use Rattle.dmx_calls.specs.Response.{Response}
-use Rattle.client_script.specs.Script.{Scripted}
-use Rattle.client_core.specs.Inside.Core.{IsAfter}
-use Rattle.serial_core.specs.SerialRun.{Run, called, replies_of, reply_to, after_waiting}
+use Rattle.serial_core.proofs.Imports.{◌^◌, ◌≡◌, ap, subst, ◌∙◌, ℕ, List, [], ◌∷◌, ◌++◌, arith, Response, Scripted, IsAfter, Run, called, replies_of, reply_to, after_waiting, one_if}
 use Rattle.serial_core.proofs.Moving.{moves_then}
-use Rattle.serial_core.specs.Inside.Moving.{one_if}
 use Rattle.serial_core.proofs.Commanding.{moves_called, one_if_small}
 use Rattle.serial_core.proofs.runner.Runner.advance.Goals as goal
 

@@ -1,9 +1,4 @@
-use Rattle.std.proofs.Common.{◌^◌, ◌≡◌, refl, sym, subst, ◌∙◌, ◌+◌, [], ◌∷◌, ◌++◌, length, arith}
-use Rattle.client_script.specs.Script.{Scripted}
-use Rattle.client_core.specs.Deeds.{Batches}
-use Rattle.client_core.specs.Inside.Core.{IsAfter}
-use Rattle.serial_core.specs.SerialRun.{Run, called, replies_of, reply_to, after_waiting}
-use Rattle.serial_core.specs.Inside.Moving.{ComesBy}
+use Rattle.serial_core.proofs.Imports.{◌^◌, ◌≡◌, refl, sym, subst, ◌∙◌, ◌+◌, [], ◌∷◌, ◌++◌, length, arith, Scripted, Batches, IsAfter, Run, called, replies_of, reply_to, after_waiting, ComesBy}
 use Rattle.serial_core.proofs.Moving.{drawn_then, moves_none, moves_then, moves_by, ready_on}
 use Rattle.serial_core.proofs.Commanding.{comes_none, comes_on, none_by}
 use Rattle.serial_core.proofs.runner.Runner.command.Goals as goal

@@ -1,5 +1,4 @@
-use Rattle.std.proofs.Common.{◌^◌, ◌≡◌, ℕ, ◌+◌, ◌-◌, ◌≤◌}
-use Rattle.serial_core.specs.Inside.Moving.{Moves, MadeAtMost, ComesBy}
+use Rattle.serial_core.proofs.Imports.{◌^◌, ◌≡◌, ℕ, ◌+◌, ◌-◌, ◌≤◌, Moves, MadeAtMost, ComesBy}
 use Rattle.serial_core.proofs.runner.Runner.command.Given as goal
 
 abbrev pub invariant-calls : goal.invariant-calls

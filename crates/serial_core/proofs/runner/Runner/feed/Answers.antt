@@ -1,5 +1,4 @@
-use Rattle.std.proofs.Common.{◌^◌, ◌≡◌, refl, sym, ap, ◌∙◌, ◌-◌, ◌<◌, min, length, arith}
-use Rattle.serial_core.specs.SerialRun.{Run, fed, turned}
+use Rattle.serial_core.proofs.Imports.{◌^◌, ◌≡◌, refl, sym, ap, ◌∙◌, ◌-◌, ◌<◌, min, length, arith, Run, fed, turned}
 use Rattle.serial_core.proofs.Moving.{drawn_then, moves_none, moves_then, moves_by, ready_on}
 use Rattle.serial_core.proofs.Batches.{fed_none, fed_end, fed_step}
 use Rattle.serial_core.proofs.runner.Runner.feed.Goals as goal

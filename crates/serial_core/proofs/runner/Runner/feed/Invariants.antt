@@ -1,6 +1,4 @@
-use Rattle.std.proofs.Common.{◌≡◌, ℕ}
-use Rattle.serial_core.specs.SerialRun.{fed}
-use Rattle.serial_core.specs.Inside.Moving.{Moves, MadeAtMost}
+use Rattle.serial_core.proofs.Imports.{◌≡◌, ℕ, fed, Moves, MadeAtMost}
 use Rattle.serial_core.proofs.runner.Runner.feed.Given as goal
 
 abbrev pub invariant-turns : goal.invariant-turns

@@ -1,5 +1,4 @@
-use Rattle.std.proofs.Common.{◌^◌, ◌≡◌, refl, sym, ap, ◌∙◌, ◌<◌, min, length, arith}
-use Rattle.serial_core.specs.SerialRun.{Run, finished, turned}
+use Rattle.serial_core.proofs.Imports.{◌^◌, ◌≡◌, refl, sym, ap, ◌∙◌, ◌<◌, min, length, arith, Run, finished, turned}
 use Rattle.serial_core.proofs.Moving.{drawn_then, moves_none, moves_then, ready_on}
 use Rattle.serial_core.proofs.Batches.{finished_end, finished_step}
 use Rattle.serial_core.proofs.runner.Runner.finish.Goals as goal

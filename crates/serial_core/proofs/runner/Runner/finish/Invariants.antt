@@ -1,6 +1,4 @@
-use Rattle.std.proofs.Common.{◌^◌, ◌≡◌, ℕ, ◌-◌}
-use Rattle.serial_core.specs.SerialRun.{finished}
-use Rattle.serial_core.specs.Inside.Moving.{Moves, MadeAtMost}
+use Rattle.serial_core.proofs.Imports.{◌^◌, ◌≡◌, ℕ, ◌-◌, finished, Moves, MadeAtMost}
 use Rattle.serial_core.proofs.runner.Runner.finish.Given as goal
 
 abbrev pub invariant-turns : goal.invariant-turns

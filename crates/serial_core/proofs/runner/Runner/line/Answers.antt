@@ -1,10 +1,4 @@
-use Rattle.std.proofs.Common.{◌≡◌, sym, ap, ◌∙◌, ◌+◌, ◌-◌, ◌<◌, ◌≤◌, length, get_or, Err, arith}
-use Rattle.client_core.specs.declared.stop.Stop.TheVariants.{TooLong}
-use Rattle.std.proofs.lemmas.List.Sums.{sum_by-set, get_or-le-sum_by}
-use Rattle.client_core.specs.Inside.Core.{Core}
-use Rattle.serial_core.specs.SerialRun.{Run, fed}
-use Rattle.serial_core.specs.Inside.Lines.{calls_by}
-use Rattle.serial_core.specs.Inside.Moving.{IsDoneBy, ComesBy}
+use Rattle.serial_core.proofs.Imports.{◌≡◌, sym, ap, ◌∙◌, ◌+◌, ◌-◌, ◌<◌, ◌≤◌, length, get_or, Err, arith, TooLong, sum_by-set, get_or-le-sum_by, Core, Run, fed, calls_by, IsDoneBy, ComesBy}
 use Rattle.serial_core.proofs.Moving.{moves_by, err_and}
 use Rattle.serial_core.proofs.Lining.{feed_done, tick_done, moves_ticked, command_done, overruns, calls_few, calls_most}
 use Rattle.serial_core.proofs.runner.Runner.line.Goals as goal

@@ -1,9 +1,4 @@
-use Rattle.std.proofs.Common.{◌≡◌, refl, sym, ap, ◌∙◌, suc, ◌+◌, ◌<◌, ◌∷◌, length, drop, get_or, add-one, Err, arith}
-use Rattle.std.proofs.Math.Seq.{drop-cons}
-use Rattle.client_script.specs.declared.line.Line.TheVariants.{Feed}
-use Rattle.client_core.specs.declared.stop.Stop.TheVariants.{TooLong}
-use Rattle.serial_core.specs.SerialRun.{Run}
-use Rattle.serial_core.specs.Inside.Lines.{IsFrontBy, IsLineBy, OverrunsBy}
+use Rattle.serial_core.proofs.Imports.{◌≡◌, refl, sym, ap, ◌∙◌, suc, ◌+◌, ◌<◌, ◌∷◌, length, drop, get_or, add-one, Err, arith, drop-cons, Feed, TooLong, Run, IsFrontBy, IsLineBy, OverrunsBy}
 use Rattle.serial_core.proofs.Moving.{drawn_then, moves_none, moves_then, err_and, ready_on}
 use Rattle.serial_core.proofs.Lining.{front_more, front_none, front_overruns, calls_most}
 use Rattle.serial_core.proofs.runner.Runner.lines.Goals as goal

@@ -1,6 +1,4 @@
-use Rattle.std.proofs.Common.{◌≡◌, ◌*◌, ◌≤◌, ◌^◌, length}
-use Rattle.serial_core.specs.Inside.Moving.{Moves, MadeAtMost}
-use Rattle.serial_core.specs.Inside.Lines.{AreInBudget, IsFrontBy, calls_by}
+use Rattle.serial_core.proofs.Imports.{◌≡◌, ◌*◌, ◌≤◌, ◌^◌, length, Moves, MadeAtMost, AreInBudget, IsFrontBy, calls_by}
 use Rattle.serial_core.proofs.runner.Runner.lines.Given as goal
 
 abbrev pub invariant-lines : goal.invariant-lines

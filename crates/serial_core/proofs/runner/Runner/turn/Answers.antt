@@ -1,6 +1,4 @@
-use Rattle.std.proofs.Common.{◌≡◌, refl, sym, true, false, ap, ◌∙◌, [], length, arith}
-use Rattle.ts_batch.specs.Batch.{Packets}
-use Rattle.feed_pull.proofs.Drawing.{draws_none, none_given}
+use Rattle.serial_core.proofs.Imports.{◌≡◌, refl, sym, true, false, ap, ◌∙◌, [], length, arith, Packets, draws_none, none_given}
 use Rattle.serial_core.proofs.Turning.{turn_over, turn_passed}
 use Rattle.serial_core.proofs.runner.Runner.turn.Goals as goal
 

@@ -1,8 +1,4 @@
-use Rattle.std.proofs.Common.{◌≡◌, sym, ap, ◌∙◌, ℕ, min, length}
-use Rattle.std.specs.Prelude.{is_some}
-use Rattle.client_script.specs.Script.{Scripted}
-use Rattle.client_core.specs.Inside.Core.{IsAfter}
-use Rattle.serial_core.specs.SerialRun.{Run, replies_of, turned}
+use Rattle.serial_core.proofs.Imports.{◌≡◌, sym, ap, ◌∙◌, ℕ, min, length, is_some, Scripted, IsAfter, Run, replies_of, turned}
 use Rattle.serial_core.proofs.Moving.{moves_by, moves_none}
 use Rattle.serial_core.proofs.Commanding.{wait_turns, wait_none}
 use Rattle.serial_core.proofs.runner.Runner.wait.Goals as goal

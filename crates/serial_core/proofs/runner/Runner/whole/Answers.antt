@@ -1,6 +1,4 @@
-use Rattle.std.proofs.Common.{◌≡◌, length}
-use Rattle.serial_core.specs.SerialRun.{Run, finished}
-use Rattle.serial_core.specs.Inside.Lines.{IsFrontBy}
+use Rattle.serial_core.proofs.Imports.{◌≡◌, length, Run, finished, IsFrontBy}
 use Rattle.serial_core.proofs.Moving.{drawn_then, moves_then, ready_on}
 use Rattle.serial_core.proofs.Lining.{whole_by}
 use Rattle.serial_core.proofs.runner.Runner.whole.Goals as goal

@@ -1,7 +1,4 @@
-use Rattle.std.proofs.Common.{refl, ap, ◌∙◌, [], ◌∷◌, ◌++◌}
-use Rattle.dmx_calls.specs.Calls.{invocation_of}
-use Rattle.dmx_calls.specs.declared.log.Entry.{Entry}
-use Rattle.serial_core.specs.Nodes.{history_of}
+use Rattle.serial_core.proofs.Imports.{refl, ap, ◌∙◌, [], ◌∷◌, ◌++◌, invocation_of, Entry, history_of}
 use Rattle.serial_core.proofs.Seats.{entries_count, seat_called}
 use Rattle.serial_core.proofs.seat.Seat.call.Goals as goal
 

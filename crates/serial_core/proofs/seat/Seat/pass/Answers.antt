@@ -1,10 +1,5 @@
-use Rattle.std.proofs.Common.{refl, sym, subst, ◌∷◌}
-use Rattle.dmx_calls.specs.declared.params.Input.TheVariants.{Frontend}
+use Rattle.serial_core.proofs.Imports.{refl, sym, subst, ◌∷◌, Frontend, entry_of, rules_at, history_of, StandsAt}
 use Rattle.dmx_calls.specs.Invocation as asks
-use Rattle.dmx_calls.specs.History.{entry_of}
-use Rattle.dmx_calls.specs.Rules.{rules_at}
-use Rattle.serial_core.specs.Nodes.{history_of}
-use Rattle.serial_core.specs.Inside.Standing.{StandsAt}
 use Rattle.serial_core.proofs.Seats.{seat_fed, is_passed}
 use Rattle.serial_core.proofs.seat.Seat.pass.Goals as goal
 

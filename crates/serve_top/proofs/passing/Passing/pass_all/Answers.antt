@@ -1,8 +1,4 @@
-use Rattle.std.proofs.Common.{◌++◌, []}
-use Rattle.adapter.proofs.Everybody.{same_trans}
-use Rattle.feed_pull.proofs.Drawing.{draws_none, draws_then}
-use Rattle.feed_pull.proofs.Stopping.{still_counts}
-use Rattle.workers.proofs.Working.{same_self}
+use Rattle.serve_top.proofs.Imports.{◌++◌, [], same_trans, draws_none, draws_then, still_counts, same_self}
 use Rattle.serve_top.proofs.passing.Passing.pass_all.Goals as goal
 
 pub batches-init : goal.batches-init

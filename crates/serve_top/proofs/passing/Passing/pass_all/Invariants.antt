@@ -1,10 +1,4 @@
-use Rattle.std.proofs.Common.{◌-◌, ◌^◌, ℕ, List}
-use Rattle.emu_io.specs.Ends.{SourceEnd}
-use Rattle.adapter.specs.Callers.{IsSameCaller}
-use Rattle.adapter.specs.Nodes.{is_in}
-use Rattle.feed_pull.specs.Pulling.{Pulling}
-use Rattle.feed_pull.specs.Streams.{Draws}
-use Rattle.serve_top.specs.Inside.PassedOn.{IsFitPassing, HasPassedOn}
+use Rattle.serve_top.proofs.Imports.{◌-◌, ◌^◌, ℕ, List, SourceEnd, IsSameCaller, is_in, Pulling, Draws, IsFitPassing, HasPassedOn}
 use Rattle.serve_top.proofs.passing.Passing.pass_all.Given as goal
 
 abbrev pub invariant-batches : goal.invariant-batches

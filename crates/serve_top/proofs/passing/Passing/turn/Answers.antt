@@ -1,7 +1,4 @@
-use Rattle.std.proofs.Common.{rules, ◌≡◌, ◌<◌, ◌≤◌, ℕ, [], ◌∷◌, length, refl, subst}
-use Rattle.dmx_calls.specs.declared.histories.Fed.{Fed}
-use Rattle.feed_pull.specs.Pulling.{IsDone, given_by}
-use Rattle.adapter.specs.Nodes.{is_in}
+use Rattle.serve_top.proofs.Imports.{rules, ◌≡◌, ◌<◌, ◌≤◌, ℕ, [], ◌∷◌, length, refl, subst, Fed, IsDone, given_by, is_in}
 use Rattle.serve_top.proofs.PassedOn.{passed_none, passed_batch}
 use Rattle.serve_top.proofs.passing.Passing.turn.Goals as goal
 

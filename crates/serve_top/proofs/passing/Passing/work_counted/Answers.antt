@@ -1,7 +1,4 @@
-use Rattle.std.proofs.Common.{refl}
-use Rattle.adapter.specs.Nodes.{is_in}
-use Rattle.adapter.proofs.Everybody.{same_trans}
-use Rattle.workers.proofs.FeederWork.{on_ok}
+use Rattle.serve_top.proofs.Imports.{refl, is_in, same_trans, on_ok}
 use Rattle.serve_top.proofs.PassedOn.{passed_all}
 use Rattle.serve_top.proofs.passing.Passing.work_counted.Goals as goal
 

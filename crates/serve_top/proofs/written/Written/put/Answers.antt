@@ -1,8 +1,4 @@
-use Rattle.std.proofs.Common.{rules, ◌≡◌, ◌∙◌, ◌++◌, [], List, ℕ, ap, subst}
-use Rattle.std.specs.Io.KnownBytes.{Appends}
-use Rattle.dmx_calls.specs.Calls.{told_entry}
-use Rattle.workers.proofs.FeederWork.{on_ok}
-use Rattle.serve_top.specs.Lines.{call_line}
+use Rattle.serve_top.proofs.Imports.{rules, ◌≡◌, ◌∙◌, ◌++◌, [], List, ℕ, ap, subst, Appends, told_entry, on_ok, call_line}
 use Rattle.serve_top.proofs.written.Written.put.Goals as goal
 
 -- the line was made, and then it was written

@@ -1,7 +1,5 @@
-use Rattle.std.proofs.Common.{rules, ◌≡◌, ◌∙◌, ◌++◌, [], List, ℕ, ap, sym, subst, append-nil}
-use Rattle.std.specs.Io.KnownBytes.{Appends}
-use Rattle.workers.proofs.FeederWork.{on_ok}
-use Rattle.serve_top.specs.Lines.{fed_line}
+use Rattle.serve_top.proofs.Imports.{rules, ◌≡◌, ◌∙◌, ◌++◌, [], List, ℕ, ap, sym, subst, Appends, on_ok, fed_line}
+use Rattle.std.proofs.Common.{append-nil}
 use Rattle.serve_top.proofs.written.WrittenBatches.take.Goals as goal
 
 -- the line was made, and then it was written

@@ -1,9 +1,4 @@
-use Rattle.std.proofs.Common.{◌≡◌, List, [], ◌∷◌, map, refl, ap, sym, ◌∙◌, subst, arith, length-append}
-use Rattle.std.proofs.lemmas.Iterator.Consumers.{YieldsList-end}
-use Rattle.std.proofs.lemmas.Iterator.Adapters.{YieldsList-from_vec}
-use Rattle.dmx_calls.specs.declared.log.Entry.{Entry as ToldEntry}
-use Rattle.serve_top.specs.Lines.{HasWritten}
-use Rattle.serve_top.specs.Inside.Writing.{written_none}
+use Rattle.serve_top.proofs.Imports.{◌≡◌, List, [], ◌∷◌, map, refl, ap, sym, ◌∙◌, subst, arith, length-append, YieldsList-end, YieldsList-from_vec, ToldEntry, HasWritten, written_none}
 use Rattle.serve_top.proofs.Putting.{lines_from, lines_then}
 use Rattle.serve_top.proofs.written.WrittenJournal.take.Goals as goal
 

@@ -1,8 +1,4 @@
-use Rattle.std.proofs.Common.{◌≡◌, ◌+◌, length, map}
-use Rattle.std.specs.List.{flat_map}
-use Rattle.dmx_calls.specs.Calls.{told_entry}
-use Rattle.seats.specs.Numbered.{numbered}
-use Rattle.serve_top.specs.Lines.{call_line, HasWritten}
+use Rattle.serve_top.proofs.Imports.{◌≡◌, ◌+◌, length, map, flat_map, told_entry, numbered, call_line, HasWritten}
 use Rattle.serve_top.proofs.written.WrittenJournal.take.Given as goal
 
 -- the calls so far are written, each with its number

@@ -1,14 +1,4 @@
-use Rattle.std.proofs.Common.{◌≡◌, ◌^◌, ◌∙◌, ℕ, List, length, map, Some, Ok, Err, Result, IfOk, Vec, Global, ap, sym, subst}
-use Rattle.std.specs.Prelude.{slice_index_or, option_map, All}
-use Rattle.std.specs.Result.{result_ok}
-use Rattle.std.proofs.lemmas.List.Elements.{All-pop}
-use Rattle.std.proofs.lemmas.Option.{slice_get-map, slice_get-get_or}
-use Rattle.atomic_table.specs.Seated.{TableId}
-use Rattle.adapter.specs.Callers.{Caller, AreFreshCallers}
-use Rattle.adapter.proofs.Pairs.{caller_fits}
-use Rattle.seats.specs.declared.run.Desk.{Desk}
-use Rattle.seats.specs.Handed.{IsReadyToHand}
-use Rattle.seats.specs.Seated.{AreReady}
+use Rattle.tests_runs.proofs.Imports.{◌≡◌, ◌^◌, ◌∙◌, ℕ, List, length, map, Some, Ok, Err, Result, IfOk, Vec, Global, ap, sym, subst, slice_index_or, option_map, All, result_ok, All-pop, slice_get-map, slice_get-get_or, TableId, Caller, AreFreshCallers, caller_fits, Desk, IsReadyToHand, AreReady}
 use Rattle.tests_runs.proofs.tests.lines.one_seat.Goals as goal
 
 -- each of the desks has a ready seat that has called nothing

@@ -1,9 +1,4 @@
-use Rattle.std.proofs.Common.{◌≡◌, ◌∙◌, get_or, take, true, sym, ap}
-use Rattle.std.proofs.lemmas.List.{take_all}
-use Rattle.std.proofs.lemmas.List.Elements.{All-more}
-use Rattle.ts_packet.specs.Fields.{pid_of}
-use Rattle.pid_set.specs.declared.set.TheConstants.{ALL_PACKETS}
-use Rattle.ts_batch.specs.Inside.IsIndex.{has_run}
+use Rattle.ts_batch.proofs.Imports.{◌≡◌, ◌∙◌, get_or, take, true, sym, ap, take_all, All-more, pid_of, ALL_PACKETS, has_run}
 use Rattle.ts_batch.proofs.Places.{listed}
 use Rattle.ts_batch.proofs.index.Index.of.Goals.{then-not-has+in_ok-list-2, else-not-has}
 use Rattle.ts_batch.proofs.index.Index.of.Goals as goal

@@ -1,8 +1,4 @@
-use Rattle.std.proofs.Common.{◌≡◌, take, true}
-use Rattle.std.specs.Prelude.{All}
-use Rattle.ts_packet.specs.Fields.{pid_of}
-use Rattle.pid_set.specs.declared.set.TheConstants.{ALL_PACKETS}
-use Rattle.ts_batch.specs.Inside.IsIndex.{has_run, IsRun}
+use Rattle.ts_batch.proofs.Imports.{◌≡◌, take, true, All, pid_of, ALL_PACKETS, has_run, IsRun}
 use Rattle.ts_batch.proofs.index.Index.of.Given as goal
 
 abbrev pub invariant-packets : goal.invariant-packets

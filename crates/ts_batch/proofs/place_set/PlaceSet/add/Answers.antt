@@ -1,9 +1,4 @@
-use Rattle.std.proofs.Common.{◌≡◌, ◌∙◌, ◌<◌, ◌||◌, nat_eq, length, get_or, sym, ap, arith, zero-add}
-use Rattle.std.specs.Prelude.{unwrap_or}
-use Rattle.std.specs.List.{list_any}
-use Rattle.std.proofs.lemmas.List.{take_all}
-use Rattle.std.proofs.lemmas.Option.{slice_get_within, unwrap_or-slice_get}
-use Rattle.ts_batch.specs.Places.{names, places_of, is_in}
+use Rattle.ts_batch.proofs.Imports.{◌≡◌, ◌∙◌, ◌<◌, ◌||◌, nat_eq, length, get_or, sym, ap, arith, zero-add, unwrap_or, list_any, take_all, slice_get_within, unwrap_or-slice_get, names, places_of, is_in}
 use Rattle.ts_batch.proofs.Members.{places-below, member}
 use Rattle.ts_batch.proofs.place_set.PlaceSet.add.Goals as goal
 

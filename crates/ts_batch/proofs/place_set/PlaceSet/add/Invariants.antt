@@ -1,6 +1,4 @@
-use Rattle.std.proofs.Common.{◌≡◌, ℕ, ◌<◌, ◌||◌, false, nat_eq, take, length}
-use Rattle.std.specs.List.{list_any}
-use Rattle.ts_batch.specs.Places.{is_in}
+use Rattle.ts_batch.proofs.Imports.{◌≡◌, ℕ, ◌<◌, ◌||◌, false, nat_eq, take, length, list_any, is_in}
 use Rattle.ts_batch.proofs.place_set.PlaceSet.add.Given as goal
 
 -- the marks are those before, and those of the places so far

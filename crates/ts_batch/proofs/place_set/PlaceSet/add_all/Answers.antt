@@ -1,7 +1,4 @@
-use Rattle.std.proofs.Common.{◌∙◌, ◌||◌, ap, arith}
-use Rattle.std.specs.List.{list_any}
-use Rattle.std.proofs.lemmas.List.{take_all}
-use Rattle.ts_batch.specs.Places.{names, is_in}
+use Rattle.ts_batch.proofs.Imports.{◌∙◌, ◌||◌, ap, arith, list_any, take_all, names, is_in}
 use Rattle.ts_batch.proofs.Named.{named-by}
 use Rattle.ts_batch.proofs.place_set.PlaceSet.add_all.Goals as goal
 

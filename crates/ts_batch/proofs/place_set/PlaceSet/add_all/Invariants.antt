@@ -1,7 +1,4 @@
-use Rattle.std.proofs.Common.{◌≡◌, ◌||◌, ℕ, List, take}
-use Rattle.std.specs.Prelude.{slice_get, Some}
-use Rattle.std.specs.List.{list_any}
-use Rattle.ts_batch.specs.Places.{names, is_in}
+use Rattle.ts_batch.proofs.Imports.{◌≡◌, ◌||◌, ℕ, List, take, slice_get, Some, list_any, names, is_in}
 use Rattle.ts_batch.proofs.place_set.PlaceSet.add_all.Given as goal
 
 -- the places of the PIDs so far are there

@@ -1,6 +1,4 @@
-use Rattle.std.proofs.Common.{arith, ◌≡◌, ℕ, ◌+◌, List, [], ◌∷◌, ◌++◌, length, take, get_or, refl, sym, ap, ◌∙◌}
-use Rattle.std.proofs.lemmas.List.{drop_all, drop_at, take-take, length-take-le, get_or-take}
-use Rattle.ts_packet.specs.Cutting.{Cutting, IsRest}
+use Rattle.ts_packet.proofs.Imports.{arith, ◌≡◌, ℕ, ◌+◌, List, [], ◌∷◌, ◌++◌, length, take, get_or, refl, sym, ap, ◌∙◌, drop_all, drop_at, take-take, length-take-le, get_or-take, Cutting, IsRest}
 use Rattle.ts_packet.proofs.CutLemmas.{Cuts-hold, Cuts-whole, IsRest-behind, IsStretch, IsStretch-behind}
 use Rattle.ts_packet.proofs.cutter.Cutter.fill.Goals as goal
 

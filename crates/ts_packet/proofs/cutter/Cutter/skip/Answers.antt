@@ -1,6 +1,4 @@
-use Rattle.std.proofs.Common.{◌≡◌, [], take, ap, ◌∙◌}
-use Rattle.std.proofs.lemmas.List.{length-take-le, get_or-take}
-use Rattle.ts_packet.specs.Cutting.{Cutting}
+use Rattle.ts_packet.proofs.Imports.{◌≡◌, [], take, ap, ◌∙◌, length-take-le, get_or-take, Cutting}
 use Rattle.ts_packet.proofs.CutLemmas.{Cuts-skips}
 use Rattle.ts_packet.proofs.cutter.Cutter.skip.Goals as goal
 

@@ -1,5 +1,4 @@
-use Rattle.std.proofs.Common.{arith, ◌≡◌, [], take, ap, ◌∙◌}
-use Rattle.ts_packet.specs.Cutting.{Cutting}
+use Rattle.ts_packet.proofs.Imports.{arith, ◌≡◌, [], take, ap, ◌∙◌, Cutting}
 use Rattle.ts_packet.proofs.CutLemmas.{at_least, Cuts-packet}
 use Rattle.ts_packet.proofs.cutter.Cutter.take_packet.Goals as goal
 

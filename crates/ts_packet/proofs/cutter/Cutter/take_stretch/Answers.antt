@@ -1,7 +1,4 @@
-use Rattle.std.proofs.Common.{arith, ◌≡◌, ◌<◌, ◌≤◌, [], length, take, get_or, refl, sym, ap, ◌∙◌}
-use Rattle.std.proofs.lemmas.List.{length-take-le, get_or-take}
-use Rattle.ts_packet.specs.Cut.{in_bytes}
-use Rattle.ts_packet.specs.Cutting.{Cutting, IsRest}
+use Rattle.ts_packet.proofs.Imports.{arith, ◌≡◌, ◌<◌, ◌≤◌, [], length, take, get_or, refl, sym, ap, ◌∙◌, length-take-le, get_or-take, in_bytes, Cutting, IsRest}
 use Rattle.ts_packet.proofs.CutLemmas.{none-in-rest, none-in-skipped}
 use Rattle.ts_packet.proofs.cutter.Cutter.take_stretch.Goals as goal
 use Rattle.ts_packet.proofs.cutter.Cutter.take_stretch.Goals.{then-self-eq0+else-piece-ne-SYNC_BYTE+in_default, else-self-eq0}

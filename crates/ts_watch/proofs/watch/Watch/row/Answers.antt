@@ -1,5 +1,4 @@
-use Rattle.std.proofs.Common.{◌≡◌, ◌∙◌, sym, Some, None, get_or, arith}
-use Rattle.std.proofs.lemmas.List.{get_or_default}
+use Rattle.ts_watch.proofs.Imports.{◌≡◌, ◌∙◌, sym, Some, None, get_or, arith, get_or_default}
 use Rattle.ts_watch.proofs.watch.Watch.row.Goals as goal
 
 pub index-requires-in-Some : goal.index-requires-in-Some

@@ -1,5 +1,4 @@
-use Rattle.std.proofs.Common.{◌<◌, sym, ◌∙◌}
-use Rattle.ts_packet.specs.Counts.{counts}
+use Rattle.ts_watch.proofs.Imports.{◌<◌, sym, ◌∙◌, counts}
 use Rattle.ts_watch.proofs.HeadLemmas.{rows-none, rows-more, rows-same}
 use Rattle.ts_watch.proofs.watch.Watch.rows.Goals.{then-row-gt0+in_ok-push, else-row-gt0}
 use Rattle.ts_watch.proofs.watch.Watch.rows.Goals as goal

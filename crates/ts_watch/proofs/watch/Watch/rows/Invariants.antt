@@ -1,6 +1,4 @@
-use Rattle.std.proofs.Common.{◌≡◌, ℕ, List}
-use Rattle.ts_watch.specs.Watching.{Watched}
-use Rattle.ts_watch.specs.Head.{rows_below}
+use Rattle.ts_watch.proofs.Imports.{◌≡◌, ℕ, List, Watched, rows_below}
 use Rattle.ts_watch.proofs.watch.Watch.rows.Given as goal
 
 abbrev pub invariant-pids : goal.invariant-pids

@@ -1,8 +1,4 @@
-use Rattle.std.proofs.Common.{◌≡◌, ◌+◌, ◌∙◌, Some, None, get_or, arith, sym, ap}
-use Rattle.std.proofs.lemmas.List.{get_or_default}
-use Rattle.ts_packet.specs.Fields.{pid_of}
-use Rattle.ts_watch.specs.declared.seen.Seen.{Seen}
-use Rattle.ts_watch.specs.Watching.{Watching, kept, after, nothing}
+use Rattle.ts_watch.proofs.Imports.{◌≡◌, ◌+◌, ◌∙◌, Some, None, get_or, arith, sym, ap, get_or_default, pid_of, Seen, Watching, kept, after, nothing}
 use Rattle.ts_watch.proofs.Places.{taken-in, shown, kept-placed, kept-taken, kept-others}
 use Rattle.ts_watch.proofs.watch.Watch.watch.Goals as goal
 

@@ -1,5 +1,4 @@
-use Rattle.std.proofs.Common.{arith}
-use Rattle.adapter.specs.Nodes.{IsLegalAt}
+use Rattle.workers.proofs.Imports.{arith, IsLegalAt}
 use Rattle.workers.proofs.Logging.{seen_there}
 use Rattle.workers.proofs.Working.{looked_none, looked_on}
 use Rattle.workers.proofs.client_worker.ClientWorker.look_past.Goals as goal

@@ -1,17 +1,6 @@
-use Rattle.std.proofs.Common.{rules, arith, ◌+◌, ◌≤◌, ◌≡◌, [], ◌∷◌, ◌++◌, length, subst, sym, ap, ◌∙◌, refl}
-use Rattle.std.proofs.lemmas.List.{map-append, length-map, length-append}
-use Rattle.std.proofs.lemmas.List.Elements.{All-append, All-cons, All-nil}
-use Rattle.dmx_calls.specs.declared.limits.TheConstants.{DEMUX_NODES}
-use Rattle.dmx_calls.specs.Calls.{told_entry, response_of}
+use Rattle.workers.proofs.Imports.{rules, arith, ◌+◌, ◌≤◌, ◌≡◌, [], ◌∷◌, ◌++◌, length, subst, sym, ap, ◌∙◌, refl, map-append, length-map, All-append, All-cons, All-nil, DEMUX_NODES, told_entry, response_of, LogEntry, act_of, ToldEntry, call_at, IsAfter, replies, IsGiven, IsLegalAt, log_of}
+use Rattle.std.proofs.lemmas.List.{length-append}
 use Rattle.dmx_calls.specs.Entries.{told}
-use Rattle.dmx_calls.specs.Log.{LogEntry, act_of}
-use Rattle.dmx_calls.specs.declared.log.Entry.{Entry as ToldEntry}
-use Rattle.client_core.specs.Commands.{call_of as call_at}
-use Rattle.client_core.specs.Inside.Core.{IsAfter}
-use Rattle.script_run.specs.IsRun.{replies}
-use Rattle.script_run.specs.WholeRun.{IsGiven}
-use Rattle.adapter.specs.Nodes.{IsLegalAt}
-use Rattle.workers.specs.Inside.Working.{log_of}
 use Rattle.workers.proofs.Logging.{called_more, past}
 use Rattle.workers.proofs.Working.{brings_played, is_event, logs_one}
 use Rattle.workers.proofs.client_worker.ClientWorker.make.Goals as goal
@@ -23,14 +12,13 @@ returns-clause-works g c may script client given turn works =
     let e = c.call-place.ensures in let place = c.call-place.result.0 in let answer = c.call-place.result.1 in
     let call = c.in_ok-call.call in
     let entry : ToldEntry = record { place = place; step = event.step; node = node; who = w.who; act = c.in_ok-act.act; reply = c.in_ok-kept.kept } in
-    let response : response_of c.in_ok-kept.kept ≡ response_of answer.reply = search rules in
+    let response : response_of c.in_ok-kept.kept ≡ response_of answer.reply = c.in_ok-kept.ensures.same in
     let items : c.push_reserved.new.self.items ≡ w.log.items ++ entry ∷ [] = search rules in
     let logs = logs_one w.log.items entry c.push_reserved.new.self.items items in
     let told_act_is = c.in_ok-act.ensures ∙ c.of-asked.ensures in
     let after : IsAfter client script (replies (log_of w) ++ response_of c.in_ok-kept.kept ∷ []) c.take.new.self =
     subst (λ r. IsAfter client script (replies (log_of w) ++ response_of r ∷ []) c.take.new.self) c.told.ensures (c.take.ensures.after client script (replies (log_of w)) works.after) in
     let act_is : c.in_ok-act.act ≡ act_of (call_at w.core.plays event.want c.args.now) = told_act_is ∙ ap act_of c.in_ok-call.ensures.call in
-    let kept : response_of c.in_ok-kept.kept ≡ response_of c.in_ok-reply.reply = c.in_ok-kept.ensures ∙ c.in_ok-fitting.ensures in
     let one : replies (log_of w ++ told_entry entry ∷ []) ≡ replies (log_of w) ++ response_of c.in_ok-kept.kept ∷ [] =
     map-append (λ (x : LogEntry). x.response) (log_of w) (told_entry entry ∷ []) in
     record {
@@ -41,7 +29,7 @@ returns-clause-works g c may script client given turn works =
           record { who = c.requires.fit.who; act = told_act_is; response = response }
           (is_event script client (replies (log_of w)) w.core event (told_entry entry) c.args.now works.after c.requires.next refl act_is)
           (λ stream. brings_played script stream client (replies (log_of w)) w.core event.want c.args.now works.after c.in_ok-call.ensures.call)
-          (λ none. c.in_ok-reply.ensures.some (sym kept ∙ none))
+          c.in_ok-kept.ensures.some
           (subst (IsGiven may) (sym act_is) given)
           (λ waits last i at long. past k d (IsLegalAt node) node place (told k.who call answer) e.entry e.same.0 (last.place + 1)
           (turn waits last i e.entry.first at (long ∙ length-map w.log.items told_entry) e.entry.was)));

@@ -1,5 +1,4 @@
-use Rattle.std.proofs.Common.{rules}
-use Rattle.adapter.proofs.Everybody.{same_trans}
+use Rattle.workers.proofs.Imports.{rules, same_trans}
 use Rattle.workers.proofs.client_worker.ClientWorker.run.Goals as goal
 
 pub calls-preserved : goal.calls-preserved

@@ -1,7 +1,4 @@
-use Rattle.std.proofs.Common.{◌≤◌, ◌-◌}
-use Rattle.client_core.specs.declared.stop.TheConstants.{MOST_CALLS}
-use Rattle.adapter.specs.Callers.{IsSameCaller}
-use Rattle.workers.specs.Inside.Working.{IsFit, GoesOn}
+use Rattle.workers.proofs.Imports.{◌≤◌, ◌-◌, MOST_CALLS, IsSameCaller, IsFit, GoesOn}
 use Rattle.workers.proofs.client_worker.ClientWorker.run.Given as goal
 
 abbrev pub invariant-calls : goal.invariant-calls

@@ -1,7 +1,6 @@
-use Rattle.std.proofs.Common.{rules, ◌≡◌, ◌+◌, ◌-◌, ℕ, Vec, Global, map, length, Some, ap, subst, ◌∙◌, arith}
+use Rattle.workers.proofs.Imports.{rules, ◌≡◌, ◌+◌, ◌-◌, ℕ, Vec, Global, map, length, Some, ap, subst, ◌∙◌, arith, told_entry}
 use Rattle.std.specs.Prelude.{slice_get}
 use Rattle.dmx_calls.specs.declared.log.Entry.{Entry}
-use Rattle.dmx_calls.specs.Calls.{told_entry}
 use Rattle.workers.proofs.Working.{last_of}
 use Rattle.workers.proofs.client_worker.ClientWorker.wait.Goals as goal
 

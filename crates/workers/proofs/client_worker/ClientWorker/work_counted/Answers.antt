@@ -1,6 +1,4 @@
-use Rattle.std.proofs.Common.{Option, sym, subst}
-use Rattle.client_core.specs.declared.stop.Stop.{Stop}
-use Rattle.workers.specs.Inside.Working.{HasCome}
+use Rattle.workers.proofs.Imports.{Option, sym, subst, Stop, HasCome}
 use Rattle.workers.proofs.Coming.{has_come}
 use Rattle.workers.proofs.client_worker.ClientWorker.work_counted.Goals as goal
 

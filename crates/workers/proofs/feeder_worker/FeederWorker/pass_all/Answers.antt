@@ -1,7 +1,4 @@
-use Rattle.std.proofs.Common.{◌∙◌, ◌++◌, [], refl}
-use Rattle.adapter.proofs.Everybody.{same_trans}
-use Rattle.feed_pull.proofs.Drawing.{draws_none, draws_then}
-use Rattle.feed_pull.proofs.Stopping.{still_counts}
+use Rattle.workers.proofs.Imports.{◌∙◌, ◌++◌, [], refl, same_trans, draws_none, draws_then, still_counts}
 use Rattle.workers.proofs.Working.{same_self}
 use Rattle.workers.proofs.feeder_worker.FeederWorker.pass_all.Goals as goal
 

@@ -1,10 +1,4 @@
-use Rattle.std.proofs.Common.{◌-◌, ◌^◌, ℕ, List}
-use Rattle.emu_io.specs.Ends.{SourceEnd}
-use Rattle.adapter.specs.Callers.{IsSameCaller}
-use Rattle.adapter.specs.Nodes.{is_in}
-use Rattle.feed_pull.specs.Pulling.{Pulling}
-use Rattle.feed_pull.specs.Streams.{Draws}
-use Rattle.workers.specs.Inside.FeederWork.{IsFitFeeder, LeavesOthers, HasPassed}
+use Rattle.workers.proofs.Imports.{◌-◌, ◌^◌, ℕ, List, SourceEnd, IsSameCaller, is_in, Pulling, Draws, IsFitFeeder, LeavesOthers, HasPassed}
 use Rattle.workers.proofs.feeder_worker.FeederWorker.pass_all.Given as goal
 
 abbrev pub invariant-batches : goal.invariant-batches

@@ -1,8 +1,4 @@
-use Rattle.std.proofs.Common.{rules, ◌≡◌, ◌<◌, ◌≤◌, [], ◌∷◌, ◌++◌, length}
-use Rattle.dmx_calls.specs.declared.histories.Fed.{Fed}
-use Rattle.feed_pull.specs.Pulling.{IsDone, given_by}
-use Rattle.feed_pull.proofs.Drawing.{draws_none}
-use Rattle.adapter.specs.Nodes.{is_in}
+use Rattle.workers.proofs.Imports.{rules, ◌≡◌, ◌<◌, ◌≤◌, [], ◌∷◌, ◌++◌, length, Fed, IsDone, given_by, draws_none, is_in}
 use Rattle.workers.proofs.FeederWork.{leaves_others, passed_none, passed_batch}
 use Rattle.workers.proofs.feeder_worker.FeederWorker.turn.Goals as goal
 

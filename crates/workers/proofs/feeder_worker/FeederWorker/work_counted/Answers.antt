@@ -1,6 +1,4 @@
-use Rattle.std.proofs.Common.{refl}
-use Rattle.adapter.specs.Nodes.{is_in}
-use Rattle.adapter.proofs.Everybody.{same_trans}
+use Rattle.workers.proofs.Imports.{refl, is_in, same_trans}
 use Rattle.workers.proofs.FeederWork.{on_ok, passed_all, has_ended}
 use Rattle.workers.proofs.feeder_worker.FeederWorker.work_counted.Goals as goal
 

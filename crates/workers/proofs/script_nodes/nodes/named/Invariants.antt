@@ -1,7 +1,4 @@
-use Rattle.std.proofs.Common.{◌≡◌, ◌≤◌, ℕ, false, take}
-use Rattle.std.specs.Prelude.{slice_index_or}
-use Rattle.dmx_calls.specs.declared.limits.TheConstants.{DEMUX_NODES}
-use Rattle.workers.specs.Named.{is_named}
+use Rattle.workers.proofs.Imports.{◌≡◌, ◌≤◌, ℕ, false, take, slice_index_or, DEMUX_NODES, is_named}
 use Rattle.workers.proofs.script_nodes.nodes.named.Given as goal
 
 abbrev pub invariant-lines : goal.invariant-lines

@@ -1,5 +1,4 @@
-use Rattle.std.proofs.Common.{rules, arith, ◌≡◌, ◌+◌, ◌∙◌, length, ap, length-append}
-use Rattle.std.proofs.lemmas.Grind.{common_steps}
+use Rattle.client_core.proofs.Imports.{rules, arith, ◌≡◌, ◌+◌, ◌∙◌, length, ap, length-append, common_steps}
 use Rattle.client_core.proofs.Joining.{short, tied_by}
 use Rattle.client_core.proofs.dvr_play.plays.Plays.push.Goals as goal
 

@@ -1,8 +1,4 @@
-use Rattle.std.proofs.Common.{◌≡◌, ℕ, ◌∙◌, ap, ◌-◌, take, drop, length, List, arith, sym}
-use Rattle.std.proofs.Math.Seq.{take-length}
-use Rattle.std.proofs.lemmas.List.{length-drop}
-use Rattle.std.proofs.lemmas.Grind.{common_steps}
-use Rattle.client_core.specs.Clock.{Clock}
+use Rattle.client_core.proofs.Imports.{◌≡◌, ℕ, ◌∙◌, ap, ◌-◌, take, drop, length, List, arith, sym, take-length, length-drop, common_steps, Clock}
 use Rattle.client_core.proofs.ClockFollowing.{one_stretch}
 use Rattle.client_core.proofs.stc_clock.clock.StcClock.push.Goals as goal
 

@@ -1,6 +1,4 @@
-use Rattle.std.proofs.Common.{length, ◌-◌, ◌≡◌, ℕ, ◌+◌, ◌≤◌, List, [], ◌++◌, take}
-use Rattle.ts_packet.specs.Cutting.{bytes_counted}
-use Rattle.client_core.specs.Clock.{Clock, HasFollowed}
+use Rattle.client_core.proofs.Imports.{length, ◌-◌, ◌≡◌, ℕ, ◌+◌, ◌≤◌, List, [], ◌++◌, take, bytes_counted, Clock, HasFollowed}
 use Rattle.client_core.proofs.stc_clock.clock.StcClock.push.Given as goal
 
 -- the clock has followed the bytes that were taken

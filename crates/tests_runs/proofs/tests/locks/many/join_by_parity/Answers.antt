@@ -1,5 +1,4 @@
-use Rattle.std.proofs.Common.{rules, ◌≡◌, [], ◌++◌, ap, ◌∙◌, length}
-use Rattle.std.specs.Option.{option_to_list}
+use Rattle.tests_runs.proofs.Imports.{rules, ◌≡◌, [], ◌++◌, ap, ◌∙◌, length, option_to_list}
 use Rattle.tests_runs.proofs.Parity.{two_begun, odd_more, even_more, both_whole, fresh_own, fresh_left}
 use Rattle.tests_runs.proofs.tests.locks.many.join_by_parity.Goals as goal
 

@@ -1,0 +1,63 @@
+-- The words of others that the proofs of this crate use.
+pub use Rattle.byteorder.specs.Endian.{big_bytes, little_bytes}
+pub use Rattle.byteorder.specs.Numbers.{little_number-reads_back}
+pub use Rattle.client_script.specs.Grammar.{IsInRange, IsPlain, IsPlainVerb, IsTargetInRange, IsVerbInRange, alone, command_in, count_in, dvr_named, is_passed_over, meaning, name_of, number_in, pes_in, pid_in, section_in, some_said, target_of, whole}
+pub use Rattle.client_script.specs.Inside.Part.{FallsInto, HasNoFeed, IsSearched, Passes}
+pub use Rattle.client_script.specs.Places.{filter_in}
+pub use Rattle.client_script.specs.Requests.{request_in, request_number_in, verb_of, want_of}
+pub use Rattle.client_script.specs.Script.{AreNumbered, AreWritten, HasWrite, IsOnDvr, IsScript, Parsed, Scripted, clients_among, grammar, is_stream, most_bytes, named_among, named_by, named_in, no_writes, parted, plain, script_len, whole_lines, with_said, with_write, without_last, writes_of, written_by}
+pub use Rattle.client_script.specs.Spelling.{number_text, said_again, spelling, with_all}
+pub use Rattle.client_script.specs.Words.{Reading, and_then, mapped, next_as, or_fault, word_in, words_of}
+pub use Rattle.client_script.specs.Writes.{IsWritten, written_named}
+pub use Rattle.client_script.specs.declared.fault.FaultKind.{FaultKind}
+pub use Rattle.client_script.specs.declared.fault.FaultKind.TheVariants.{Bytes, Client, Command as NoCommand, Name, NoStream, Target as NoTarget}
+pub use Rattle.client_script.specs.declared.fault.ScriptFault.{ScriptFault}
+pub use Rattle.client_script.specs.declared.line.Line.{Line}
+pub use Rattle.client_script.specs.declared.line.Line.TheVariants.{Command, Feed, Tick}
+pub use Rattle.client_script.specs.declared.line.Target.{Target}
+pub use Rattle.client_script.specs.declared.line.Target.TheVariants.{Dvr, Node, Slot}
+pub use Rattle.client_script.specs.declared.line.Verb.{Verb}
+pub use Rattle.client_script.specs.declared.line.Verb.TheVariants.{Drain, GetStc, Once, ReadWait, Write}
+pub use Rattle.client_script.specs.declared.line.Want.{Want}
+pub use Rattle.client_script.specs.declared.line.Want.TheVariants.{Add, Close, Open, Pes, Poll, Read, Remove, Section, Size, Start, Stop}
+pub use Rattle.client_script.specs.declared.names.CommandName.{CommandName}
+pub use Rattle.client_script.specs.declared.names.CommandName.TheVariants.{Add as AddName, Close as CloseName, Drain as DrainName, Ioctl as IoctlName, Open as OpenName, Pes as PesName, Poll as PollName, Read as ReadName, ReadWait as ReadWaitName, Remove as RemoveName, Section as SectionName, Size as SizeName, Start as StartName, Stop as StopName}
+pub use Rattle.client_script.specs.declared.said.Said.{Said}
+pub use Rattle.client_script.specs.declared.said.Said.TheVariants.{Asks, Writes}
+pub use Rattle.dmx_abi.specs.Written.{argument_of, number_of}
+pub use Rattle.dmx_abi.specs.declared.numbers.TheConstants.{GET_STC}
+pub use Rattle.dmx_abi.specs.declared.request.Request.{Request}
+pub use Rattle.dmx_abi.specs.declared.request.Request.TheVariants.{GetStc as StcRequest}
+pub use Rattle.dmx_calls.specs.Names.{input_text, output_text}
+pub use Rattle.dmx_calls.specs.declared.limits.TheConstants.{LARGEST_READ}
+pub use Rattle.filter_match.specs.Places.{place_at, with_place}
+pub use Rattle.filter_match.specs.declared.filter.Place.{Place}
+pub use Rattle.filter_match.specs.declared.filter.SectionFilter.{SectionFilter}
+pub use Rattle.std.proofs.Common.{Bool, List, [], add-one, ap, append-nil, append_assoc, arith, codes, cond, drop, false, fold, get_or, inl, inr, length, length-append, map, nat_eq, refl, rules, subst, suc, sym, take, take-add, true, zero, ℕ, ◌%◌, ◌*◌, ◌++◌, ◌+◌, ◌-◌, ◌/◌, ◌<◌, ◌^◌, ◌∙◌, ◌∷◌, ◌≡◌, ◌≢◌, ◌≤◌, ◌⊎◌}
+pub use Rattle.std.proofs.Math.Nat.{mod-lt}
+pub use Rattle.std.proofs.Math.Seq.{drop-append-add, drop-cons, take-append-add, take-append_seam}
+pub use Rattle.std.proofs.lemmas.Bool.{cases_eq, cases_lt, eq-eqb}
+pub use Rattle.std.proofs.lemmas.Bool.Decides.{nat_tests}
+pub use Rattle.std.proofs.lemmas.Grind.{flat_map-append}
+pub use Rattle.std.proofs.lemmas.List.{drop-append-le, drop-drop, get_or-drop, get_or-replicate, get_or-set_other, get_or-set_same, get_or-take, get_or_default, get_or_past, length-drop, length-set, length-take, length-take-le, map-id, take-append-drop, take-append-le, take-take, take_all, take_rest}
+pub use Rattle.std.proofs.lemmas.List.Elements.{All-append, All-cons, All-from_get_or, All-head, All-nil, All-push, All-replicate, All-tail, All-weaker}
+pub use Rattle.std.proofs.lemmas.List.FromFn.{map-range_with_len_more}
+pub use Rattle.std.proofs.lemmas.List.Quantifiers.{position-Some}
+pub use Rattle.std.proofs.lemmas.List.Splits.{length-slice_split, slice_split-cons_no, slice_split-cons_yes, slice_split_at, slice_split_first, slice_split_none}
+pub use Rattle.std.proofs.lemmas.List.Sums.{sum_by-cons}
+pub use Rattle.std.specs.Fmt.{decimal}
+pub use Rattle.std.specs.Int.{byte_at, bytes_low_first}
+pub use Rattle.std.specs.List.{All, count_by, flat_map, onto_first, position, position_or_len, range_with_len, slice_split}
+pub use Rattle.std.specs.Option.{option_and_then, option_map}
+pub use Rattle.std.specs.Prelude.{Err, IfSome, IsSome, None, Ok, Option, Result, Some, if◌then◌else◌, is_none, nat_lt, replicate, slice_index_or, slice_set, sum, ◌==◌}
+pub use Rattle.text_forms.proofs.Decimals.{number_between-decimal}
+pub use Rattle.text_forms.proofs.Filters.{with_place-IsFilter, zeros-IsFilter}
+pub use Rattle.text_forms.proofs.FiltersRead.{filter_text-words, filter_with-filter_places, filter_words-each, length-filter_words, places_named-filter_words}
+pub use Rattle.text_forms.proofs.HexWords.{hex_bytes-hex_text}
+pub use Rattle.text_forms.proofs.NamesRead.{client_named-client_text}
+pub use Rattle.text_forms.proofs.Visible.{AreVisible, IsVisible, behind-visible, decimal-visible, hex_text-visible, input_text-visible, output_text-visible, place_text-visible, visible_by_test}
+pub use Rattle.text_forms.proofs.WordsRead.{input_named-input_text, output_named-output_text}
+pub use Rattle.text_forms.specs.Hex.{digit_text, hex_bytes, hex_text}
+pub use Rattle.text_forms.specs.Names.{client_named, client_text}
+pub use Rattle.text_forms.specs.Places.{IsFilter, filter_places, filter_words, place_named}
+pub use Rattle.text_forms.specs.Words.{is_word}

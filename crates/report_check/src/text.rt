@@ -1,0 +1,153 @@
+// The line at which a text stops being a report. Nothing is claimed of it.
+use report_read::{read_line, read_report};
+use std::alloc::{AllocError as NoMemory, Global};
+use text_forms::write_decimal;
+
+// The first line of a report; the first two, of a stream without a packet; a call that may stand first on any node; the two last lines
+// that there are.
+const FIRST: &[u8] = b"dvbemu 1\n";
+
+const HEAD: &[u8] = b"dvbemu 1\npackets=0 skipped=0 rest=0\n";
+
+const CALL: &[u8] = b"0 c0 0 stop = EBADF\n";
+
+const END: &[u8] = b"end\n";
+
+const READ_FAULT: &[u8] = b"fault read\n";
+
+// What the line before tells.
+#[derive(Clone, Copy, Debug, PartialEq, Eq, Drop)]
+enum Part {
+    Nothing,
+    First,
+    Stream,
+    Clients,
+    Node,
+    End,
+}
+
+// Lines that begin a report, as far as the next one asks for it.
+#[derive(Drop)]
+struct Front<'a> {
+    part: Part,
+    // The line of the last PID, or of the last node.
+    last: &'a [u8],
+    clients: u64,
+    // How many entries the last node has, and whether a client made one of them.
+    entries: u64,
+    called: bool,
+}
+
+// Whether these, one behind another, are a report.
+fn are_report(alloc: Global, parts: &[&[u8]]) -> Result<bool, NoMemory> {
+    let mut text = Vec::new(alloc);
+    'parts: for part in parts {
+        text.extend_from_slice(part)?;
+    }
+    Ok(read_report(alloc, &text)?.is_some())
+}
+
+impl<'a> Front<'a> {
+    // No line.
+    fn new() -> Front<'a> {
+        Front {
+            part: Part::Nothing,
+            last: &[],
+            clients: 0,
+            entries: 0,
+            called: false,
+        }
+    }
+
+    fn takes_first(&mut self, line: &[u8]) -> bool {
+        self.part = Part::First;
+        line == FIRST
+    }
+
+    fn takes_tally(&mut self, alloc: Global, line: &[u8]) -> Result<bool, NoMemory> {
+        self.part = Part::Stream;
+        are_report(alloc, &[FIRST, line, END])
+    }
+
+    fn takes_row(&mut self, alloc: Global, line: &'a [u8]) -> Result<bool, NoMemory> {
+        let before = self.last;
+        self.last = line;
+        Ok(self.part == Part::Stream && are_report(alloc, &[HEAD, before, line, END])?)
+    }
+
+    fn takes_client(&mut self, alloc: Global, line: &[u8]) -> Result<bool, NoMemory> {
+        let mut next = Vec::new(alloc);
+        next.extend_from_slice(b"client ")?;
+        write_decimal(&mut next, self.clients)?;
+        next.extend_from_slice(b"\n")?;
+        let is_next = self.part != Part::Node && next.as_slice() == line;
+        self.part = Part::Clients;
+        self.clients = self.clients.saturating_add(1);
+        Ok(is_next)
+    }
+
+    fn takes_command(&mut self, alloc: Global, line: &[u8]) -> Result<bool, NoMemory> {
+        Ok(self.part == Part::Clients && are_report(alloc, &[HEAD, b"client 0\n", line, END])?)
+    }
+
+    fn takes_node(&mut self, alloc: Global, line: &'a [u8]) -> Result<bool, NoMemory> {
+        let is_next = match self.part {
+            Part::Node => {
+                self.called && are_report(alloc, &[HEAD, self.last, CALL, line, CALL, END])?
+            }
+            _ => are_report(alloc, &[HEAD, line, CALL, END])?,
+        };
+        self.part = Part::Node;
+        self.last = line;
+        self.entries = 0;
+        self.called = false;
+        Ok(is_next)
+    }
+
+    fn takes_entry(&mut self, alloc: Global, line: &[u8]) -> Result<bool, NoMemory> {
+        let Some(entry) = read_line(alloc, 0, line)? else {
+            return Ok(false);
+        };
+        let is_next = self.part == Part::Node && entry.place == self.entries;
+        self.entries = self.entries.saturating_add(1);
+        self.called = self.called || entry.who > 0;
+        Ok(is_next)
+    }
+
+    fn takes_end(&mut self) -> bool {
+        let is_whole = self.part != Part::Node || self.called;
+        self.part = Part::End;
+        is_whole
+    }
+
+    // Goes past one line more, its line feed with it; false where no report begins so.
+    fn takes(&mut self, alloc: Global, line: &'a [u8]) -> Result<bool, NoMemory> {
+        match self.part {
+            Part::Nothing => Ok(self.takes_first(line)),
+            Part::First => self.takes_tally(alloc, line),
+            Part::End => Ok(false),
+            _ if line.starts_with(b"pid ") => self.takes_row(alloc, line),
+            _ if line.starts_with(b"client ") => self.takes_client(alloc, line),
+            _ if line.starts_with(b"line ") => self.takes_command(alloc, line),
+            _ if line.starts_with(b"node ") => self.takes_node(alloc, line),
+            _ if line == END || line == READ_FAULT => Ok(self.takes_end()),
+            _ => self.takes_entry(alloc, line),
+        }
+    }
+}
+
+/// The line at which a text that is no report stops being one: the first with which no report begins, or the one in which the text
+/// ends.
+pub fn line_of_text(alloc: Global, text: &[u8]) -> Result<u64, NoMemory> {
+    let mut front = Front::new();
+    let mut line: u64 = 1;
+    let mut rest = text;
+    'lines: while let Some(end) = rest.iter().position(|byte| *byte == b'\n') {
+        if !front.takes(alloc, &rest[..end + 1])? {
+            return Ok(line);
+        }
+        line = line.saturating_add(1);
+        rest = &rest[end + 1..];
+    }
+    Ok(line)
+}

@@ -1,0 +1,99 @@
+-- The words of others that the proofs of this crate use.
+pub use Rattle.adapter.proofs.Lists.{at_end, at_place, one_value, set_elsewhere, set_there}
+pub use Rattle.adapter.proofs.Pairs.{caller_fits}
+pub use Rattle.adapter.specs.Callers.{AreFreshCallers, Caller, IsFreshCaller}
+pub use Rattle.adapter.specs.Nodes.{IsLegalAt, MakesEntry}
+pub use Rattle.adapter.specs.Rows.{Fits, OneMore}
+pub use Rattle.atomic_table.proofs.Lists.{at_last}
+pub use Rattle.atomic_table.specs.Seated.{TableId}
+pub use Rattle.byteorder.specs.Numbers.{little_number-reads_back}
+pub use Rattle.client_core.proofs.GoesOn.{last_counts, progress_of, waits_not}
+pub use Rattle.client_core.specs.Commands.{Doing, IsRequestInRange, Slots, call_of, called, commands_of, done, opened, own_call, plays_of, stands, through, told}
+pub use Rattle.client_core.specs.Deeds.{Batches}
+pub use Rattle.client_core.specs.Events.{Ended, Progress, Standing, next_event, no_slots, progress_from, slots_after, waits_after, waits_on, with_ended}
+pub use Rattle.client_core.specs.Outcomes.{Counters, counters_after, kind_by, outcome_by}
+pub use Rattle.client_core.specs.declared.command.Command.{Command}
+pub use Rattle.client_core.specs.declared.deed.Deed.TheVariants.{Once}
+pub use Rattle.client_core.specs.declared.event.Event.{Event}
+pub use Rattle.client_core.specs.declared.event.Request.{Request}
+pub use Rattle.client_core.specs.declared.event.Request.TheVariants.{Own}
+pub use Rattle.client_core.specs.declared.task.Ending.{Ending}
+pub use Rattle.client_core.specs.declared.task.Ending.TheVariants.{AllBusy, Bound, Made as WasMade}
+pub use Rattle.client_script.specs.Script.{Scripted}
+pub use Rattle.client_script.specs.declared.line.Target.{Target}
+pub use Rattle.client_script.specs.declared.line.Target.TheVariants.{Dvr, Node, Slot}
+pub use Rattle.client_script.specs.declared.line.Want.{Want}
+pub use Rattle.client_script.specs.declared.line.Want.TheVariants.{Add, Close, Open, Pes, Remove, Section, Size}
+pub use Rattle.dmx_abi.specs.Layout.{field}
+pub use Rattle.dmx_calls.proofs.Going.{tenure_also, tenure_closed, tenure_opened, tenure_refused}
+pub use Rattle.dmx_calls.specs.Answer.{answer_by, done_dropping, is_owned_by, tap_of_done, with_call}
+pub use Rattle.dmx_calls.specs.Calls.{invocation_of, response_of, told_entry}
+pub use Rattle.dmx_calls.specs.Entries.{caller_of}
+pub use Rattle.dmx_calls.specs.Facts.{Facts, Ledger}
+pub use Rattle.dmx_calls.specs.History.{Entry, History, Since, also, entry_of, event}
+pub use Rattle.dmx_calls.specs.Invocation.{AddPid, Attach, Detach, End, Invocation, Pass, Poll, Read, RemovePid, SetFilter, SetPes, SetSize, Start, Stop}
+pub use Rattle.dmx_calls.specs.Legal.{IsLegalFor, May}
+pub use Rattle.dmx_calls.specs.Log.{LogEntry, act_of}
+pub use Rattle.dmx_calls.specs.Response.{Again, Busy, Data, Done, NoMemory, Overflow, Passed, Ready, Refused, Response, TapChange, TimedOut, is_accepted}
+pub use Rattle.dmx_calls.specs.Rules.{Rules, rules_at}
+pub use Rattle.dmx_calls.specs.Tenure.{closes, opens}
+pub use Rattle.dmx_calls.specs.declared.limits.TheConstants.{DEMUX_NODES}
+pub use Rattle.dmx_calls.specs.declared.log.Act.{Act}
+pub use Rattle.dmx_calls.specs.declared.log.Act.TheVariants.{Attach as AttachAct, Close as CloseAct, Detach as DetachAct, Open as OpenAct}
+pub use Rattle.dmx_calls.specs.declared.log.Entry.{Entry as ToldEntry}
+pub use Rattle.dmx_calls.specs.declared.node.NodeKind.{NodeKind}
+pub use Rattle.dmx_calls.specs.declared.node.NodeKind.TheVariants.{Demux}
+pub use Rattle.dmx_calls.specs.declared.outcome.Outcome.{Outcome}
+pub use Rattle.dmx_calls.specs.declared.outcome.OutcomeKind.{OutcomeKind}
+pub use Rattle.dmx_calls.specs.declared.outcome.OutcomeKind.TheVariants.{Done as WasDone, Emfile as WasEmfile}
+pub use Rattle.dmx_calls.specs.declared.reply.Tap.TheVariants.{Attach as AttachTap, Detach as DetachTap, Keep as KeepTap}
+pub use Rattle.emu_io.specs.Causes.{raised}
+pub use Rattle.emu_io.specs.Ends.{SinkEnd, SourceEnd}
+pub use Rattle.lemmas.proofs.Lists.{all_behind, all_front, at_before, has_either}
+pub use Rattle.lemmas.specs.Lists.{Has}
+pub use Rattle.node_lock.proofs.Views.{at_below, prefix_at}
+pub use Rattle.node_lock.specs.Inside.Seats.{fresh}
+pub use Rattle.node_lock.specs.Passes.{KnowsItsCalls}
+pub use Rattle.node_lock.specs.declared.view.View.{View}
+pub use Rattle.script_run.specs.IsRun.{IsEvent, replies}
+pub use Rattle.script_run.specs.WholeRun.{IsGiven}
+pub use Rattle.seats.specs.Answered.{AreBusy, AreClosings, IsAnswered, IsAnsweredBy, IsBehind, IsClosing, IsCommand, IsFull, IsOpened, act_behind, act_by_tap, is_busy, refusal, told_opened}
+pub use Rattle.seats.specs.Asks.{IsWantInRange, ask_of, asked}
+pub use Rattle.seats.specs.Calls.{MakesCall, MakesCalls, PassesNone}
+pub use Rattle.seats.specs.Doing.{ClosesHeld, Does, DoesCommand, HasAnswered, HasGone, HasMade, Keeps, KeepsBy, KeepsClosed, KeepsOne, KeepsOpened, MakesOne, MarksNoMore}
+pub use Rattle.seats.specs.Holding.{AreMarked, CloseHeld, GivesBack, HasLeft, IsOwnPass, KnowsItsNodes, has_then, holds}
+pub use Rattle.seats.specs.Line.{BreaksOff, HasStopped, RunsOut, Takes, Writes}
+pub use Rattle.seats.specs.Numbered.{numbered}
+pub use Rattle.seats.specs.Scripts.{IsPlayed, LinesArePlayed}
+pub use Rattle.seats.specs.Seated.{AreOnNodes, AreReady, GoesOn, IsFit, IsNew, IsReady, log_of, told_made}
+pub use Rattle.seats.specs.Spelled.{AreKept, Closings, DoneCommand, calls_in, closings, commands_by, commands_done_by, done_command, done_command_by, is_close, line_behind, opened_kind, outcome_at, outcomes_by, target_of}
+pub use Rattle.seats.specs.Tells.{data_of, head_of, tell, told_of}
+pub use Rattle.seats.specs.Told.{call_at, data_read, reply_bytes}
+pub use Rattle.seats.specs.Turns.{AreTold, HasAnsweredAll, HasTurned, IsAsked, IsCutOff, IsLast, IsTold, IsTurn, MakesLast, MakesTurn, MakesTurns, Turn, calls_of, spelled, spelled_by}
+pub use Rattle.seats.specs.declared.made.Made.{Made}
+pub use Rattle.seats.specs.declared.run.Desk.{Desk}
+pub use Rattle.seats.specs.declared.seat.Seat.{Seat}
+pub use Rattle.seats.specs.declared.serve_frames.ask.Ask.{Ask}
+pub use Rattle.seats.specs.declared.serve_frames.ask.Ask.TheVariants.{Call, Leave, OpenDemux, Refused as RefusedAsk}
+pub use Rattle.seats.specs.declared.serve_frames.numbers.TheConstants.{EMFILE, ENOMEM, REQUEST_LEN}
+pub use Rattle.seats.specs.declared.serve_frames.tell.Tell.{Tell}
+pub use Rattle.std.proofs.Common.{All, Bool, Err, Global, IsTrue, List, None, Ok, OnErr, OnOk, Option, Result, Some, Vec, [], ap, arith, drop, eq-eqb, false, get_or, inl, inr, is_ok, length, length-append, map, nat_eq, nat_lt, ne_eqb, refl, replicate, reverse, rules, set, subst, suc, sym, take, take-append-drop, true, vec_capacity, zero, ℕ, ⊎_elim, ◌*◌, ◌++◌, ◌+◌, ◌-◌, ◌<◌, ◌^◌, ◌∙◌, ◌∷◌, ◌≡◌, ◌≢◌, ◌≤◌, ◌⊎◌}
+pub use Rattle.std.proofs.KnownBytes.{Appends-kept, Appends-trans, Consumes-kept, Consumes-trans}
+pub use Rattle.std.proofs.Math.Seq.{take-add, take-append-add}
+pub use Rattle.std.proofs.lemmas.Bool.Decides.{nat_tests}
+pub use Rattle.std.proofs.lemmas.Iterator.Adapters.{YieldsList-from_vec}
+pub use Rattle.std.proofs.lemmas.Iterator.Consumers.{YieldsList-end}
+pub use Rattle.std.proofs.lemmas.List.{append-nil, append_assoc, append_cancel_left, get_or-replicate, length-drop, length-map, length-replicate, length-take-le, map-append, places, reverse-append, take-append-le, take_all, take_more}
+pub use Rattle.std.proofs.lemmas.List.Concat.{flat_map-append}
+pub use Rattle.std.proofs.lemmas.List.Elements.{All-append, All-cons, All-head, All-nil, All-push, All-tail}
+pub use Rattle.std.proofs.lemmas.List.Sums.{fold-append}
+pub use Rattle.std.proofs.lemmas.Option.{get_or_from_slice_get, slice_get-get_or, slice_get-map, slice_get_read, slice_get_within}
+pub use Rattle.std.proofs.lemmas.Result.{IfOk-weaker}
+pub use Rattle.std.specs.Io.KnownBytes.{Appends, Consumes, IsAtEnd}
+pub use Rattle.std.specs.List.{flat_map}
+pub use Rattle.std.specs.Prelude.{if◌then◌else◌, option_map, slice_get, slice_index_or}
+pub use borrow.Rule.Slice.PartMut.{post_of, put_mid}
+pub use lib.ListN.{get_elem?}
+pub use mathlib.Core.Logic.{dite}
+pub use mathlib.Core.Option.{some}
+pub use native.Mathlib.Decide.{ℕ_discrete}

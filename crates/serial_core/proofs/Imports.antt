@@ -1,0 +1,100 @@
+-- The words of others that the proofs of this crate use.
+pub use Rattle.client_core.proofs.Ended.{ended_waits_not}
+pub use Rattle.client_core.proofs.GoesOn.{last_counts, none_waits as before_first}
+pub use Rattle.client_core.proofs.Numbering.{AreThrough, next_is_numbered, through_more, through_next}
+pub use Rattle.client_core.specs.Commands.{call_of, commands_among, commands_in, commands_of, pass_of, plays_of}
+pub use Rattle.client_core.specs.Deeds.{Batches, batch_at, deed_of}
+pub use Rattle.client_core.specs.Events.{Standing, next_event, next_of_line, no_slots, progress, progress_from, standing_at, waits_after, waits_on}
+pub use Rattle.client_core.specs.Inside.Core.{Core, IsAfter}
+pub use Rattle.client_core.specs.Outcomes.{outcomes}
+pub use Rattle.client_core.specs.declared.command.Command.{Command as ClientCommand}
+pub use Rattle.client_core.specs.declared.deed.Deed.{Deed}
+pub use Rattle.client_core.specs.declared.event.Event.{Event}
+pub use Rattle.client_core.specs.declared.event.Request.{Request}
+pub use Rattle.client_core.specs.declared.event.Request.TheVariants.{Own}
+pub use Rattle.client_core.specs.declared.stop.Stop.TheVariants.{TooLong}
+pub use Rattle.client_script.specs.Grammar.{IsInRange}
+pub use Rattle.client_script.specs.Script.{AreNumbered, Scripted, clients_in, clients_of}
+pub use Rattle.client_script.specs.declared.line.Line.{Line}
+pub use Rattle.client_script.specs.declared.line.Line.TheVariants.{Command, Feed, Tick}
+pub use Rattle.client_script.specs.declared.line.Target.{Target}
+pub use Rattle.client_script.specs.declared.line.Verb.{Verb}
+pub use Rattle.client_script.specs.declared.line.Want.TheVariants.{Open}
+pub use Rattle.dmx_calls.proofs.Going.{has_ended_after, has_ended_refused}
+pub use Rattle.dmx_calls.proofs.Numbered.{demux_rules, dvr_rules}
+pub use Rattle.dmx_calls.proofs.Reading.{read_each}
+pub use Rattle.dmx_calls.proofs.Telling.{fills}
+pub use Rattle.dmx_calls.proofs.Weaving.{in_place-append, woven-call, woven-fed}
+pub use Rattle.dmx_calls.specs.Answer.{ReadTerms, answer_by as dmx_answer, done_dropping, expired_of, open_response, read_terms, refusal_to, response_of_read, response_to, response_unless, with_call}
+pub use Rattle.dmx_calls.specs.Calls.{invocation_of, response_of, told_entry}
+pub use Rattle.dmx_calls.specs.Facts.{Facts, Ledger, facts}
+pub use Rattle.dmx_calls.specs.Histories.{AreInPlace, feeder_acts, feeder_entry, histories_of, woven, woven_nodes}
+pub use Rattle.dmx_calls.specs.History.{History, entry_of, event}
+pub use Rattle.dmx_calls.specs.Invocation.{AddPid, Attach, Close, Detach, End, Invocation, Pass, Poll, Read, RemovePid, SetFilter, SetPes, SetSize, Start, Stop}
+pub use Rattle.dmx_calls.specs.Legal.{IsLegalFor, May}
+pub use Rattle.dmx_calls.specs.Log.{IsFrom, LogEntry, Sources, act_of, filled, filled_entry}
+pub use Rattle.dmx_calls.specs.Response.{Again, NoMemory, Passed, Response, TapChange, is_accepted}
+pub use Rattle.dmx_calls.specs.Rules.{Rules, dvr, rules_at}
+pub use Rattle.dmx_calls.specs.Tenure.{has_ended, is_end}
+pub use Rattle.dmx_calls.specs.declared.limits.TheConstants.{DEMUX_NODES}
+pub use Rattle.dmx_calls.specs.declared.log.Act.{Act}
+pub use Rattle.dmx_calls.specs.declared.log.Act.TheVariants.{End as EndAct, Pass as PassAct}
+pub use Rattle.dmx_calls.specs.declared.log.Entry.{Entry, Entry as CodeEntry}
+pub use Rattle.dmx_calls.specs.declared.node.NodeKind.{NodeKind}
+pub use Rattle.dmx_calls.specs.declared.params.Input.TheVariants.{Frontend}
+pub use Rattle.dmx_calls.specs.declared.reply.Errno.{Errno}
+pub use Rattle.emu_io.specs.Ends.{SourceEnd}
+pub use Rattle.feed_pull.proofs.CutPackets.{are_packets}
+pub use Rattle.feed_pull.proofs.Drawing.{draws_none, draws_then, none_given}
+pub use Rattle.feed_pull.proofs.PullLemmas.{Pulls-done, Pulls-front, Pulls-size}
+pub use Rattle.feed_pull.proofs.Stopping.{end_by, many_reads, of_stream, on_err, rose_by, still_counts}
+pub use Rattle.feed_pull.specs.Pulling.{IsDone, Pulling, Pulls, has_failed}
+pub use Rattle.feed_pull.specs.Streams.{Draws, OfStream}
+pub use Rattle.feed_pull.specs.declared.fault.Reading.TheVariants.{TooMany}
+pub use Rattle.lemmas.proofs.Lists.{at_before, at_end, at_last, at_last as got_last}
+pub use Rattle.lemmas.proofs.Options.{same_some}
+pub use Rattle.script_run.proofs.Clients.{clients_within, few_in_all}
+pub use Rattle.script_run.proofs.Counting.{total}
+pub use Rattle.script_run.proofs.Ending.{are_accounted, runs_end}
+pub use Rattle.script_run.proofs.Events.{from_client}
+pub use Rattle.script_run.proofs.Paying.{calls_are_bounded, calls_are_paid, commands_shared, plays_by}
+pub use Rattle.script_run.specs.Budget.{IsTooLong, all_commands, bytes_written, most_calls}
+pub use Rattle.script_run.specs.IsRun.{Batch, IsEvent, Step, feeding, replies, sources, steps_of}
+pub use Rattle.script_run.specs.SoFar.{HasDoneSoFar, IsFedSoFar, IsOver, IsPaidBehind, IsSoFar, feeder}
+pub use Rattle.serial_core.specs.Budget.{AreBegun, IsBegun, IsMoment, IsOnTheWay, IsWithinBudget, no_call, one_call}
+pub use Rattle.serial_core.specs.Examples.{DrainedOutcomes, DrainedRun, PlayedOutcomes, PlayedRun, WaitedOutcomes, WaitedRun}
+pub use Rattle.serial_core.specs.Inside.Legal.{AreLegal, from_frontend, packets_through}
+pub use Rattle.serial_core.specs.Inside.Lines.{AllOverrunBy, AreAfter, AreInBudget, ComesByLines, IsFrontBy, IsLineBy, IsWholeBy, OverrunsBy, calls_by}
+pub use Rattle.serial_core.specs.Inside.Moving.{ComesBy, ComesByCalls, HasDrawn, IsAt, IsDoneBy, IsReady, IsSound, MadeAtMost, Moves, one_if}
+pub use Rattle.serial_core.specs.Inside.Standing.{AreCounted, AreUnder, IsFeeding, IsNodes, IsSeat, IsUnder, Pairs, StandsAt, acts_of, acts_on, entries_in}
+pub use Rattle.serial_core.specs.Laws.{HistoriesAreLegal, IsOne, PacketsPass, TriedIsRun}
+pub use Rattle.serial_core.specs.Left.{AreFreshCores, IsFreshRunner, IsLeftBy, histories_in}
+pub use Rattle.serial_core.specs.Nodes.{Node, Told, answer_by, answered, history_in, history_of, log_in, log_of, uncalled}
+pub use Rattle.serial_core.specs.Runs.{HaveSerialRuns, IsAccountedRun, SerialRunsAreRuns}
+pub use Rattle.serial_core.specs.SerialRun.{AreDone, IsSerialRun, IsWorked, Run, after_waiting, all_passed, and_on, batch_sizes, begun, called, calls, ended, fed, fed_to_all, finished, made, node_at, passed, replies_of, reply_to, through, ticked, tried_command, tried_lines, turned}
+pub use Rattle.serial_core.specs.declared.node.AnyCore.{AnyCore}
+pub use Rattle.serial_core.specs.declared.node.AnyCore.TheVariants.{Demux, Dvr}
+pub use Rattle.serial_core.specs.declared.nodes.Nodes.{Nodes}
+pub use Rattle.serial_core.specs.declared.run.Left.{Left}
+pub use Rattle.serial_core.specs.declared.runner.Runner.{Runner}
+pub use Rattle.serial_core.specs.declared.seat.Seat.{Seat}
+pub use Rattle.std.proofs.Common.{Bool, Err, IfOk, IsErrAnd, List, None, Ok, OnErr, Option, Result, Some, [], add-one, ap, append-nil, append_assoc, arith, drop, false, filter, fold, get_or, inl, inr, length, length-append, length-drop, length-take-le, map, min, nat_eq, nat_lt, not, refl, replicate, reverse, set, subst, suc, sym, take, true, vec_len, zero, zero-add, ℕ, ◌%◌, ◌*◌, ◌++◌, ◌+◌, ◌-◌, ◌/◌, ◌<◌, ◌==◌, ◌^◌, ◌∙◌, ◌∷◌, ◌≡◌, ◌≢◌, ◌≤◌, ◌⊎◌}
+pub use Rattle.std.proofs.Math.Nat.{add-div_right, add-mod_right, div-eq_of_lt, mod-eq_of_lt}
+pub use Rattle.std.proofs.Math.Seq.{drop-append_seam, drop-cons, get_or-append_seam, map-set_same, take-append_seam}
+pub use Rattle.std.proofs.lemmas.Bool.{cases_lt}
+pub use Rattle.std.proofs.lemmas.Bool.Decides.{nat_tests}
+pub use Rattle.std.proofs.lemmas.Grind.{flat_map-append}
+pub use Rattle.std.proofs.lemmas.List.{drop-drop, drop_all, get_or-map, get_or-replicate, get_or-set_other, get_or-set_same, get_or_append_left, length-map, length-replicate, length-set, map-append, reverse-append, take-append-drop, take-append-le, take_all}
+pub use Rattle.std.proofs.lemmas.List.Elements.{All-append, All-cons, All-head, All-map, All-nil, All-push, All-set, All-tail, All-weaker, filter-append}
+pub use Rattle.std.proofs.lemmas.List.Folds.{sum_by-replicate}
+pub use Rattle.std.proofs.lemmas.List.FromFn.{get_or-map-range_with_len, length-range_with_len, map-range_with_len_more}
+pub use Rattle.std.proofs.lemmas.List.Sums.{get_or-le-sum_by, sum_by-append, sum_by-cons, sum_by-le, sum_by-set}
+pub use Rattle.std.proofs.lemmas.Nat.{div-add-mod'}
+pub use Rattle.std.proofs.lemmas.Option.{none-some, slice_get-get_or, slice_get-map, slice_get_within}
+pub use Rattle.std.proofs.lemmas.Simd.{map-map}
+pub use Rattle.std.specs.List.{All, range_with_len}
+pub use Rattle.std.specs.Prelude.{IsSome, if◌then◌else◌, is_some, option_map, slice_get, slice_index_or, slice_set, sum, ◌||◌}
+pub use Rattle.ts_batch.specs.Batch.{Packets}
+pub use Rattle.ts_packet.specs.Cut.{cut}
+pub use Rattle.ts_packet.specs.Fields.{IsPacket}
+pub use Rattle.ts_watch.specs.Head.{head_of, told_head}

@@ -1,0 +1,106 @@
+"""The parts of serve/check on how a command is begun and how it ends: on a terminal, without one, with little around it, in another."""
+import os
+import pty
+import select
+import shutil
+import signal
+import tempfile
+import time
+
+from airs import NAMES, TUNER, call, stations
+from room import RATE, SERVE, calls_of, is_passed, ran
+
+# The seconds in which a terminal tells what is waited for, and the byte that stands for Ctrl-C there.
+TELLS, CTRL_C = 20, b"\x03"
+# Scripts, with the statuses that they end with.
+ENDS = {"exit 77": 77, "kill -SEGV $$": 139, "kill -KILL $$": 137, "(trap '' TERM; sleep 100) & exit 5": 5}
+
+
+class Terminal:
+    """A shell on a terminal, in which all that it writes is kept."""
+
+    def __init__(self, room):
+        self.told, words = b"", [SERVE, "--keep", "none", "--packets", RATE, room.stream, "--", "bash", "--norc", "-i"]
+        self.pid, self.end = pty.fork()
+        if self.pid == 0:
+            os.execvpe(words[0], words, dict(os.environ, PS1="> ", TERM="dumb", HISTFILE=""))
+
+    def tells(self, text):
+        """Whether this comes, behind what was waited for before."""
+        until = time.monotonic() + TELLS
+        while text not in self.told and time.monotonic() < until:
+            try:
+                self.told += os.read(self.end, 4096) if select.select([self.end], [], [], 0.1)[0] else b""
+            except OSError:
+                break
+        _, found, self.told = self.told.partition(text)
+        return bool(found)
+
+    def ends(self):
+        """How it ends; None where it doesn't."""
+        until = time.monotonic() + TELLS
+        while time.monotonic() < until:
+            self.tells(b"\0")
+            pid, status = os.waitpid(self.pid, os.WNOHANG)
+            if pid:
+                return os.waitstatus_to_exitcode(status)
+        os.kill(self.pid, signal.SIGTERM)
+        return None
+
+
+def try_terminal(room):
+    """On a terminal Ctrl-C ends the program and not the server, and the shell goes on and says how all ends."""
+    if not shutil.which("bash") or not os.path.exists("/dev/ptmx"):
+        print("serve: bash or /dev/ptmx isn't there, skipped")
+        return
+    terminal = Terminal(room)
+    room.want(terminal.tells(b"> "), "a shell on a terminal", terminal.told)
+    os.write(terminal.end, f"echo beg''un; {calls_of(room)} wait 100; echo en''ded $?\n".encode())
+    room.want(terminal.tells(b"begun"), "its program begins", terminal.told)
+    time.sleep(1)
+    os.write(terminal.end, CTRL_C)
+    os.write(terminal.end, f"{calls_of(room)} beside; echo st''atus $?\n".encode())
+    room.want(terminal.tells(b" 0 failed") and terminal.tells(b"status 0"), "Ctrl-C ends the program alone", terminal.told)
+    os.write(terminal.end, b"exit 4\n")
+    room.want(terminal.ends() == 4, "the shell's status is told", terminal.told)
+    os.close(terminal.end)
+
+
+def try_bare(room):
+    """A command runs without standard input and output, with few descriptors, and where all but temporary files is read-only."""
+    words = f"\"$0\" --keep none --packets {RATE} \"$1\" -- sh -c '\"$0\" beside > told' \"$2\" <&- >&- 2>&-"
+    ended = ran(["sh", "-c", f"cd {room.folder} && {words}", SERVE, room.stream, calls_of(room)])
+    with open(room.path("told"), encoding="ascii") as file:
+        told = file.read()
+    room.want(ended.returncode == 0 and is_passed(told), "without standard input, output and errors", told)
+    out, status = room.run("sh", "-c", "ulimit -n 64; exec \"$0\" beside", calls_of(room))
+    room.want(status == 0 and is_passed(out), "a program of at most 64 descriptors", out)
+    place = os.path.realpath(tempfile.gettempdir())
+    bare = ["bwrap", "--unshare-all", "--ro-bind", "/", "/", "--dev", "/dev", "--bind", place, place]
+    if not shutil.which("bwrap") or ran([*bare, "true"]).returncode:
+        print("serve: bwrap isn't there, or may not, skipped")
+        return
+    out, status = room.run(calls_of(room), "beside", before=bare)
+    room.want(status == 0 and is_passed(out), f"all by bwrap, without /proc, status {status}", out)
+
+
+def try_ends(room):
+    """How the command ends is told, and what it leaves is ended, also what doesn't want to be."""
+    for script, wanted in ENDS.items():
+        out, status = room.run("sh", "-c", script, keep="none")
+        room.want(status == wanted, f"{script}: status {status}", out)
+    for command, wanted in ("false", 1), ("/nowhere", 127), ("/etc/passwd", 127):
+        out, status = room.run(command, keep="none")
+        room.want(status == wanted, f"{command}: status {status}", out)
+
+
+def try_nested(room):
+    """Of one command in another the inner one's programs have its adapter, and then the outer one's again."""
+    paths, words = stations(room), ["--keep", "none", "--packets", RATE]
+    inner = [SERVE, *words, paths[1], "--", TUNER, "474000000"]
+    out, status = call(room, [*words, paths[0]], ["sh", "-c", "\"$@\" && \"$0\" 474000000", TUNER, *inner])
+    told = "".join(f"474000000 {' '.join(names)}\n" for names in (NAMES[1], NAMES[0]))
+    room.want(status == 0 and out == told, "one in another", out)
+
+
+PARTS = try_terminal, try_bare, try_ends, try_nested

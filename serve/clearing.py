@@ -1,0 +1,88 @@
+"""What clears up behind a dvbemu-serve that is killed: a process of its own, which waits at a pipe that this one holds and whose
+end the kernel brings however this one ends. By then the calls of programs are told EIO: those that haven't ended some seconds
+later are ended, and the folder is removed. Where the folder is gone already there is nothing to do.
+"""
+import contextlib
+import fcntl
+import os
+import shutil
+import signal
+import time
+
+# The seconds in which a program that was told to end must do so.
+LEAVES = 2
+VARIABLE = "DVBEMU_DIR"
+
+
+def processes():
+    """The other processes, by number; none where the system doesn't tell, or tells the numbers of another name space."""
+    try:
+        own = os.readlink("/proc/self")
+        return [int(name) for name in os.listdir("/proc") if name.isdecimal() and name != own] if own == str(os.getpid()) else []
+    except OSError:
+        return []
+
+
+def finds(number, value):
+    """Whether a process of this user finds these adapters, by what stands in its environment."""
+    try:
+        with open(f"/proc/{number}/environ", "rb") as file:
+            return os.fsencode(f"{VARIABLE}={value}") in file.read().split(b"\0")
+    except OSError:
+        return False
+
+
+def programs_of(value):
+    """The processes that find these adapters, but for this one."""
+    return [number for number in processes() if finds(number, value)]
+
+
+def end_programs(value):
+    """Ends these processes: by SIGTERM, and from some seconds on by SIGKILL; some more seconds, and one that stays is left."""
+    begun = time.monotonic()
+    while (gone := time.monotonic() - begun) < 2 * LEAVES and (left := programs_of(value)):
+        for number in left:
+            try:
+                os.kill(number, signal.SIGTERM if gone < LEAVES else signal.SIGKILL)
+            except OSError:
+                pass
+        time.sleep(0.05)
+
+
+def watch(pipe, path, value):
+    """Waits for the end of the pipe, and clears up where it comes before the folder is removed."""
+    while os.read(pipe, 1):
+        pass
+    until = time.monotonic() + LEAVES
+    while os.path.exists(path) and time.monotonic() < until and programs_of(value):
+        time.sleep(0.05)
+    if os.path.exists(path):
+        end_programs(value)
+        shutil.rmtree(path, ignore_errors=True)
+
+
+def watch_over(path, value):
+    """Begins to watch over a folder, before there is a thread here. What watches is no child of this process, where another one
+    takes it, and in a session of its own, so that what ends this one doesn't end it, and holds nothing that this process has open.
+    Gives what this one has to keep open."""
+    ours, end = os.pipe()
+    # (never in the place of a standard file, which others write into and hand on)
+    held = fcntl.fcntl(end, fcntl.F_DUPFD_CLOEXEC, 3)
+    os.close(end)
+    if child := os.fork():
+        os.close(ours)
+        os.waitpid(child, 0)
+        return held
+    try:
+        os.setsid()
+        if os.fork() == 0:
+            for number in signal.SIGINT, signal.SIGTERM, signal.SIGHUP:
+                signal.signal(number, signal.SIG_DFL)
+            os.chdir("/")
+            for number in {int(name) for name in os.listdir("/proc/self/fd")} - {ours}:
+                # (the one by which these are listed is closed already)
+                with contextlib.suppress(OSError):
+                    os.close(number)
+            watch(ours, path, value)
+    finally:
+        os._exit(0)
