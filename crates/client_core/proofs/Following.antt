@@ -37,7 +37,7 @@ none_taken true = All-replicate (λ c. bytes_counted c.clock.cutting ≤ 0) 33 u
 none_taken false = All-nil (λ c. bytes_counted c.clock.cutting ≤ 0)
 
 -- where clocks are kept, each command can begin
-can_ask_all : (v : Deed) → CanAsk 33 v
+pub can_ask_all : (v : Deed) → CanAsk 33 v
 can_ask_all (GetStc num) = omega arith
 can_ask_all _ = tt
 

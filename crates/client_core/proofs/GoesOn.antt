@@ -1,7 +1,7 @@
 -- What beginning and ending a command leave as it was.
-use Rattle.client_core.proofs.Imports.{◌≡◌, refl, sym, ap, subst, ◌∙◌, ℕ, ◌+◌, List, [], ◌∷◌, ◌++◌, map, length, Some, None, arith, ◌<◌, ◌≤◌, Bool, true, false, Option, nat_lt, option_map, if◌then◌else◌, All, append_assoc, append-nil, map-append, All-append, All-weaker, nat_tests, Response, Again, Command, Ending, Task, Doing, stands, through, Slots, done, Standing, Ended, Progress, with_ended, slots_after, progress_from, progress, next_event, reading_on, waits_after, standing_at, with_reply, exchanges, outcome_by, outcome_of, counter_in, HaveFollowed, resumed, reading_in, IsTaskInRange, Scripted, IfSome, IfNone, Event, Current, Call, OpenFrom, Play, ahead, behind, coming_from, coming, Core, IsLate, IsAfter, HasTaken, next_of, waits_with, none-some}
+use Rattle.client_core.proofs.Imports.{◌≡◌, refl, sym, ap, subst, ◌∙◌, ℕ, ◌+◌, List, [], ◌∷◌, ◌++◌, map, length, Some, None, arith, ◌<◌, ◌≤◌, Bool, true, false, Option, nat_lt, option_map, if◌then◌else◌, All, append_assoc, append-nil, map-append, All-append, All-weaker, nat_tests, Response, Again, Command, Ending, Task, Doing, stands, through, Slots, done, Standing, Ended, Progress, with_ended, slots_after, progress_from, progress, next_event, reading_on, waits_after, standing_at, with_reply, exchanges, outcome_by, outcome_of, counter_in, HaveFollowed, Scripted, IfSome, IfNone, Current, ahead, behind, coming_from, coming, Core, IsLate, IsAfter, HasTaken, next_of, waits_with, none-some, first, event_of, doing, Still, Through}
 use Rattle.std.proofs.lemmas.List.{length-append}
-use Rattle.client_core.specs.declared.task.Task.TheVariants.{ReadWait, Drain, Attach, Detach, Write}
+use Rattle.client_core.proofs.Steps.{are_done, step_of}
 use Rattle.client_core.proofs.Following.{exchanges_more, early_same, told_now}
 
 -- how far a client is whose next command does this
@@ -24,20 +24,19 @@ behind_one es e p = ap (λ xs. record { ended = xs; standing = p.standing }) (ap
 behind_two : (es fs : List Ended) (p : Progress) → behind (es ++ fs) p ≡ behind es (behind fs p)
 behind_two es fs p = ap (λ xs. record { ended = xs; standing = p.standing }) (append_assoc es fs p.ended)
 
-pub begun_goes_on : (slots : Slots) (step : ℕ) (left : List Command) (c : Command) (cs : List Command) (task : Task) → left ≡ c ∷ cs
-    → ((s : ℕ) (more : List Response) → done slots c.target c.deed s more ≡ resumed task s more)
-    → (more : List Response)
-    → progress_from slots step left more ≡ coming_from (Some (record { line = c.line; from = step; task = task })) step slots cs more
-begun_goes_on slots step left c cs task is does more =
-    ap (λ l. progress_from slots step l more) is ∙ first_ahead slots step c cs more ∙ ap (λ d. ahead c.line step slots cs d) (does step more)
+pub begun_goes_on : (slots : Slots) (step : ℕ) (left : List Command) (c : Command) (cs : List Command) (task : Task) → left ≡ c ∷ cs → Still task ≡ first slots c.target c.deed
+    → (more : List Response) → progress_from slots step left more ≡ coming_from (Some (record { line = c.line; from = step; task = task })) step slots cs more
+begun_goes_on slots step left c cs task is begins more =
+    ap (λ l. progress_from slots step l more) is ∙ first_ahead slots step c cs more
+    ∙ ap (λ d. ahead c.line step slots cs d) (are_done slots c.target c.deed step more ∙ ap (λ n. doing n step more) (sym begins))
 
-pub passed_goes_on : (slots : Slots) (step : ℕ) (left : List Command) (c : Command) (cs : List Command) (ending : Ending) → left ≡ c ∷ cs
-    → ((s : ℕ) (more : List Response) → done slots c.target c.deed s more ≡ through ending s more)
+pub passed_goes_on : (slots : Slots) (step : ℕ) (left : List Command) (c : Command) (cs : List Command) (ending : Ending) → left ≡ c ∷ cs → Through ending ≡ first slots c.target c.deed
     → (es : List Ended) (more : List Response)
     → behind es (progress_from slots step left more)
     ≡ behind (es ++ record { line = c.line; from = step; to = step; ending = ending } ∷ []) (progress_from (slots_after ending slots) step cs more)
-passed_goes_on slots step left c cs ending is does es more =
-    ap (λ p. behind es p) (ap (λ l. progress_from slots step l more) is ∙ first_ahead slots step c cs more ∙ ap (λ d. ahead c.line step slots cs d) (does step more))
+passed_goes_on slots step left c cs ending is begins es more =
+    ap (λ p. behind es p) (ap (λ l. progress_from slots step l more) is ∙ first_ahead slots step c cs more
+    ∙ ap (λ d. ahead c.line step slots cs d) (are_done slots c.target c.deed step more ∙ ap (λ n. doing n step more) (sym begins)))
     ∙ sym (behind_one es _ (progress_from (slots_after ending slots) step cs more))
 
 -- ------ a reply is taken
@@ -94,20 +93,6 @@ taken client script replies r c d after takes step = record {
       exchanges_more client script [] [] replies r ∙ ap (λ e. with_reply e r (exchanges client script replies)) next_is in
       subst (λ xs. HaveFollowed xs d.clocks) (sym same) (takes.followed (exchanges client script replies) after.followed)
 
--- what stands there has this step
-abbrev pub StandsAt : (step : ℕ) → Doing → Type 0
-StandsAt step d = (e : Event) × (d ≡ stands e) × (e.step ≡ step)
-
-pub task_stands : (step : ℕ) (t : Task) → StandsAt step (resumed t step [])
-task_stands step (Call node want) = (_, refl, refl)
-task_stands step (ReadWait node count) = (_, refl, refl)
-task_stands step (Drain node count) = (_, refl, refl)
-task_stands step (OpenFrom slot node) = (_, refl, refl)
-task_stands step (Attach ending node pids) = (_, refl, refl)
-task_stands step (Detach ending node) = (_, refl, refl)
-task_stands step (Write node write has) = (_, refl, refl)
-task_stands step (Play write node) = (_, refl, refl)
-
 -- either way it waits for nothing
 no_wait : (b : Bool) → ◌≡◌ {A = Option ℕ} None (if b then None else None)
 no_wait true = refl
@@ -137,32 +122,24 @@ pub none_left : (cur : Option Current) (step : ℕ) (slots : Slots) (left : List
 none_left None step slots left is ended = ap (λ l. progress_from slots step l []) ended
 none_left (Some k) step slots left is ended = absurd (none-some k (sym is))
 
-pub some_stands : (cur : Option Current) (k : Current) (step : ℕ) (slots : Slots) (left : List Command) (e : Event) → cur ≡ Some k → stands e ≡ resumed k.task step []
-    → coming_from cur step slots left [] ≡ record { ended = []; standing = Some (record { line = k.line; from = k.from; event = e }) }
-some_stands cur k step slots left e is there =
-    ap (λ c. coming_from c step slots left []) is ∙ ap (λ d. ahead k.line k.from slots left d) (sym there)
+pub some_stands : (cur : Option Current) (k : Current) (step : ℕ) (slots : Slots) (left : List Command) → cur ≡ Some k
+    → coming_from cur step slots left [] ≡ record { ended = []; standing = Some (record { line = k.line; from = k.from; event = event_of k.task step }) }
+some_stands cur k step slots left is = ap (λ c. coming_from c step slots left []) is
 
 -- a command that is begun isn't through, and neither are those behind it
 pub none_ended : (es : List Ended) (cur : Option Current) (step : ℕ) (slots : Slots) (left : List Command) → IfNone cur (left ≡ [])
     → es ≡ (behind es (coming_from cur step slots left [])).ended
 none_ended es None step slots left ended = sym (ap (λ l. (behind es (progress_from slots step l [])).ended) ended ∙ append-nil es)
-none_ended es (Some k) step slots left ended =
-    let there : StandsAt step (resumed k.task step []) = task_stands step k.task in
-    sym (ap (λ d. (behind es (ahead k.line k.from slots left d)).ended) there.1 ∙ append-nil es)
+none_ended es (Some k) step slots left ended = sym (append-nil es)
 
-pub begun_waits_not : (cur : Option Current) (step : ℕ) (slots : Slots) (left : List Command) (r : Response) → IfNone cur (left ≡ []) → IfSome cur (λ k. IsTaskInRange k.task × (k.from ≡ step))
+pub begun_waits_not : (cur : Option Current) (step : ℕ) (slots : Slots) (left : List Command) (r : Response) → IfNone cur (left ≡ []) → IfSome cur (λ k. k.from ≡ step)
     → None ≡ waits_after (coming_from cur step slots left []).standing (r ∷ [])
 begun_waits_not None step slots left r ended at = sym (ap (λ l. waits_after (progress_from slots step l []).standing (r ∷ [])) ended)
-begun_waits_not (Some k) step slots left r ended at =
-    let there : StandsAt step (resumed k.task step []) = task_stands step k.task in
-    sym (ap (λ d. waits_after (ahead k.line k.from slots left d).standing (r ∷ [])) there.1 ∙ waits_not (record { line = k.line; from = k.from; event = there.0 }) r (omega (arith, at.1, there.2)))
+begun_waits_not (Some k) step slots left r ended at = sym (waits_not (record { line = k.line; from = k.from; event = event_of k.task step }) r (omega (arith, at, step_of k.task step)))
 
-pub still_waits : (k : Current) (t : Task) (step : ℕ) (slots : Slots) (left : List Command) (r : Response) → k.from < step
-    → waits_with r (reading_in (resumed t step [])) ≡ waits_after (ahead k.line k.from slots left (resumed t step [])).standing (r ∷ [])
-still_waits k t step slots left r lt =
-    let there : StandsAt step (resumed t step []) = task_stands step t in
-    ap (λ d. waits_with r (reading_in d)) there.1
-    ∙ sym (ap (λ d. waits_after (ahead k.line k.from slots left d).standing (r ∷ [])) there.1 ∙ waits_still (record { line = k.line; from = k.from; event = there.0 }) r (omega (arith, lt, there.2)))
+pub still_waits : (k : Current) (t : Task) (step : ℕ) (r : Response) → k.from < step
+    → waits_with r (reading_on (event_of t step)) ≡ waits_after (Some (record { line = k.line; from = k.from; event = event_of t step })) (r ∷ [])
+still_waits k t step r lt = sym (waits_still (record { line = k.line; from = k.from; event = event_of t step }) r (omega (arith, lt, step_of t step)))
 
 pub none_waits : (s : Option Standing) → None ≡ waits_after s []
 none_waits None = refl

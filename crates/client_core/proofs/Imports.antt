@@ -1,37 +1,41 @@
 -- The words of others that the proofs of this crate use.
 pub use Rattle.client_core.specs.Clock.{Clock, HasFollowed, last_pcr, pcr_of, unset}
-pub use Rattle.client_core.specs.Commands.{Doing, Slots, called, commands_among, commands_in, commands_of, done, done_at, done_by_slot, done_on, ends_drain, ends_wait, once, opened, passed, plays_of, read_until, stands, through, told, written}
-pub use Rattle.client_core.specs.Deeds.{Batches, batch_at, deed_of}
+pub use Rattle.client_core.specs.Commands.{Doing, IsRequestInRange, IsRequestOf, Slots, called, commands_among, commands_in, commands_of, done, done_at, done_by_slot, done_on, ends_drain, ends_wait, once, opened, passed, plays_of, read_until, stands, through, told, written}
+pub use Rattle.client_core.specs.Deeds.{Batches, IsDeedInRange, IsDeedOf, batch_at, deed_of}
 pub use Rattle.client_core.specs.Events.{Ended, Progress, Standing, next_event, next_of_line, no_slots, progress, progress_from, reading_on, slots_after, standing_at, waits_after, waits_on, with_ended}
 pub use Rattle.client_core.specs.Inside.Clocks.{AreFew, HasFollowedNode, HaveFollowed, NodeClock, counter_in, counter_of, uncalled}
-pub use Rattle.client_core.specs.Inside.Core.{CanBegin, Core, HasTaken, IsAfter, IsCommandInRange, IsCommandOf, IsLate, IsMade, ahead, behind, coming, coming_from, next_of, one_if_some, waits_with}
+pub use Rattle.client_core.specs.Inside.Core.{CanBegin, Core, HasTaken, IsAfter, IsCommandInRange, IsCommandOf, IsLate, IsMade, IsSound, ahead, behind, coming, coming_from, next_of, one_if_some, waits_with}
 pub use Rattle.client_core.specs.Inside.More.{OneReplyMore, added_by}
-pub use Rattle.client_core.specs.Inside.Tasks.{AreSlots, CanAsk, HasClock, IsCallEnding, IsEndingInRange, IsTaskInRange, IsTaskOf, reading_in, resumed}
+pub use Rattle.client_core.specs.Inside.Tasks.{AreSlots, CanAsk, HasClock, HasNextClock, IsCallEnding, IsEndingInRange, IsNextCalling, IsNextInRange, IsNextOf, IsTaskInRange, IsTaskOf}
 pub use Rattle.client_core.specs.Outcomes.{Counters, counters_after, kind_by, outcome_by, outcome_of, stc_kind}
-pub use Rattle.client_core.specs.Passes.{WritesPass, pass_at, pass_in, passes_on, played_at, played_from, played_in, played_on}
+pub use Rattle.client_core.specs.Passes.{WritesPass, pass_at, passes_on, played_at, played_from, played_in, played_on}
 pub use Rattle.client_core.specs.PlayLaws.{AreCompleted, AreCounted, AreJoined, ArePlaced, IsPlayed, StandsAmong, packets_in, whole_by}
 pub use Rattle.client_core.specs.Plays.{HasPlayed, Playing, batch_of, cut_of, joined, most_bytes, plays, plays_from, unplayed, with_write}
 pub use Rattle.client_core.specs.Repeats.{CallsAreFew, repeated, repeats_at, repeats_from, repeats_in, repeats_on}
 pub use Rattle.client_core.specs.Stc.{Exchange, bytes_after, bytes_read, exchanges, exchanges_after, filter_type, is_counter, stc, type_after, with_reply}
+pub use Rattle.client_core.specs.Steps.{StepsAreDone, after, doing, event_of, first, first_at, first_by_slot, first_on, telling}
 pub use Rattle.client_core.specs.declared.command.Command.{Command}
 pub use Rattle.client_core.specs.declared.current.Current.{Current}
-pub use Rattle.client_core.specs.declared.deed.Deed.{Deed}
 pub use Rattle.client_core.specs.declared.deed.Deed.TheVariants.{Drain, GetStc, Once, ReadWait, Write}
+pub use Rattle.client_core.specs.declared.deed.Deed.{Deed}
 pub use Rattle.client_core.specs.declared.event.Event.{Event}
+pub use Rattle.client_core.specs.declared.event.Request.TheVariants.{Attach, Detach, Own}
 pub use Rattle.client_core.specs.declared.event.Request.{Request}
-pub use Rattle.client_core.specs.declared.event.Request.TheVariants.{Attach, Detach, Own, Pass}
-pub use Rattle.client_core.specs.declared.task.Ending.{Ending}
 pub use Rattle.client_core.specs.declared.task.Ending.TheVariants.{AllBusy, Asked, Bound, Made, NoNode}
-pub use Rattle.client_core.specs.declared.task.Task.{Task}
+pub use Rattle.client_core.specs.declared.task.Ending.{Ending}
+pub use Rattle.client_core.specs.declared.task.Next.TheVariants.{Still, Through}
+pub use Rattle.client_core.specs.declared.task.Next.{Next}
 pub use Rattle.client_core.specs.declared.task.Task.TheVariants.{Call, OpenFrom, Play}
-pub use Rattle.client_script.specs.Grammar.{IsInRange, IsTargetInRange}
+pub use Rattle.client_core.specs.declared.task.Task.{Task}
+pub use Rattle.client_script.specs.Grammar.{IsInRange, IsTargetInRange, IsVerbInRange, IsWantInRange}
 pub use Rattle.client_script.specs.Script.{HasVerb, HasWrite, Scripted, writes_of}
-pub use Rattle.client_script.specs.declared.line.Line.{Line}
 pub use Rattle.client_script.specs.declared.line.Line.TheVariants.{Command as CommandLine, Feed, Tick}
-pub use Rattle.client_script.specs.declared.line.Target.{Target}
+pub use Rattle.client_script.specs.declared.line.Line.{Line}
 pub use Rattle.client_script.specs.declared.line.Target.TheVariants.{Dvr, Node, Slot}
+pub use Rattle.client_script.specs.declared.line.Target.{Target}
+pub use Rattle.client_script.specs.declared.line.Verb.{Verb}
+pub use Rattle.client_script.specs.declared.line.Want.TheVariants.{Open, Read}
 pub use Rattle.client_script.specs.declared.line.Want.{Want}
-pub use Rattle.client_script.specs.declared.line.Want.TheVariants.{Add, Close, Open, Pes, Poll, Read, Remove, Section, Size, Start, Stop}
 pub use Rattle.dmx_calls.specs.Calls.{response_of}
 pub use Rattle.dmx_calls.specs.Response.{Again, Busy, Done, Ready, Response, TapChange}
 pub use Rattle.dmx_calls.specs.declared.limits.TheConstants.{DEMUX_NODES}
@@ -40,11 +44,11 @@ pub use Rattle.dmx_calls.specs.declared.reply.Tap.TheVariants.{Attach as AttachT
 pub use Rattle.lemmas.proofs.Options.{same_some}
 pub use Rattle.std.proofs.Common.{Bool, List, None, Option, Some, [], ap, arith, drop, false, inl, inr, length, length-append, map, nat_eq, refl, replicate, rules, subst, suc, sym, take, true, vec_capacity, zero, ℕ, ◌*◌, ◌++◌, ◌+◌, ◌-◌, ◌<◌, ◌∙◌, ◌∷◌, ◌≡◌, ◌≢◌, ◌≤◌, ◌⊎◌}
 pub use Rattle.std.proofs.Math.Seq.{drop-append-add, drop-append_seam, take-add, take-append_seam, take-length}
-pub use Rattle.std.proofs.lemmas.Bool.{cases_lt}
 pub use Rattle.std.proofs.lemmas.Bool.Decides.{nat_tests}
+pub use Rattle.std.proofs.lemmas.Bool.{cases_lt}
 pub use Rattle.std.proofs.lemmas.Grind.{common_steps, flat_map-append}
-pub use Rattle.std.proofs.lemmas.List.{append-nil, append_assoc, drop-drop, get_or-set_other, get_or-set_same, get_or_default, length-drop, length-set, length-take-le, map-append, take-append-drop, take-append-le, take_all}
 pub use Rattle.std.proofs.lemmas.List.Elements.{All-append, All-cons, All-get_or, All-head, All-more, All-nil, All-replicate, All-set, All-tail, All-weaker}
+pub use Rattle.std.proofs.lemmas.List.{append-nil, append_assoc, drop-drop, get_or-set_other, get_or-set_same, get_or_default, length-drop, length-set, length-take-le, map-append, take-append-drop, take-append-le, take_all}
 pub use Rattle.std.proofs.lemmas.Option.{none-some, slice_get-get_or}
 pub use Rattle.std.specs.List.{All, flat_map}
 pub use Rattle.std.specs.Option.{IfNone, IfSome, option_and_then, option_or}
@@ -56,5 +60,5 @@ pub use Rattle.ts_packet.specs.Cut.{Cut, join, only_rest}
 pub use Rattle.ts_packet.specs.Cutting.{Cuts, Cutting, IsRest, bytes_counted, fresh}
 pub use Rattle.ts_packet.specs.Fields.{IsPacket}
 pub use Rattle.ts_packet.specs.Pieces.{IsPiece, Piece, bytes_of, packet, packets_of, skipped}
-pub use Rattle.ts_packet.specs.declared.size.PacketSize.{PacketSize}
 pub use Rattle.ts_packet.specs.declared.size.PacketSize.TheVariants.{Of188}
+pub use Rattle.ts_packet.specs.declared.size.PacketSize.{PacketSize}

@@ -1,3 +1,4 @@
+pub mod Steps
 pub mod GoesOn
 pub mod FirstCalls
 pub mod Following

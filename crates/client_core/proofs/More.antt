@@ -1,141 +1,150 @@
 -- One reply more repeats at most one read more.
-use Rattle.client_core.proofs.Imports.{◌≡◌, refl, sym, ap, subst, ◌∙◌, ℕ, ◌+◌, ◌<◌, ◌≤◌, Bool, true, false, List, [], ◌∷◌, ◌++◌, Option, Some, None, arith, nat_lt, if◌then◌else◌, slice_index_or, option_map, DEMUX_NODES, KeepTap, AttachTap, DetachTap, Response, Done, Busy, Again, Ready, TapChange, Target, Node, Slot, Dvr, Deed, Once, ReadWait, Drain, GetStc, Write, Want, Open, Command, Event, Request, Own, Ending, Made, Bound, AllBusy, Slots, Doing, stands, through, once, told, called, opened, passed, written, read_until, done_on, done_at, done_by_slot, done, ends_wait, ends_drain, commands_of, Standing, slots_after, progress_from, no_slots, reading_on, waits_after, repeated, repeats_on, repeats_at, repeats_in, repeats_from, waits_with, added_by, OneReplyMore, none-some, same_some}
+use Rattle.client_core.proofs.Imports.{◌⊎◌, inl, inr, Task, Call, OpenFrom, Play, ◌≡◌, refl, sym, ap, subst, ◌∙◌, ℕ, ◌+◌, ◌<◌, ◌≤◌, Bool, true, false, List, [], ◌∷◌, ◌++◌, Option, Some, None, arith, nat_lt, if◌then◌else◌, slice_index_or, option_map, DEMUX_NODES, KeepTap, AttachTap, DetachTap, Response, Done, Busy, Again, Ready, TapChange, Target, Node, Slot, Dvr, Deed, Once, ReadWait, Drain, GetStc, Write, Open, Command, Event, Request, Ending, Made, Bound, AllBusy, Slots, Doing, stands, through, once, done, ends_wait, ends_drain, commands_of, Standing, slots_after, progress_from, no_slots, reading_on, waits_after, repeated, repeats_on, repeats_at, repeats_in, repeats_from, waits_with, added_by, OneReplyMore, none-some, same_some, first_on, first_at, first_by_slot, first, event_of, telling, after, doing, Next, Still, Through}
 use Rattle.client_core.specs.Events.{progress}
 use Rattle.client_core.specs.Repeats.{repeats}
 use Rattle.client_core.proofs.GoesOn.{progress_of, last_counts, waits_still}
+use Rattle.client_core.proofs.Steps.{by_steps, if_next, step_of}
+use Rattle.client_core.specs.declared.task.Task.TheVariants as task
 
--- A command with one reply more: where it was through, it leaves this reply too. Where it stood, it stands at a later step, or is through, and then no read is repeated, as where what stands there is no read. So many reads are repeated before and after.
+-- A command with one reply more: where it was through, it leaves this reply too. Where it stood, it stands at a later step, or is through, and then no read is repeated, as where what stands there is no read; and a read that is repeated stays on its node. So many reads are repeated before and after.
 abbrev pub Onward : (step : ℕ) → Response → (before after : ℕ) → Doing → Doing → Type 0
 Onward step r m n (through ending next left) d = (d ≡ through ending next (left ++ r ∷ [])) × (n ≡ m)
-Onward step r m n (stands e) (stands f) = (step < f.step) × (n ≤ m + added_by e.want r) × (reading_on f ≡ None → n ≤ m)
+Onward step r m n (stands e) (stands f) = (step < f.step) × (n ≤ m + added_by e.want r) × (reading_on f ≡ None → n ≤ m) × (m < n → f.node ≡ e.node)
 Onward step r m n (stands e) (through ending next left) = (left ≡ []) × (n ≤ m)
 
--- from an earlier step
-earlier : (step later : ℕ) (r : Response) (m n : ℕ) (d f : Doing) → step ≤ later → Onward later r m n d f → Onward step r m n d f
-earlier step later r m n (through ending next left) f le on = on
-earlier step later r m n (stands e) (stands f) le on = (omega (arith, le, on.0), on.1, on.2)
-earlier step later r m n (stands e) (through ending next left) le on = on
+-- one step before, after which so many more are repeated
+earlier : (step k : ℕ) (r : Response) (m n : ℕ) (d f : Doing) → Onward (step + 1) r m n d f → Onward step r (k + m) (k + n) d f
+earlier step k r m n (through ending next left) f on = (on.0, ap (λ x. k + x) on.1)
+earlier step k r m n (stands e) (stands f) on = (omega (arith, on.0), omega (arith, on.1), λ none. omega (arith, on.2 none), λ more. on.3 (omega (arith, more)))
+earlier step k r m n (stands e) (through ending next left) on = (on.0, omega (arith, on.1))
 
--- one more before
-both_more : (step : ℕ) (r : Response) (m n : ℕ) (d f : Doing) → Onward step r m n d f → Onward step r (1 + m) (1 + n) d f
-both_more step r m n (through ending next left) f on = (on.0, ap (λ k. 1 + k) on.1)
-both_more step r m n (stands e) (stands f) on = (on.0, omega (arith, on.1), λ none. omega (arith, on.2 none))
-both_more step r m n (stands e) (through ending next left) on = (on.0, omega (arith, on.1))
+-- ------ how often a command repeats a read
 
-if_on : (b : Bool) (step : ℕ) (r : Response) (m n : ℕ) (c d f g : Doing) → Onward step r m n c f → Onward step r m n d g → Onward step r m n (if b then c else d) (if b then f else g)
-if_on true step r m n c d f g x y = x
-if_on false step r m n c d f g x y = y
+-- once, where the task is a read, and goes on after this reply
+abbrev pub again : Task → Response → ℕ
+again (task.ReadWait node count) r = if ends_wait r then 0 else 1
+again (task.Drain node count) r = if ends_drain r then 0 else 1
+again _ r = 0
 
-if_after : (b : Bool) (step : ℕ) (r : Response) (m n : ℕ) (c f g : Doing) → Onward step r m n c f → Onward step r m n c g → Onward step r m n c (if b then f else g)
-if_after true step r m n c f g x y = x
-if_after false step r m n c f g x y = y
+-- by these replies
+abbrev pub repeats_by : Next → List Response → ℕ
+repeats_by (Through ending) rs = 0
+repeats_by (Still t) [] = 0
+repeats_by (Still t) (r ∷ rs) = again t r + repeats_by (after t r) rs
 
--- ------ one call
+none_yet : (n : Next) → repeats_by n [] ≡ 0
+none_yet (Through ending) = refl
+none_yet (Still t) = refl
 
-once_on : (ending : Ending) (node : ℕ) (w : Request) (step : ℕ) (rs : List Response) (r : Response) → Onward step r 0 0 (once ending node w step rs) (once ending node w step (rs ++ r ∷ []))
-once_on ending node w step [] r = (refl, omega arith)
-once_on ending node w step (q ∷ rs) r = (refl, refl)
+-- none is repeated from here on: it doesn't read until a reply ends it
+abbrev IsQuiet : Next → Type 0
+IsQuiet (Still (task.ReadWait node count)) = ⊥
+IsQuiet (Still (task.Drain node count)) = ⊥
+IsQuiet _ = Unit {0}
 
-told_on : (ending : Ending) (node : ℕ) (tap : TapChange) (step : ℕ) (rs : List Response) (r : Response) → Onward step r 0 0 (told ending node tap step rs) (told ending node tap step (rs ++ r ∷ []))
-told_on ending node KeepTap step rs r = (refl, refl)
-told_on ending node (AttachTap pids) step rs r = once_on ending DEMUX_NODES _ step rs r
-told_on ending node DetachTap step rs r = once_on ending DEMUX_NODES _ step rs r
+telling_quiet : (ending : Ending) (node : ℕ) (tap : TapChange) → IsQuiet (telling ending node tap)
+telling_quiet ending node KeepTap = tt
+telling_quiet ending node (AttachTap pids) = tt
+telling_quiet ending node DetachTap = tt
 
--- after the call that stood there
-told_after : (e : Event) (ending : Ending) (node : ℕ) (tap : TapChange) (step : ℕ) (r : Response) → Onward step r 0 0 (stands e) (told ending node tap (step + 1) [])
-told_after e ending node KeepTap step r = (refl, omega arith)
-told_after e ending node (AttachTap pids) step r = (omega arith, omega arith, λ none. omega arith)
-told_after e ending node DetachTap step r = (omega arith, omega arith, λ none. omega arith)
+next_quiet : (t : Task) (r : Response) → IsQuiet (Still t) → (again t r ≡ 0) × IsQuiet (after t r)
+next_quiet (Call node want) (Done from to tap) is = (refl, if_next IsQuiet (nat_lt node DEMUX_NODES) (telling Made node tap) (Through Made) (λ yes. telling_quiet Made node tap) tt)
+next_quiet (Call node want) _ is = (refl, tt)
+next_quiet (task.ReadWait node count) r is = absurd is
+next_quiet (task.Drain node count) r is = absurd is
+next_quiet (OpenFrom slot node) (Busy owner) is = (refl, if_next IsQuiet (nat_lt (node + 1) DEMUX_NODES) (Still (OpenFrom slot (node + 1))) (Through AllBusy) (λ yes. tt) tt)
+next_quiet (OpenFrom slot node) (Done from to tap) is = (refl, telling_quiet (Bound slot node) node tap)
+next_quiet (OpenFrom slot node) _ is = (refl, tt)
+next_quiet (task.Attach ending node pids) r is = (refl, tt)
+next_quiet (task.Detach ending node) r is = (refl, tt)
+next_quiet (task.Write node write has) (Ready readable error at ended) is = (refl, if_next IsQuiet has (Still (Play write 0)) (Through Made) (λ yes. tt) tt)
+next_quiet (task.Write node write has) _ is = (refl, tt)
+next_quiet (Play write node) r is = (refl, if_next IsQuiet (nat_lt (node + 1) DEMUX_NODES) (Still (Play write (node + 1))) (Through Made) (λ yes. tt) tt)
 
-called_on : (node : ℕ) (w : Want) (step : ℕ) (rs : List Response) (r : Response) → Onward step r 0 0 (called node w step rs) (called node w step (rs ++ r ∷ []))
-called_on node w step [] (Done from to tap) =
-    if_after (nat_lt node DEMUX_NODES) step (Done from to tap) 0 0 (stands (record { step = step; node = node; want = Own w })) (told Made node tap (step + 1) []) (through Made (step + 1) []) (told_after (record { step = step; node = node; want = Own w }) Made node tap step (Done from to tap)) (refl, omega arith)
-called_on node w step [] _ = (refl, omega arith)
-called_on node w step (Done from to tap ∷ rs) r =
-    if_on (nat_lt node DEMUX_NODES) step r 0 0 (told Made node tap (step + 1) rs) (through Made (step + 1) rs) (told Made node tap (step + 1) (rs ++ r ∷ [])) (through Made (step + 1) (rs ++ r ∷ []))
-    (earlier step (step + 1) r 0 0 (told Made node tap (step + 1) rs) (told Made node tap (step + 1) (rs ++ r ∷ [])) (omega arith) (told_on Made node tap (step + 1) rs r)) (refl, refl)
-called_on node w step (_ ∷ rs) r = (refl, refl)
+quiet : (n : Next) (rs : List Response) → IsQuiet n → 0 ≡ repeats_by n rs
+quiet (Through ending) rs is = refl
+quiet (Still t) [] is = refl
+quiet (Still t) (r ∷ rs) is = let next = next_quiet t r is in omega (arith, next.0, quiet (after t r) rs next.1)
 
--- ------ an open of a slot
+-- a read that is repeated until a reply ends it
+reads : (ends : Response → Bool) (t : Task) → ((r : Response) → again t r ≡ (if ends r then 0 else 1)) → ((r : Response) → after t r ≡ (if ends r then Through Made else Still t))
+    → (rs : List Response) → repeated ends rs ≡ repeats_by (Still t) rs
+reads ends t once next [] = refl
+reads ends t once next (r ∷ rs) = go (ends r) ∙ ap (λ k. k + repeats_by (if ends r then Through Made else Still t) rs) (sym (once r)) ∙ ap (λ n. again t r + repeats_by n rs) (sym (next r)) where
+  go : (b : Bool) → (if b then 0 else 1 + repeated ends rs) ≡ (if b then 0 else 1) + repeats_by (if b then Through Made else Still t) rs
+  go true = refl
+  go false = ap (λ k. 1 + k) (reads ends t once next rs)
 
-opened_on : (slot node step : ℕ) (rs : List Response) (r : Response) → Onward step r 0 0 (opened slot node step rs) (opened slot node step (rs ++ r ∷ []))
-opened_on slot node step [] (Busy x) =
-    if_after (nat_lt (node + 1) DEMUX_NODES) step (Busy x) 0 0 (opened slot node step []) (opened slot (node + 1) (step + 1) []) (through AllBusy (step + 1) []) (omega arith, omega arith, λ none. omega arith) (refl, omega arith)
-opened_on slot node step [] (Done from to tap) = told_after (record { step = step; node = node; want = Own Open }) (Bound slot node) node tap step (Done from to tap)
-opened_on slot node step [] _ = (refl, omega arith)
-opened_on slot node step (Busy x ∷ rs) r =
-    if_on (nat_lt (node + 1) DEMUX_NODES) step r 0 0 (opened slot (node + 1) (step + 1) rs) (through AllBusy (step + 1) rs) (opened slot (node + 1) (step + 1) (rs ++ r ∷ [])) (through AllBusy (step + 1) (rs ++ r ∷ []))
-    (earlier step (step + 1) r 0 0 (opened slot (node + 1) (step + 1) rs) (opened slot (node + 1) (step + 1) (rs ++ r ∷ [])) (omega arith) (opened_on slot (node + 1) (step + 1) rs r)) (refl, refl)
-opened_on slot node step (Done from to tap ∷ rs) r =
-    earlier step (step + 1) r 0 0 (told (Bound slot node) node tap (step + 1) rs) (told (Bound slot node) node tap (step + 1) (rs ++ r ∷ [])) (omega arith) (told_on (Bound slot node) node tap (step + 1) rs r)
-opened_on slot node step (_ ∷ rs) r = (refl, refl)
+-- the definition counts the same
+on_counts : (node : ℕ) (v : Deed) (rs : List Response) → repeats_on v rs ≡ repeats_by (first_on node v) rs
+on_counts node (ReadWait count) rs = reads ends_wait (task.ReadWait node count) (λ r. refl) (λ r. refl) rs
+on_counts node (Drain count) rs = reads ends_drain (task.Drain node count) (λ r. refl) (λ r. refl) rs
+on_counts node (Once w) rs = quiet (Still (Call node w)) rs tt
+on_counts node (GetStc num) rs = refl
+on_counts node (Write write has) rs = quiet (Still (task.Write node write has)) rs tt
 
--- ------ a write
+at_counts : (o : Option ℕ) (v : Deed) (rs : List Response) → repeats_at o v rs ≡ repeats_by (first_at o v) rs
+at_counts None v rs = refl
+at_counts (Some node) v rs = on_counts node v rs
 
-passed_on : (write node step : ℕ) (rs : List Response) (r : Response) → Onward step r 0 0 (passed write node step rs) (passed write node step (rs ++ r ∷ []))
-passed_on write node step [] r =
-    if_after (nat_lt (node + 1) DEMUX_NODES) step r 0 0 (passed write node step []) (passed write (node + 1) (step + 1) []) (through Made (step + 1) []) (omega arith, omega arith, λ none. omega arith) (refl, omega arith)
-passed_on write node step (q ∷ rs) r =
-    if_on (nat_lt (node + 1) DEMUX_NODES) step r 0 0 (passed write (node + 1) (step + 1) rs) (through Made (step + 1) rs) (passed write (node + 1) (step + 1) (rs ++ r ∷ [])) (through Made (step + 1) (rs ++ r ∷ []))
-    (earlier step (step + 1) r 0 0 (passed write (node + 1) (step + 1) rs) (passed write (node + 1) (step + 1) (rs ++ r ∷ [])) (omega arith) (passed_on write (node + 1) (step + 1) rs r)) (refl, refl)
+open_counts : (o : Option ℕ) (slot : ℕ) (rs : List Response) → repeats_at o (Once Open) rs ≡ repeats_by (Still (OpenFrom slot 0)) rs
+open_counts None slot rs = quiet (Still (OpenFrom slot 0)) rs tt
+open_counts (Some node) slot rs = quiet (Still (OpenFrom slot 0)) rs tt
 
-written_on : (node write : ℕ) (has : Bool) (step : ℕ) (rs : List Response) (r : Response) → Onward step r 0 0 (written node write has step rs) (written node write has step (rs ++ r ∷ []))
-written_on node write has step [] (Ready a b c d) =
-    if_after has step (Ready a b c d) 0 0 (written node write has step []) (passed write 0 (step + 1) []) (through Made (step + 1) []) (omega arith, omega arith, λ none. omega arith) (refl, omega arith)
-written_on node write has step [] _ = (refl, omega arith)
-written_on node write has step (Ready a b c d ∷ rs) r =
-    if_on has step r 0 0 (passed write 0 (step + 1) rs) (through Made (step + 1) rs) (passed write 0 (step + 1) (rs ++ r ∷ [])) (through Made (step + 1) (rs ++ r ∷ []))
-    (earlier step (step + 1) r 0 0 (passed write 0 (step + 1) rs) (passed write 0 (step + 1) (rs ++ r ∷ [])) (omega arith) (passed_on write 0 (step + 1) rs r)) (refl, refl)
-written_on node write has step (_ ∷ rs) r = (refl, refl)
+slot_counts : (slot : ℕ) (slots : Slots) (v : Deed) (rs : List Response) → repeats_at (slice_index_or slots slot None) v rs ≡ repeats_by (first_by_slot slot slots v) rs
+slot_counts slot slots (Once Open) rs = open_counts (slice_index_or slots slot None) slot rs
+slot_counts slot slots v rs = at_counts (slice_index_or slots slot None) v rs
 
--- ------ a read that is repeated
+pub counts : (slots : Slots) (t : Target) (v : Deed) (rs : List Response) → repeats_in slots t v rs ≡ repeats_by (first slots t v) rs
+counts slots (Node node) v rs = on_counts node v rs
+counts slots (Slot slot) v rs = slot_counts slot slots v rs
+counts slots Dvr v rs = on_counts DEMUX_NODES v rs
 
-read_on : (ends : Response → Bool) → ((q : Response) → ends q ≡ false → ends_drain q ≡ false) → (node count step : ℕ) (rs : List Response) (r : Response)
-    → Onward step r (repeated ends rs) (repeated ends (rs ++ r ∷ [])) (read_until ends node count step rs) (read_until ends node count step (rs ++ r ∷ []))
-read_on ends sooner node count step [] r = go (ends r) refl where
-  go : (b : Bool) → ends r ≡ b → Onward step r 0 (if b then 0 else 1 + 0) (read_until ends node count step []) (if b then through Made (step + 1) [] else read_until ends node count (step + 1) [])
-  go true yea = (refl, omega arith)
-  go false nay = (omega arith, rw (sooner r nay) (omega arith), λ none. absurd (none-some node (sym none)))
-read_on ends sooner node count step (q ∷ rs) r = go (ends q) (read_on ends sooner node count (step + 1) rs r) where
-  go : (b : Bool) → Onward (step + 1) r (repeated ends rs) (repeated ends (rs ++ r ∷ [])) (read_until ends node count (step + 1) rs) (read_until ends node count (step + 1) (rs ++ r ∷ []))
-      → Onward step r (if b then 0 else 1 + repeated ends rs) (if b then 0 else 1 + repeated ends (rs ++ r ∷ [])) (if b then through Made (step + 1) rs else read_until ends node count (step + 1) rs)
-      (if b then through Made (step + 1) (rs ++ r ∷ []) else read_until ends node count (step + 1) (rs ++ r ∷ []))
-  go true on = (refl, refl)
-  go false on =
-      earlier step (step + 1) r (1 + repeated ends rs) (1 + repeated ends (rs ++ r ∷ [])) (read_until ends node count (step + 1) rs) (read_until ends node count (step + 1) (rs ++ r ∷ [])) (omega arith)
-      (both_more (step + 1) r (repeated ends rs) (repeated ends (rs ++ r ∷ [])) (read_until ends node count (step + 1) rs) (read_until ends node count (step + 1) (rs ++ r ∷ [])) on)
+-- ------ one reply more
 
-wait_sooner : (q : Response) → ends_wait q ≡ false → ends_drain q ≡ false
-wait_sooner (Again false) is = refl
-wait_sooner _ is = absurd (cc)
+-- a task repeats nothing by this reply, or is a read that goes on, on its node
+abbrev MayRepeat : Task → Response → Next → Type 0
+MayRepeat t r n = (again t r ≡ 0) ⊎ ((n ≡ Still t) × ((node : ℕ) × ((step : ℕ) → (reading_on (event_of t step) ≡ Some node) × ((event_of t step).node ≡ node))))
 
--- ------ a command
+may_repeat : (t : Task) (step : ℕ) (r : Response) → MayRepeat t r (after t r) × (again t r ≤ added_by (event_of t step).want r)
+may_repeat (task.ReadWait node count) step (Again false) = (inr (refl, (node, λ k. (refl, refl))), omega arith)
+may_repeat (task.ReadWait node count) step _ = (inl refl, omega arith)
+may_repeat (task.Drain node count) step r = (go (ends_drain r), omega arith) where
+  go : (b : Bool) → ((if b then 0 else 1) ≡ 0) ⊎ (((if b then Through Made else Still (task.Drain node count)) ≡ Still (task.Drain node count)) × ((on : ℕ) × ((k : ℕ) → (reading_on (event_of (task.Drain node count) k) ≡ Some on) × ((event_of (task.Drain node count) k).node ≡ on))))
+  go true = inl refl
+  go false = inr (refl, (node, λ k. (refl, refl)))
+may_repeat _ step r = (inl refl, omega arith)
 
-on_on : (node : ℕ) (v : Deed) (step : ℕ) (rs : List Response) (r : Response) → Onward step r (repeats_on v rs) (repeats_on v (rs ++ r ∷ [])) (done_on node v step rs) (done_on node v step (rs ++ r ∷ []))
-on_on node (ReadWait count) step rs r = read_on ends_wait wait_sooner node count step rs r
-on_on node (Drain count) step rs r = read_on ends_drain (λ q is. is) node count step rs r
-on_on node (Once w) step rs r = called_on node w step rs r
-on_on node (GetStc num) step rs r = (refl, refl)
-on_on node (Write write has) step rs r = written_on node write has step rs r
+one_more : (t : Task) (step : ℕ) (r : Response) → Onward step r 0 (again t r + repeats_by (after t r) []) (stands (event_of t step)) (doing (after t r) (step + 1) [])
+one_more t step r = let may = may_repeat t step r in go (after t r) may.0 may.1 where
+  go : (n : Next) → MayRepeat t r n → again t r ≤ added_by (event_of t step).want r → Onward step r 0 (again t r + repeats_by n []) (stands (event_of t step)) (doing n (step + 1) [])
+  go (Through ending) (inl none) le = (refl, omega (arith, none))
+  go (Through ending) (inr goes) le = absurd (cc goes.0)
+  go (Still u) (inl none) le = (omega (arith, step_of u (step + 1)), omega (arith, le), λ quiet. omega (arith, none), λ more. absurd (omega (arith, none, more)))
+  go (Still u) (inr goes) le =
+      let same : u ≡ t = cc goes.0 in
+      let there = goes.1.1 (step + 1) in (
+        omega (arith, step_of u (step + 1)),
+        omega (arith, le),
+        λ none. absurd (none-some goes.1.0 (sym none ∙ (ap (λ (x : Task). reading_on (event_of x (step + 1))) same ∙ there.0))),
+        λ more. ap (λ (x : Task). (event_of x (step + 1)).node) same ∙ (there.1 ∙ sym (goes.1.1 step).1),
+      )
 
-at_on : (o : Option ℕ) (v : Deed) (step : ℕ) (rs : List Response) (r : Response) → Onward step r (repeats_at o v rs) (repeats_at o v (rs ++ r ∷ [])) (done_at o v step rs) (done_at o v step (rs ++ r ∷ []))
-at_on None v step rs r = (refl, refl)
-at_on (Some node) v step rs r = on_on node v step rs r
-
-open_slot_on : (o : Option ℕ) (slot step : ℕ) (rs : List Response) (r : Response) → Onward step r (repeats_at o (Once Open) rs) (repeats_at o (Once Open) (rs ++ r ∷ [])) (opened slot 0 step rs) (opened slot 0 step (rs ++ r ∷ []))
-open_slot_on None slot step rs r = opened_on slot 0 step rs r
-open_slot_on (Some node) slot step rs r = opened_on slot 0 step rs r
-
-slot_on : (slot : ℕ) (slots : Slots) (v : Deed) (step : ℕ) (rs : List Response) (r : Response)
-    → Onward step r (repeats_at (slice_index_or slots slot None) v rs) (repeats_at (slice_index_or slots slot None) v (rs ++ r ∷ [])) (done_by_slot slot slots v step rs) (done_by_slot slot slots v step (rs ++ r ∷ []))
-slot_on slot slots (Once Open) step rs r = open_slot_on (slice_index_or slots slot None) slot step rs r
-slot_on slot slots v step rs r = at_on (slice_index_or slots slot None) v step rs r
+doing_more : (n : Next) (step : ℕ) (rs : List Response) (r : Response) → Onward step r (repeats_by n rs) (repeats_by n (rs ++ r ∷ [])) (doing n step rs) (doing n step (rs ++ r ∷ []))
+doing_more (Through ending) step rs r = (refl, refl)
+doing_more (Still t) step [] r = one_more t step r
+doing_more (Still t) step (q ∷ rs) r =
+    earlier step (again t q) r (repeats_by (after t q) rs) (repeats_by (after t q) (rs ++ r ∷ [])) (doing (after t q) (step + 1) rs) (doing (after t q) (step + 1) (rs ++ r ∷ [])) (doing_more (after t q) (step + 1) rs r)
 
 pub done_on_more : (slots : Slots) (t : Target) (v : Deed) (step : ℕ) (rs : List Response) (r : Response)
     → Onward step r (repeats_in slots t v rs) (repeats_in slots t v (rs ++ r ∷ [])) (done slots t v step rs) (done slots t v step (rs ++ r ∷ []))
-done_on_more slots (Node node) v step rs r = on_on node v step rs r
-done_on_more slots (Slot slot) v step rs r = slot_on slot slots v step rs r
-done_on_more slots Dvr v step rs r = on_on DEMUX_NODES v step rs r
+done_on_more slots t v step rs r =
+    let n : Next = first slots t v in
+    let now : List Response = rs ++ r ∷ [] in
+    by_steps (λ d. Onward step r (repeats_in slots t v rs) (repeats_in slots t v now) d (done slots t v step now)) slots t v step rs
+    (by_steps (λ f. Onward step r (repeats_in slots t v rs) (repeats_in slots t v now) (doing n step rs) f) slots t v step now
+    (subst (λ k. Onward step r k (repeats_in slots t v now) (doing n step rs) (doing n step now)) (sym (counts slots t v rs))
+    (subst (λ k. Onward step r (repeats_by n rs) k (doing n step rs) (doing n step now)) (sym (counts slots t v now)) (doing_more n step rs r))))
 
 -- ------ without replies nothing is repeated
 
@@ -144,29 +153,12 @@ abbrev pub IsFirst : (step : ℕ) → Doing → Type 0
 IsFirst step (stands e) = e.step ≡ step
 IsFirst step (through ending next left) = left ≡ []
 
-on_none : (node : ℕ) (v : Deed) (step : ℕ) → IsFirst step (done_on node v step []) × (repeats_on v [] ≡ 0)
-on_none node (ReadWait count) step = (refl, refl)
-on_none node (Drain count) step = (refl, refl)
-on_none node (Once w) step = (refl, refl)
-on_none node (GetStc num) step = (refl, refl)
-on_none node (Write write has) step = (refl, refl)
-
-at_none : (o : Option ℕ) (v : Deed) (step : ℕ) → IsFirst step (done_at o v step []) × (repeats_at o v [] ≡ 0)
-at_none None v step = (refl, refl)
-at_none (Some node) v step = on_none node v step
-
-open_none : (o : Option ℕ) → repeats_at o (Once Open) [] ≡ 0
-open_none None = refl
-open_none (Some node) = refl
-
-slot_none : (slot : ℕ) (slots : Slots) (v : Deed) (step : ℕ) → IsFirst step (done_by_slot slot slots v step []) × (repeats_at (slice_index_or slots slot None) v [] ≡ 0)
-slot_none slot slots (Once Open) step = (refl, open_none (slice_index_or slots slot None))
-slot_none slot slots v step = at_none (slice_index_or slots slot None) v step
+first_none : (n : Next) (step : ℕ) → IsFirst step (doing n step [])
+first_none (Through ending) step = refl
+first_none (Still t) step = step_of t step
 
 pub done_none : (slots : Slots) (t : Target) (v : Deed) (step : ℕ) → IsFirst step (done slots t v step []) × (repeats_in slots t v [] ≡ 0)
-done_none slots (Node node) v step = on_none node v step
-done_none slots (Slot slot) v step = slot_none slot slots v step
-done_none slots Dvr v step = on_none DEMUX_NODES v step
+done_none slots t v step = (by_steps (IsFirst step) slots t v step [] (first_none (first slots t v) step), counts slots t v [] ∙ none_yet (first slots t v))
 
 pub repeats_none : (slots : Slots) (step : ℕ) (cs : List Command) → repeats_from slots step cs [] ≡ 0
 repeats_none slots step [] = refl

@@ -1,155 +1,99 @@
 -- A client's calls are numbered, and are made on one of the 33 nodes; a command that is through stays through.
-use Rattle.client_core.proofs.Imports.{◌≡◌, refl, sym, ap, subst, ◌∙◌, ℕ, zero, suc, ◌+◌, ◌<◌, ◌≤◌, Bool, true, false, nat_eq, List, [], ◌∷◌, ◌++◌, Option, Some, None, length, replicate, arith, nat_lt, if◌then◌else◌, slice_index_or, IfSome, All, All-nil, All-cons, All-head, All-tail, All-set, nat_tests, DEMUX_NODES, KeepTap, AttachTap, DetachTap, Response, Done, Busy, Ready, TapChange, IsTargetInRange, IsInRange, Scripted, Line, Feed, Tick, CommandLine, Target, Node, Slot, Dvr, Deed, Once, ReadWait, Drain, GetStc, Write, Want, Open, Command, Event, Request, Ending, Made, Bound, AllBusy, NoNode, Asked, Slots, Doing, stands, through, once, told, called, opened, passed, written, read_until, done_on, done_at, done_by_slot, done, ends_wait, ends_drain, commands_in, commands_among, commands_of, plays_of, Batches, deed_of, Standing, slots_after, progress_from, no_slots, next_event, standing_at, IsEndingInRange, AreSlots, repeats_in, none-some, same_some}
+use Rattle.client_core.proofs.Imports.{◌≡◌, refl, sym, ap, subst, ◌∙◌, ℕ, ◌+◌, ◌<◌, ◌≤◌, Bool, true, false, nat_eq, List, [], ◌∷◌, ◌++◌, Option, Some, None, length, replicate, arith, if◌then◌else◌, IfSome, All, All-nil, All-cons, All-head, All-tail, All-set, nat_tests, DEMUX_NODES, Response, IsInRange, Scripted, Line, CommandLine, Once, ReadWait, Drain, GetStc, Write, Command, Event, Ending, Bound, Slots, Doing, stands, through, done, commands_in, commands_among, commands_of, plays_of, Batches, deed_of, Standing, slots_after, progress_from, no_slots, next_event, standing_at, IsEndingInRange, AreSlots, repeats_in, none-some, same_some, IsDeedInRange, IsDeedOf, IsNextInRange, IsNextOf, first, after, doing, Next, Still, Through, IsVerbInRange, Verb}
 use Rattle.client_core.specs.Events.{progress}
+use Rattle.client_script.specs.declared.line.Verb.TheVariants as verb
+use Rattle.std.specs.Prelude.{is_some}
+use Rattle.client_core.proofs.Following.{can_ask_all}
 use Rattle.client_core.proofs.GoesOn.{progress_of}
+use Rattle.client_core.proofs.Steps.{IsAsked, by_steps, event_asked, first_begun, next_kept, step_of}
 use Rattle.client_core.proofs.More.{Onward, done_on_more, some_of}
 
--- ------ what stands there has the next number, and is on one of the nodes
+-- ------ what stands there has the next number, is on one of the nodes, and asks for what there is
 
--- so many calls in all up to there
-abbrev pub Fits : (total : ℕ) → Doing → Type 0
-Fits total (stands e) = (e.step ≡ total) × (e.node ≤ DEMUX_NODES)
-Fits total (through ending next left) = (next + length left ≡ total) × IsEndingInRange ending
+module _ (batches : Batches) where
+  -- so many calls in all up to there
+  abbrev Fits : (total : ℕ) → Doing → Type 0
+  Fits total (stands e) = (e.step ≡ total) × IsAsked batches e
+  Fits total (through ending next left) = (next + length left ≡ total) × IsEndingInRange ending
 
-later : (a b : ℕ) (d : Doing) → a ≡ b → Fits a d → Fits b d
-later a b d same fits = subst (λ n. Fits n d) same fits
+  -- it keeps to its range and to the batches
+  abbrev Keeps : Next → Type 0
+  Keeps n = IsNextInRange n × IsNextOf batches n
 
-if_fits : (b : Bool) (n : ℕ) (c d : Doing) → Fits n c → Fits n d → Fits n (if b then c else d)
-if_fits true n c d x y = x
-if_fits false n c d x y = y
+  doing_fits : (n : Next) (step total : ℕ) (rs : List Response) → total ≡ step + length rs → Keeps n → Fits total (doing n step rs)
+  doing_fits (Through ending) step total rs long is = (sym long, is.0)
+  doing_fits (Still t) step total [] long is = (omega (arith, long, step_of t step), event_asked batches t step is.0 is.1)
+  doing_fits (Still t) step total (r ∷ rs) long is = let kept = next_kept batches t r is.0 is.1 in doing_fits (after t r) (step + 1) total rs (omega (arith, long)) (kept.0, kept.2)
 
-once_fits : (ending : Ending) (node : ℕ) (w : Request) (step : ℕ) (rs : List Response) → node ≤ DEMUX_NODES → IsEndingInRange ending → Fits (step + length rs) (once ending node w step rs)
-once_fits ending node w step [] le is = (omega arith, le)
-once_fits ending node w step (r ∷ rs) le is = (omega arith, is)
+  -- a command in range, whose batch is there
+  abbrev Fit : Command → Type 0
+  Fit c = IsCommandInRange c × IsCommandOf batches c
 
-told_fits : (ending : Ending) (node : ℕ) (tap : TapChange) (step : ℕ) (rs : List Response) → IsEndingInRange ending → Fits (step + length rs) (told ending node tap step rs)
-told_fits ending node KeepTap step rs is = (refl, is)
-told_fits ending node (AttachTap pids) step rs is = once_fits ending DEMUX_NODES _ step rs (omega arith) is
-told_fits ending node DetachTap step rs is = once_fits ending DEMUX_NODES _ step rs (omega arith) is
+  command_fits : (slots : Slots) (c : Command) (step : ℕ) (rs : List Response) → Fit c → AreSlots slots → Fits (step + length rs) (done slots c.target c.deed step rs)
+  command_fits slots c step rs is bound =
+      let begun = first_begun 33 slots c.target c.deed is.0.0 bound is.0.1 (can_ask_all c.deed) in
+      by_steps (Fits (step + length rs)) slots c.target c.deed step rs (doing_fits (first slots c.target c.deed) step (step + length rs) rs refl (begun.0, begun.2 batches is.1))
 
-called_fits : (node : ℕ) (w : Want) (step : ℕ) (rs : List Response) → node ≤ DEMUX_NODES → Fits (step + length rs) (called node w step rs)
-called_fits node w step [] le = (omega arith, le)
-called_fits node w step (Done from to tap ∷ rs) le =
-    if_fits (nat_lt node DEMUX_NODES) (step + length (Done from to tap ∷ rs)) (told Made node tap (step + 1) rs) (through Made (step + 1) rs)
-    (later (step + 1 + length rs) (step + length (Done from to tap ∷ rs)) (told Made node tap (step + 1) rs) (omega arith) (told_fits Made node tap (step + 1) rs tt)) (omega arith, tt)
-called_fits node w step (_ ∷ rs) le = (omega arith, tt)
+  bound_after : (ending : Ending) (slots : Slots) → IsEndingInRange ending → AreSlots slots → AreSlots (slots_after ending slots)
+  bound_after (Bound slot node) slots is bound = All-set (λ slot. IfSome slot (λ node. node < DEMUX_NODES)) slots slot (Some node) is.1 bound
+  bound_after _ slots is bound = bound
 
-opened_fits : (slot node step : ℕ) (rs : List Response) → slot < DEMUX_NODES → node < DEMUX_NODES → Fits (step + length rs) (opened slot node step rs)
-opened_fits slot node step [] slot_lt lt = (omega arith, omega (arith, lt))
-opened_fits slot node step (Busy x ∷ rs) slot_lt lt = go (nat_lt (node + 1) DEMUX_NODES) refl (λ more. opened_fits slot (node + 1) (step + 1) rs slot_lt more) where
-  go : (b : Bool) → nat_lt (node + 1) DEMUX_NODES ≡ b → (node + 1 < DEMUX_NODES → Fits (step + 1 + length rs) (opened slot (node + 1) (step + 1) rs))
-      → Fits (step + length (Busy x ∷ rs)) (if b then opened slot (node + 1) (step + 1) rs else through AllBusy (step + 1) rs)
-  go true yea deeper =
-      let more : node + 1 < DEMUX_NODES = grind (arith, nat_tests, yea) in
-      later (step + 1 + length rs) (step + length (Busy x ∷ rs)) (opened slot (node + 1) (step + 1) rs) (omega arith) (deeper more)
-  go false nay deeper = (omega arith, tt)
-opened_fits slot node step (Done from to tap ∷ rs) slot_lt lt =
-    later (step + 1 + length rs) (step + length (Done from to tap ∷ rs)) (told (Bound slot node) node tap (step + 1) rs) (omega arith) (told_fits (Bound slot node) node tap (step + 1) rs (slot_lt, lt))
-opened_fits slot node step (_ ∷ rs) slot_lt lt = (omega arith, tt)
+  all_fit : (slots : Slots) (step : ℕ) (cs : List Command) (rs : List Response) (s : Standing) → AreSlots slots → All Fit cs → (progress_from slots step cs rs).standing ≡ Some s
+      → (s.event.step ≡ step + length rs) × IsAsked batches s.event
+  all_fit slots step [] rs s bound fit is = absurd (none-some s is)
+  all_fit slots step (c ∷ cs) rs s bound fit is =
+      go (λ ending next left bound there. all_fit (slots_after ending slots) next cs left s bound (All-tail Fit c cs fit) there) (done slots c.target c.deed step rs) (command_fits slots c step rs (All-head Fit c cs fit) bound) is where
+        go : ((ending : Ending) (next : ℕ) (left : List Response) → AreSlots (slots_after ending slots) → (progress_from (slots_after ending slots) next cs left).standing ≡ Some s
+            → (s.event.step ≡ next + length left) × IsAsked batches s.event)
+            → (d : Doing) → Fits (step + length rs) d → (progress_of slots step c cs d).standing ≡ Some s → (s.event.step ≡ step + length rs) × IsAsked batches s.event
+        go deeper (stands e) fits there =
+            let same : e ≡ s.event = ap (λ t. t.event) (same_some {A = Standing} (record { line = c.line; from = step; event = e }) s there) in
+            subst (λ x. (x.step ≡ step + length rs) × IsAsked batches x) same fits
+        go deeper (through ending next left) fits there =
+            let that = deeper ending next left (bound_after ending slots fits.1 bound) there in
+            (that.0 ∙ fits.0, that.1)
 
-passed_fits : (write node step : ℕ) (rs : List Response) → node < DEMUX_NODES → Fits (step + length rs) (passed write node step rs)
-passed_fits write node step [] lt = (omega arith, omega (arith, lt))
-passed_fits write node step (r ∷ rs) lt = go (nat_lt (node + 1) DEMUX_NODES) refl (λ more. passed_fits write (node + 1) (step + 1) rs more) where
-  go : (b : Bool) → nat_lt (node + 1) DEMUX_NODES ≡ b → (node + 1 < DEMUX_NODES → Fits (step + 1 + length rs) (passed write (node + 1) (step + 1) rs))
-      → Fits (step + length (r ∷ rs)) (if b then passed write (node + 1) (step + 1) rs else through Made (step + 1) rs)
-  go true yea deeper =
-      let more : node + 1 < DEMUX_NODES = grind (arith, nat_tests, yea) in
-      later (step + 1 + length rs) (step + length (r ∷ rs)) (passed write (node + 1) (step + 1) rs) (omega arith) (deeper more)
-  go false nay deeper = (omega arith, tt)
+  -- ------ the commands of a client
 
-written_fits : (node write : ℕ) (has : Bool) (step : ℕ) (rs : List Response) → node ≤ DEMUX_NODES → Fits (step + length rs) (written node write has step rs)
-written_fits node write has step [] le = (omega arith, le)
-written_fits node write has step (Ready a b c d ∷ rs) le =
-    if_fits has (step + length (Ready a b c d ∷ rs)) (passed write 0 (step + 1) rs) (through Made (step + 1) rs)
-    (later (step + 1 + length rs) (step + length (Ready a b c d ∷ rs)) (passed write 0 (step + 1) rs) (omega arith) (passed_fits write 0 (step + 1) rs (omega arith))) (omega arith, tt)
-written_fits node write has step (_ ∷ rs) le = (omega arith, tt)
+  some_there : (o : Option Packets) → is_some o ≡ true → IsSome o
+  some_there None e = absurd (cc e)
+  some_there (Some batch) e = refl
 
-read_fits : (ends : Response → Bool) (node count step : ℕ) (rs : List Response) → node ≤ DEMUX_NODES → Fits (step + length rs) (read_until ends node count step rs)
-read_fits ends node count step [] le = (omega arith, le)
-read_fits ends node count step (r ∷ rs) le =
-    if_fits (ends r) (step + length (r ∷ rs)) (through Made (step + 1) rs) (read_until ends node count (step + 1) rs) (omega arith, tt)
-    (later (step + 1 + length rs) (step + length (r ∷ rs)) (read_until ends node count (step + 1) rs) (omega arith) (read_fits ends node count (step + 1) rs le))
+  verb_fits : (v : Verb) → IsVerbInRange v → IsDeedInRange (deed_of batches v) × IsDeedOf batches (deed_of batches v)
+  verb_fits (verb.Once want) is = (is, tt)
+  verb_fits (verb.ReadWait count) is = (is, tt)
+  verb_fits (verb.Drain count) is = (is, tt)
+  verb_fits (verb.GetStc num) is = (is, tt)
+  verb_fits (verb.Write write) is = (is, some_there (batch_at batches write))
 
-on_fits : (node : ℕ) (v : Deed) (step : ℕ) (rs : List Response) → node ≤ DEMUX_NODES → Fits (step + length rs) (done_on node v step rs)
-on_fits node (ReadWait count) step rs le = read_fits ends_wait node count step rs le
-on_fits node (Drain count) step rs le = read_fits ends_drain node count step rs le
-on_fits node (Once w) step rs le = called_fits node w step rs le
-on_fits node (GetStc num) step rs le = (refl, tt)
-on_fits node (Write write has) step rs le = written_fits node write has step rs le
+  line_fits : (client : ℕ) (line : Line) → IsInRange line → All Fit (commands_in client batches line)
+  line_fits client (CommandLine line who target asked) is = go (nat_eq who client) where
+    go : (b : Bool) → All Fit (if b then record { line = line; target = target; deed = deed_of batches asked } ∷ [] else [])
+    go true = let v = verb_fits asked is.4 in All-cons Fit (record { line = line; target = target; deed = deed_of batches asked }) [] ((is.3, v.0), v.1) (All-nil Fit)
+    go false = All-nil Fit
+  line_fits client _ is = All-nil Fit
 
-at_fits : (o : Option ℕ) (v : Deed) (step : ℕ) (rs : List Response) → IfSome o (λ node. node < DEMUX_NODES) → Fits (step + length rs) (done_at o v step rs)
-at_fits None v step rs lt = (refl, tt)
-at_fits (Some node) v step rs lt = on_fits node v step rs (omega (arith, lt))
+  lines_fit : (client : ℕ) (lines : List Line) → All IsInRange lines → All Fit (commands_among client batches lines)
+  lines_fit client [] ranges = All-nil Fit
+  lines_fit client (line ∷ lines) ranges =
+      All-append Fit (commands_in client batches line) (commands_among client batches lines) (line_fits client line (All-head IsInRange line lines ranges)) (lines_fit client lines (All-tail IsInRange line lines ranges))
 
-slot_bound : (slots : Slots) (slot : ℕ) → AreSlots slots → IfSome (slice_index_or slots slot None) (λ node. node < DEMUX_NODES)
-slot_bound [] slot bound = tt
-slot_bound (s ∷ slots) zero bound = All-head (λ slot. IfSome slot (λ node. node < DEMUX_NODES)) s slots bound
-slot_bound (s ∷ slots) (suc slot) bound = slot_bound slots slot (All-tail (λ slot. IfSome slot (λ node. node < DEMUX_NODES)) s slots bound)
+  free_slots : (n : ℕ) → AreSlots (replicate n None)
+  free_slots n = All-replicate (λ slot. IfSome slot (λ node. node < DEMUX_NODES)) n None tt
 
-slot_fits : (slot : ℕ) (slots : Slots) (v : Deed) (step : ℕ) (rs : List Response) → slot < DEMUX_NODES → IfSome (slice_index_or slots slot None) (λ node. node < DEMUX_NODES) → Fits (step + length rs) (done_by_slot slot slots v step rs)
-slot_fits slot slots (Once Open) step rs lt bound = opened_fits slot 0 step rs lt (omega arith)
-slot_fits slot slots v step rs lt bound = at_fits (slice_index_or slots slot None) v step rs bound
+-- The call that a client makes next has as its step the number of the replies that it got, is on one of the 33 nodes, and asks for what is in range and there.
+pub next_is_asked : (client : ℕ) (script : Scripted) (replies : List Response) (e : Event) → All IsInRange script.lines → next_event client script replies ≡ Some e
+    → (e.step ≡ length replies) × IsAsked (plays_of client script) e
+unfolding progress
+next_is_asked client script replies e ranges is =
+    let plays = plays_of client script in
+    let there = some_of (progress client script replies).standing e is in
+    let fits = all_fit plays no_slots 0 (commands_of client script) replies there.0 (free_slots plays DEMUX_NODES) (lines_fit plays client script.lines ranges) there.1 in
+    subst (λ x. (x.step ≡ length replies) × IsAsked plays x) there.2 (omega (arith, fits.0), fits.1)
 
-done_fits : (slots : Slots) (t : Target) (v : Deed) (step : ℕ) (rs : List Response) → IsTargetInRange t → AreSlots slots → Fits (step + length rs) (done slots t v step rs)
-done_fits slots (Node node) v step rs le bound = on_fits node v step rs (omega (arith, le))
-done_fits slots (Slot slot) v step rs le bound = slot_fits slot slots v step rs (omega (arith, le)) (slot_bound slots slot bound)
-done_fits slots Dvr v step rs le bound = on_fits DEMUX_NODES v step rs (omega arith)
-
-bound_after : (ending : Ending) (slots : Slots) → IsEndingInRange ending → AreSlots slots → AreSlots (slots_after ending slots)
-bound_after Made slots is bound = bound
-bound_after AllBusy slots is bound = bound
-bound_after NoNode slots is bound = bound
-bound_after (Asked node num) slots is bound = bound
-bound_after (Bound slot node) slots is bound = All-set (λ slot. IfSome slot (λ node. node < DEMUX_NODES)) slots slot (Some node) is.1 bound
-
-abbrev pub AreTargets : List Command → Type 0
-AreTargets [] = Unit {0}
-AreTargets (c ∷ cs) = IsTargetInRange c.target × AreTargets cs
-
-all_fits : (slots : Slots) (step : ℕ) (cs : List Command) (rs : List Response) (s : Standing) → AreSlots slots → AreTargets cs → (progress_from slots step cs rs).standing ≡ Some s
-    → (s.event.step ≡ step + length rs) × (s.event.node ≤ DEMUX_NODES)
-all_fits slots step [] rs s bound ranges is = absurd (none-some s is)
-all_fits slots step (c ∷ cs) rs s bound ranges is =
-    go (λ ending next left bound there. all_fits (slots_after ending slots) next cs left s bound ranges.1 there) (done slots c.target c.deed step rs) (done_fits slots c.target c.deed step rs ranges.0 bound) is where
-      go : ((ending : Ending) (next : ℕ) (left : List Response) → AreSlots (slots_after ending slots) → (progress_from (slots_after ending slots) next cs left).standing ≡ Some s
-          → (s.event.step ≡ next + length left) × (s.event.node ≤ DEMUX_NODES))
-          → (d : Doing) → Fits (step + length rs) d → (progress_of slots step c cs d).standing ≡ Some s → (s.event.step ≡ step + length rs) × (s.event.node ≤ DEMUX_NODES)
-      go deeper (stands e) fits there =
-          let same : e ≡ s.event = ap (λ t. t.event) (same_some {A = Standing} (record { line = c.line; from = step; event = e }) s there) in
-          subst (λ x. (x.step ≡ step + length rs) × (x.node ≤ DEMUX_NODES)) same fits
-      go deeper (through ending next left) fits there =
-          let that = deeper ending next left (bound_after ending slots fits.1 bound) there in
-          (that.0 ∙ fits.0, that.1)
-
-targets_append : (xs ys : List Command) → AreTargets xs → AreTargets ys → AreTargets (xs ++ ys)
-targets_append [] ys a b = b
-targets_append (x ∷ xs) ys a b = (a.0, targets_append xs ys a.1 b)
-
-targets_in : (client : ℕ) (batches : Batches) (line : Line) → IsInRange line → AreTargets (commands_in client batches line)
-targets_in client batches (Feed n) is = tt
-targets_in client batches (Tick n) is = tt
-targets_in client batches (CommandLine line who target verb) is = go (nat_eq who client) where
-  go : (b : Bool) → AreTargets (if b then record { line = line; target = target; deed = deed_of batches verb } ∷ [] else [])
-  go true = (is.3, tt)
-  go false = tt
-
-targets_of : (client : ℕ) (batches : Batches) (lines : List Line) → All IsInRange lines → AreTargets (commands_among client batches lines)
-targets_of client batches [] ranges = tt
-targets_of client batches (line ∷ lines) ranges =
-    targets_append (commands_in client batches line) (commands_among client batches lines) (targets_in client batches line (All-head IsInRange line lines ranges)) (targets_of client batches lines (All-tail IsInRange line lines ranges))
-
-free_slots : (n : ℕ) → AreSlots (replicate n None)
-free_slots zero = All-nil (λ slot. IfSome slot (λ node. node < DEMUX_NODES))
-free_slots (suc n) = All-cons (λ slot. IfSome slot (λ node. node < DEMUX_NODES)) None (replicate n None) tt (free_slots n)
-
--- The call that a client makes next has as its step the number of the replies that it got, and is on one of the 33 nodes.
 pub next_is_numbered : (client : ℕ) (script : Scripted) (replies : List Response) (e : Event) → All IsInRange script.lines → next_event client script replies ≡ Some e
     → (e.step ≡ length replies) × (e.node ≤ DEMUX_NODES)
-unfolding progress
-next_is_numbered client script replies e ranges is =
-    let there = some_of (progress client script replies).standing e is in
-    let fits = all_fits no_slots 0 (commands_of client script) replies there.0 (free_slots DEMUX_NODES) (targets_of client (plays_of client script) script.lines ranges) there.1 in
-    subst (λ x. (x.step ≡ length replies) × (x.node ≤ DEMUX_NODES)) there.2 (omega (arith, fits.0), fits.1)
+next_is_numbered client script replies e ranges is = let asked = next_is_asked client script replies e ranges is in (asked.0, asked.1.0)
 
 -- ------ commands that are through
 

@@ -1,5 +1,5 @@
 -- A write that has a batch is one of the client's.
-use Rattle.client_core.proofs.Imports.{ℕ, zero, suc, ◌<◌, List, [], ◌∷◌, length, arith, IsSome, Batches, batch_at}
+use Rattle.client_core.proofs.Imports.{ℕ, zero, suc, ◌<◌, [], ◌∷◌, length, arith, IsSome, Batches, batch_at}
 
 pub has_write : (batches : Batches) (write : ℕ) → IsSome (batch_at batches write) → write < length batches
 has_write [] write is = absurd (cc is)

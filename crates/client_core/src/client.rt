@@ -8,13 +8,13 @@ ghost use Rattle.client_script.specs.Script.{Scripted, writes_of};
 ghost use Rattle.client_core.specs.Plays.{HasPlayed};
 ghost use Rattle.std.specs.Option.{option_map};
 ghost use Rattle.client_core.specs.Deeds.{batch_at};
-ghost use Rattle.client_core.specs.declared.event.Event.{Event as EventValue};
-ghost use Rattle.client_core.specs.Commands.{commands_among, commands_of, stands, IsRequestInRange, IsRequestOf};
-ghost use Rattle.client_core.specs.Events.{next_event, waits_on, next_of_line};
+ghost use Rattle.client_core.specs.Commands.{commands_among, commands_of, IsRequestInRange, IsRequestOf};
+ghost use Rattle.client_core.specs.Events.{next_event, reading_on, waits_on, next_of_line};
 ghost use Rattle.client_core.specs.Stc.{Exchange, with_reply};
 ghost use Rattle.client_core.specs.Outcomes.{outcomes as outcomes_of};
 ghost use Rattle.client_core.specs.Inside.Clocks.{HaveFollowed, AreFew};
-ghost use Rattle.client_core.specs.Inside.Tasks.{resumed, reading_in, IsTaskInRange};
+ghost use Rattle.client_core.specs.Steps.{event_of as stands_at};
+ghost use Rattle.client_core.specs.Inside.Tasks.{IsTaskInRange};
 ghost use Rattle.client_core.specs.Inside.Core.{coming, one_if_some, IsCommandInRange, IsCommandOf, IsMade, CanBegin, IsSound, IsAfter, HasTaken, next_of, waits_with};
 
 use crate::clocks::Clocks;
@@ -124,7 +124,7 @@ fn follow(clocks: &mut Clocks, task: &Task, step: u64, reply: &LogReply)
     requires task { IsTaskInRange task.now }
     requires few { AreFew (65536 * step) clocks.old }
     requires step { step < 2 ^ 46 }
-    ensures followed { (e : EventValue) (xs : List Exchange) → stands e ≡ resumed task.now step [] → HaveFollowed xs clocks.old → HaveFollowed (with_reply (Some e) (response_of reply.now) xs) clocks.new }
+    ensures followed { (xs : List Exchange) → HaveFollowed xs clocks.old → HaveFollowed (with_reply (Some (stands_at task.now step)) (response_of reply.now) xs) clocks.new }
     ensures few { AreFew (65536 * (step + 1)) clocks.new }
     ensures count { length clocks.new ≡ length clocks.old }
 {
@@ -135,7 +135,7 @@ fn follow(clocks: &mut Clocks, task: &Task, step: u64, reply: &LogReply)
 
 // The node on which a client waits that goes on with this task after this reply.
 fn waits_after(task: &Task, reply: &LogReply) -> Option<u32>
-    ensures { (step : ℕ) → result ≡ waits_with (response_of reply.now) (reading_in (resumed task.now step [])) }
+    ensures { (step : ℕ) → result ≡ waits_with (response_of reply.now) (reading_on (stands_at task.now step)) }
 {
     match reply {
         Reply::Again { ended } => { if *ended { None } else { reading_of(task) } }

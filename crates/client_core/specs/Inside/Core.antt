@@ -11,11 +11,13 @@ use Rattle.dmx_calls.specs.declared.outcome.Outcome.{Outcome}
 use Rattle.client_core.specs.declared.event.Event.{Event}
 use Rattle.client_core.specs.declared.current.Current.{Current}
 use Rattle.client_core.specs.Commands.{Doing, stands, through, Slots, plays_of}
+use Rattle.client_core.specs.Steps.{doing}
+use Rattle.client_core.specs.declared.task.Next.TheVariants.{Still}
 use Rattle.client_core.specs.Events.{Ended, Progress, with_ended, slots_after, progress_from, waits_after, waits_on, progress}
 use Rattle.client_core.specs.Stc.{Exchange, with_reply, exchanges}
 use Rattle.client_core.specs.Outcomes.{outcome_by, outcome_of}
 use Rattle.client_core.specs.Inside.Clocks.{NodeClock, counter_in, HaveFollowed, AreFew}
-use Rattle.client_core.specs.Inside.Tasks.{resumed, IsTaskInRange, IsTaskOf, IsCallEnding, CanAsk, HasClock, AreSlots}
+use Rattle.client_core.specs.Inside.Tasks.{IsTaskInRange, IsTaskOf, IsCallEnding, CanAsk, HasClock, AreSlots}
 
 -- a command that is begun, and the commands behind it
 abbrev pub ahead : (line from : ℕ) → Slots → List Command → Doing → Progress
@@ -29,7 +31,7 @@ ahead line from slots cs (through ending next left) =
 
 abbrev pub coming_from : Option Current → (step : ℕ) → Slots → List Command → List Response → Progress
 coming_from None step slots cs replies = progress_from slots step cs replies
-coming_from (Some c) step slots cs replies = ahead c.line c.from slots cs (resumed c.task step replies)
+coming_from (Some c) step slots cs replies = ahead c.line c.from slots cs (doing (Still c.task) step replies)
 
 abbrev pub behind : List Ended → Progress → Progress
 behind ended p = record { ended = ended ++ p.ended; standing = p.standing }

@@ -1,0 +1,92 @@
+-- What a command does, by small steps, as the code does it: it begins with a task, which stands before a call; after the
+-- reply it goes on with the next task, or is through (this project's own). It is the same as `done`.
+use Rattle.std.specs.Prelude.{ℕ, ◌≡◌, ◌+◌, List, [], ◌∷◌, Option, Some, None, nat_lt, slice_index_or, if◌then◌else◌}
+use Rattle.dmx_calls.specs.declared.limits.TheConstants.{DEMUX_NODES}
+use Rattle.dmx_calls.specs.declared.reply.Tap.TheVariants.{Keep as KeepTap, Attach as AttachTap, Detach as DetachTap}
+use Rattle.dmx_calls.specs.Response.{Response, TapChange, Done, Busy, Ready}
+use Rattle.client_script.specs.declared.line.Target.{Target}
+use Rattle.client_script.specs.declared.line.Target.TheVariants.{Node, Slot, Dvr}
+use Rattle.client_script.specs.declared.line.Want.TheVariants.{Open, Poll, Read}
+use Rattle.client_core.specs.declared.deed.Deed.{Deed}
+use Rattle.client_core.specs.declared.deed.Deed.TheVariants as deed
+use Rattle.client_core.specs.declared.event.Event.{Event}
+use Rattle.client_core.specs.declared.event.Request.TheVariants as ask
+use Rattle.client_core.specs.declared.task.Ending.{Ending}
+use Rattle.client_core.specs.declared.task.Ending.TheVariants.{Made, Bound, AllBusy, NoNode, Asked}
+use Rattle.client_core.specs.declared.task.Task.{Task}
+use Rattle.client_core.specs.declared.task.Task.TheVariants.{Call, ReadWait, Drain, OpenFrom, Attach, Detach, Write, Play}
+use Rattle.client_core.specs.declared.task.Next.{Next}
+use Rattle.client_core.specs.declared.task.Next.TheVariants.{Still, Through}
+use Rattle.client_core.specs.Commands.{Doing, stands, through, ends_wait, ends_drain, Slots, done}
+
+-- ------ with what it begins
+
+-- on this node
+abbrev pub first_on : (node : ℕ) → Deed → Next
+first_on node (deed.Once want) = Still (Call node want)
+first_on node (deed.ReadWait count) = Still (ReadWait node count)
+first_on node (deed.Drain count) = Still (Drain node count)
+first_on node (deed.GetStc num) = Through (Asked node num)
+first_on node (deed.Write write has_batch) = Still (Write node write has_batch)
+
+-- on the node of a slot
+abbrev pub first_at : Option ℕ → Deed → Next
+first_at None v = Through NoNode
+first_at (Some node) v = first_on node v
+
+abbrev pub first_by_slot : (slot : ℕ) → Slots → Deed → Next
+first_by_slot slot slots (deed.Once Open) = Still (OpenFrom slot 0)
+first_by_slot slot slots v = first_at (slice_index_or slots slot None) v
+
+abbrev pub first : Slots → Target → Deed → Next
+first slots (Node node) v = first_on node v
+first slots (Slot slot) v = first_by_slot slot slots v
+first slots Dvr v = first_on DEMUX_NODES v
+
+-- ------ before which call a task stands
+
+abbrev pub event_of : Task → (step : ℕ) → Event
+event_of (Call node want) step = record { step = step; node = node; want = ask.Own want }
+event_of (ReadWait node count) step = record { step = step; node = node; want = ask.Own (Read count) }
+event_of (Drain node count) step = record { step = step; node = node; want = ask.Own (Read count) }
+event_of (OpenFrom slot node) step = record { step = step; node = node; want = ask.Own Open }
+event_of (Attach ending node pids) step = record { step = step; node = DEMUX_NODES; want = ask.Attach node pids }
+event_of (Detach ending node) step = record { step = step; node = DEMUX_NODES; want = ask.Detach node }
+event_of (Write node write has_batch) step = record { step = step; node = node; want = ask.Own Poll }
+event_of (Play write node) step = record { step = step; node = node; want = ask.Pass write }
+
+-- ------ with what it goes on
+
+-- the dvr node is told of the change of a demux node's tap
+abbrev pub telling : Ending → (node : ℕ) → TapChange → Next
+telling ending node KeepTap = Through ending
+telling ending node (AttachTap pids) = Still (Attach ending node pids)
+telling ending node DetachTap = Still (Detach ending node)
+
+-- after this reply
+abbrev pub after : Task → Response → Next
+after (Call node want) (Done from to tap) = if nat_lt node DEMUX_NODES then telling Made node tap else Through Made
+after (Call node want) _ = Through Made
+after (ReadWait node count) reply = if ends_wait reply then Through Made else Still (ReadWait node count)
+after (Drain node count) reply = if ends_drain reply then Through Made else Still (Drain node count)
+after (OpenFrom slot node) (Busy owner) =
+    if nat_lt (node + 1) DEMUX_NODES then Still (OpenFrom slot (node + 1)) else Through AllBusy
+after (OpenFrom slot node) (Done from to tap) = telling (Bound slot node) node tap
+after (OpenFrom slot node) _ = Through Made
+after (Attach ending node pids) reply = Through ending
+after (Detach ending node) reply = Through ending
+after (Write node write has_batch) (Ready readable error at ended) =
+    if has_batch then Still (Play write 0) else Through Made
+after (Write node write has_batch) _ = Through Made
+after (Play write node) reply = if nat_lt (node + 1) DEMUX_NODES then Still (Play write (node + 1)) else Through Made
+
+-- what it does from this step on by these replies
+abbrev pub doing : Next → (step : ℕ) → List Response → Doing
+doing (Through ending) step replies = through ending step replies
+doing (Still task) step [] = stands (event_of task step)
+doing (Still task) step (reply ∷ replies) = doing (after task reply) (step + 1) replies
+
+-- What a command does, told as a whole (`done`) and by small steps, is the same.
+abbrev pub StepsAreDone : Type 0
+StepsAreDone = (slots : Slots) (target : Target) (v : Deed) (step : ℕ) (replies : List Response)
+    → done slots target v step replies ≡ doing (first slots target v) step replies
