@@ -16,26 +16,26 @@ pub use Rattle.client_core.specs.Stc.{Exchange, bytes_after, bytes_read, exchang
 pub use Rattle.client_core.specs.Steps.{StepsAreDone, after, doing, event_of, first, first_at, first_by_slot, first_on, telling}
 pub use Rattle.client_core.specs.declared.command.Command.{Command}
 pub use Rattle.client_core.specs.declared.current.Current.{Current}
-pub use Rattle.client_core.specs.declared.deed.Deed.TheVariants.{Drain, GetStc, Once, ReadWait, Write}
 pub use Rattle.client_core.specs.declared.deed.Deed.{Deed}
+pub use Rattle.client_core.specs.declared.deed.Deed.TheVariants.{Drain, GetStc, Once, ReadWait, Write}
 pub use Rattle.client_core.specs.declared.event.Event.{Event}
-pub use Rattle.client_core.specs.declared.event.Request.TheVariants.{Attach, Detach, Own}
 pub use Rattle.client_core.specs.declared.event.Request.{Request}
-pub use Rattle.client_core.specs.declared.task.Ending.TheVariants.{AllBusy, Asked, Bound, Made, NoNode}
+pub use Rattle.client_core.specs.declared.event.Request.TheVariants.{Attach, Detach, Own}
 pub use Rattle.client_core.specs.declared.task.Ending.{Ending}
-pub use Rattle.client_core.specs.declared.task.Next.TheVariants.{Still, Through}
+pub use Rattle.client_core.specs.declared.task.Ending.TheVariants.{AllBusy, Asked, Bound, Made, NoNode}
 pub use Rattle.client_core.specs.declared.task.Next.{Next}
-pub use Rattle.client_core.specs.declared.task.Task.TheVariants.{Call, OpenFrom, Play}
+pub use Rattle.client_core.specs.declared.task.Next.TheVariants.{Still, Through}
 pub use Rattle.client_core.specs.declared.task.Task.{Task}
+pub use Rattle.client_core.specs.declared.task.Task.TheVariants.{Call, OpenFrom, Play}
 pub use Rattle.client_script.specs.Grammar.{IsInRange, IsTargetInRange, IsVerbInRange, IsWantInRange}
 pub use Rattle.client_script.specs.Script.{HasVerb, HasWrite, Scripted, writes_of}
-pub use Rattle.client_script.specs.declared.line.Line.TheVariants.{Command as CommandLine, Feed, Tick}
 pub use Rattle.client_script.specs.declared.line.Line.{Line}
-pub use Rattle.client_script.specs.declared.line.Target.TheVariants.{Dvr, Node, Slot}
+pub use Rattle.client_script.specs.declared.line.Line.TheVariants.{Command as CommandLine, Feed, Tick}
 pub use Rattle.client_script.specs.declared.line.Target.{Target}
+pub use Rattle.client_script.specs.declared.line.Target.TheVariants.{Dvr, Node, Slot}
 pub use Rattle.client_script.specs.declared.line.Verb.{Verb}
-pub use Rattle.client_script.specs.declared.line.Want.TheVariants.{Open, Read}
 pub use Rattle.client_script.specs.declared.line.Want.{Want}
+pub use Rattle.client_script.specs.declared.line.Want.TheVariants.{Open, Read}
 pub use Rattle.dmx_calls.specs.Calls.{response_of}
 pub use Rattle.dmx_calls.specs.Response.{Again, Busy, Done, Ready, Response, TapChange}
 pub use Rattle.dmx_calls.specs.declared.limits.TheConstants.{DEMUX_NODES}
@@ -44,11 +44,11 @@ pub use Rattle.dmx_calls.specs.declared.reply.Tap.TheVariants.{Attach as AttachT
 pub use Rattle.lemmas.proofs.Options.{same_some}
 pub use Rattle.std.proofs.Common.{Bool, List, None, Option, Some, [], ap, arith, drop, false, inl, inr, length, length-append, map, nat_eq, refl, replicate, rules, subst, suc, sym, take, true, vec_capacity, zero, ℕ, ◌*◌, ◌++◌, ◌+◌, ◌-◌, ◌<◌, ◌∙◌, ◌∷◌, ◌≡◌, ◌≢◌, ◌≤◌, ◌⊎◌}
 pub use Rattle.std.proofs.Math.Seq.{drop-append-add, drop-append_seam, take-add, take-append_seam, take-length}
-pub use Rattle.std.proofs.lemmas.Bool.Decides.{nat_tests}
 pub use Rattle.std.proofs.lemmas.Bool.{cases_lt}
+pub use Rattle.std.proofs.lemmas.Bool.Decides.{nat_tests}
 pub use Rattle.std.proofs.lemmas.Grind.{common_steps, flat_map-append}
-pub use Rattle.std.proofs.lemmas.List.Elements.{All-append, All-cons, All-get_or, All-head, All-more, All-nil, All-replicate, All-set, All-tail, All-weaker}
 pub use Rattle.std.proofs.lemmas.List.{append-nil, append_assoc, drop-drop, get_or-set_other, get_or-set_same, get_or_default, length-drop, length-set, length-take-le, map-append, take-append-drop, take-append-le, take_all}
+pub use Rattle.std.proofs.lemmas.List.Elements.{All-append, All-cons, All-get_or, All-head, All-more, All-nil, All-replicate, All-set, All-tail, All-weaker}
 pub use Rattle.std.proofs.lemmas.Option.{none-some, slice_get-get_or}
 pub use Rattle.std.specs.List.{All, flat_map}
 pub use Rattle.std.specs.Option.{IfNone, IfSome, option_and_then, option_or}
@@ -60,5 +60,5 @@ pub use Rattle.ts_packet.specs.Cut.{Cut, join, only_rest}
 pub use Rattle.ts_packet.specs.Cutting.{Cuts, Cutting, IsRest, bytes_counted, fresh}
 pub use Rattle.ts_packet.specs.Fields.{IsPacket}
 pub use Rattle.ts_packet.specs.Pieces.{IsPiece, Piece, bytes_of, packet, packets_of, skipped}
-pub use Rattle.ts_packet.specs.declared.size.PacketSize.TheVariants.{Of188}
 pub use Rattle.ts_packet.specs.declared.size.PacketSize.{PacketSize}
+pub use Rattle.ts_packet.specs.declared.size.PacketSize.TheVariants.{Of188}

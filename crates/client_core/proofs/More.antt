@@ -70,10 +70,10 @@ quiet (Still t) (r ∷ rs) is = let next = next_quiet t r is in omega (arith, ne
 reads : (ends : Response → Bool) (t : Task) → ((r : Response) → again t r ≡ (if ends r then 0 else 1)) → ((r : Response) → after t r ≡ (if ends r then Through Made else Still t))
     → (rs : List Response) → repeated ends rs ≡ repeats_by (Still t) rs
 reads ends t once next [] = refl
-reads ends t once next (r ∷ rs) = go (ends r) ∙ ap (λ k. k + repeats_by (if ends r then Through Made else Still t) rs) (sym (once r)) ∙ ap (λ n. again t r + repeats_by n rs) (sym (next r)) where
-  go : (b : Bool) → (if b then 0 else 1 + repeated ends rs) ≡ (if b then 0 else 1) + repeats_by (if b then Through Made else Still t) rs
-  go true = refl
-  go false = ap (λ k. 1 + k) (reads ends t once next rs)
+reads ends t once next (r ∷ rs) = go (ends r) (reads ends t once next rs) ∙ ap (λ k. k + repeats_by (if ends r then Through Made else Still t) rs) (sym (once r)) ∙ ap (λ n. again t r + repeats_by n rs) (sym (next r)) where
+  go : (b : Bool) → repeated ends rs ≡ repeats_by (Still t) rs → (if b then 0 else 1 + repeated ends rs) ≡ (if b then 0 else 1) + repeats_by (if b then Through Made else Still t) rs
+  go true deeper = refl
+  go false deeper = ap (λ k. 1 + k) deeper
 
 -- the definition counts the same
 on_counts : (node : ℕ) (v : Deed) (rs : List Response) → repeats_on v rs ≡ repeats_by (first_on node v) rs
@@ -110,7 +110,7 @@ may_repeat : (t : Task) (step : ℕ) (r : Response) → MayRepeat t r (after t r
 may_repeat (task.ReadWait node count) step (Again false) = (inr (refl, (node, λ k. (refl, refl))), omega arith)
 may_repeat (task.ReadWait node count) step _ = (inl refl, omega arith)
 may_repeat (task.Drain node count) step r = (go (ends_drain r), omega arith) where
-  go : (b : Bool) → ((if b then 0 else 1) ≡ 0) ⊎ (((if b then Through Made else Still (task.Drain node count)) ≡ Still (task.Drain node count)) × ((on : ℕ) × ((k : ℕ) → (reading_on (event_of (task.Drain node count) k) ≡ Some on) × ((event_of (task.Drain node count) k).node ≡ on))))
+  go : (b : Bool) → ◌≡◌ {A = ℕ} (if b then 0 else 1) 0 ⊎ (((if b then Through Made else Still (task.Drain node count)) ≡ Still (task.Drain node count)) × ((on : ℕ) × ((k : ℕ) → (reading_on (event_of (task.Drain node count) k) ≡ Some on) × ((event_of (task.Drain node count) k).node ≡ on))))
   go true = inl refl
   go false = inr (refl, (node, λ k. (refl, refl)))
 may_repeat _ step r = (inl refl, omega arith)

@@ -58,76 +58,76 @@ IsThrough (through ending next left) = Unit {0}
 
 -- a batch passes the nodes from this one on: not yet the node, or once
 abbrev PassesFrom : (node write on : ℕ) → List ℕ → Doing → Type 0
-PassesFrom node write on ws d = ((ws ≡ []) × (on ≤ node → IsThrough d → ⊥)) ⊎ ((ws ≡ write ∷ []) × (on ≤ node))
+PassesFrom node write on ws d = ((ws ≡ []) × (on ≤ node → node < 32 → IsThrough d → ⊥)) ⊎ ((ws ≡ write ∷ []) × (on ≤ node))
 
-play_passes : (node write on step : ℕ) (rs : List Response) → node < 32 → PassesFrom node write on (passed_by node (Still (Play write on)) step rs) (doing (Still (Play write on)) step rs)
-play_passes node write on step [] low = inl (refl, λ le is. is)
-play_passes node write on step (r ∷ rs) low = go (nat_eq on node) refl (nat_lt (on + 1) DEMUX_NODES) refl (play_passes node write (on + 1) (step + 1) rs low) where
+play_passes : (node write on step : ℕ) (rs : List Response) → PassesFrom node write on (passed_by node (Still (Play write on)) step rs) (doing (Still (Play write on)) step rs)
+play_passes node write on step [] = inl (refl, λ le low is. is)
+play_passes node write on step (r ∷ rs) = go (nat_eq on node) refl (nat_lt (on + 1) DEMUX_NODES) refl (play_passes node write (on + 1) (step + 1) rs) where
   go : (here : Bool) → nat_eq on node ≡ here → (more : Bool) → nat_lt (on + 1) DEMUX_NODES ≡ more
       → PassesFrom node write (on + 1) (passed_by node (Still (Play write (on + 1))) (step + 1) rs) (doing (Still (Play write (on + 1))) (step + 1) rs)
       → PassesFrom node write on ((if here then write ∷ [] else []) ++ passed_by node (if more then Still (Play write (on + 1)) else Through Made) (step + 1) rs) (doing (if more then Still (Play write (on + 1)) else Through Made) (step + 1) rs)
   go true is true more (inl later) = inr (ap (λ ws. write ∷ ws) later.0, (let same : on ≡ node = grind (arith, nat_tests, is) in omega (arith, same)))
   go true is true more (inr later) = absurd (let same : on ≡ node = grind (arith, nat_tests, is) in omega (arith, same, later.1))
   go true is false more later = inr (refl, (let same : on ≡ node = grind (arith, nat_tests, is) in omega (arith, same)))
-  go false not true more (inl later) = inl (later.0, λ le is. later.1 (let below : on + 1 ≤ node = grind (arith, nat_tests, not, le) in below) is)
+  go false not true more (inl later) = inl (later.0, λ le low is. later.1 (let below : on + 1 ≤ node = grind (arith, nat_tests, not, le) in below) low is)
   go false not true more (inr later) = inr (later.0, omega (arith, later.1))
-  go false not false more later = inl (refl, λ le is. absurd (grind (arith, nat_tests, not, more, le, low)))
+  go false not false more later = inl (refl, λ le low is. absurd (grind (arith, nat_tests, not, more, le, low)))
 
--- a command passes nothing or its own batch; where it is through, just what is played
-abbrev own : Deed → List ℕ
-own (Write write has) = write ∷ []
-own _ = []
+-- a command passes nothing or its own batch; where it is through, on a demux node just what is played
+abbrev pub own_write : Deed → List ℕ
+own_write (Write write has) = write ∷ []
+own_write _ = []
 
-abbrev pub Passes : Deed → (played passed : List ℕ) → Doing → Type 0
-Passes v played ws d = ((ws ≡ []) ⊎ (ws ≡ own v)) × (IsThrough d → ws ≡ played)
+abbrev pub Passes : (node : ℕ) → Deed → (played passed : List ℕ) → Doing → Type 0
+Passes node v played ws d = ((ws ≡ []) ⊎ (ws ≡ own_write v)) × (node < DEMUX_NODES → IsThrough d → ws ≡ played)
 
-write_passes : (node on write : ℕ) (has : Bool) (step : ℕ) (rs : List Response) → node < 32
-    → Passes (Write write has) (played_on (Write write has) rs) (passed_by node (Still (task.Write on write has)) step rs) (doing (Still (task.Write on write has)) step rs)
-write_passes node on write false step rs low = let none = silent node (Still (task.Write on write false)) step rs tt in (inl none, λ is. none)
-write_passes node on write true step [] low = (inl refl, λ is. absurd is)
-write_passes node on write true step (Ready readable error at ended ∷ rs) low = go (play_passes node write 0 (step + 1) rs low) where
+write_passes : (node on write : ℕ) (has : Bool) (step : ℕ) (rs : List Response)
+    → Passes node (Write write has) (played_on (Write write has) rs) (passed_by node (Still (task.Write on write has)) step rs) (doing (Still (task.Write on write has)) step rs)
+write_passes node on write false step rs = let none = silent node (Still (task.Write on write false)) step rs tt in (inl none, λ low is. none)
+write_passes node on write true step [] = (inl refl, λ low is. absurd is)
+write_passes node on write true step (Ready readable error at ended ∷ rs) = go (play_passes node write 0 (step + 1) rs) where
   later : List ℕ
   later = passed_by node (Still (Play write 0)) (step + 1) rs
 
   first_none : pass_at node (event_of (task.Write on write true) step) ++ later ≡ later
   first_none = ap (λ ws. ws ++ later) (none_either (nat_eq on node))
 
-  go : PassesFrom node write 0 later (doing (Still (Play write 0)) (step + 1) rs) → Passes (Write write true) (write ∷ []) (pass_at node (event_of (task.Write on write true) step) ++ later) (doing (Still (Play write 0)) (step + 1) rs)
-  go (inl none) = (inl (first_none ∙ none.0), λ is. absurd (none.1 (omega arith) is))
-  go (inr one) = (inr (first_none ∙ one.0), λ is. first_none ∙ one.0)
-write_passes node on write true step (_ ∷ rs) low = let none = ap (λ (ws : List ℕ). ws ++ []) (none_either (nat_eq on node)) in (inl none, λ is. none)
+  go : PassesFrom node write 0 later (doing (Still (Play write 0)) (step + 1) rs) → Passes node (Write write true) (write ∷ []) (pass_at node (event_of (task.Write on write true) step) ++ later) (doing (Still (Play write 0)) (step + 1) rs)
+  go (inl none) = (inl (first_none ∙ none.0), λ low is. absurd (none.1 (omega arith) low is))
+  go (inr one) = (inr (first_none ∙ one.0), λ low is. first_none ∙ one.0)
+write_passes node on write true step (_ ∷ rs) = let none = ap (λ (ws : List ℕ). ws ++ []) (none_either (nat_eq on node)) in (inl none, λ low is. none)
 
 -- a command that is no write
-free : (node : ℕ) (v : Deed) (n : Next) (step : ℕ) (rs : List Response) (played : List ℕ) → IsSilent n → played ≡ [] → Passes v played (passed_by node n step rs) (doing n step rs)
-free node v n step rs played is none = let s = silent node n step rs is in (inl s, λ ends. s ∙ sym none)
+free : (node : ℕ) (v : Deed) (n : Next) (step : ℕ) (rs : List Response) (played : List ℕ) → IsSilent n → played ≡ [] → Passes node v played (passed_by node n step rs) (doing n step rs)
+free node v n step rs played is none = let s = silent node n step rs is in (inl s, λ low ends. s ∙ sym none)
 
-on_passes : (node on : ℕ) (v : Deed) (step : ℕ) (rs : List Response) → node < 32 → Passes v (played_on v rs) (passed_by node (first_on on v) step rs) (doing (first_on on v) step rs)
-on_passes node on (Once w) step rs low = free node (Once w) (Still (Call on w)) step rs [] tt refl
-on_passes node on (ReadWait count) step rs low = free node (ReadWait count) (Still (task.ReadWait on count)) step rs [] tt refl
-on_passes node on (Drain count) step rs low = free node (Drain count) (Still (task.Drain on count)) step rs [] tt refl
-on_passes node on (GetStc num) step rs low = (inl refl, λ is. refl)
-on_passes node on (Write write has) step rs low = write_passes node on write has step rs low
+on_passes : (node on : ℕ) (v : Deed) (step : ℕ) (rs : List Response) → Passes node v (played_on v rs) (passed_by node (first_on on v) step rs) (doing (first_on on v) step rs)
+on_passes node on (Once w) step rs = free node (Once w) (Still (Call on w)) step rs [] tt refl
+on_passes node on (ReadWait count) step rs = free node (ReadWait count) (Still (task.ReadWait on count)) step rs [] tt refl
+on_passes node on (Drain count) step rs = free node (Drain count) (Still (task.Drain on count)) step rs [] tt refl
+on_passes node on (GetStc num) step rs = (inl refl, λ low is. refl)
+on_passes node on (Write write has) step rs = write_passes node on write has step rs
 
-at_passes : (node : ℕ) (o : Option ℕ) (v : Deed) (step : ℕ) (rs : List Response) → node < 32 → Passes v (played_at o v rs) (passed_by node (first_at o v) step rs) (doing (first_at o v) step rs)
-at_passes node None v step rs low = (inl refl, λ is. refl)
-at_passes node (Some on) v step rs low = on_passes node on v step rs low
+at_passes : (node : ℕ) (o : Option ℕ) (v : Deed) (step : ℕ) (rs : List Response) → Passes node v (played_at o v rs) (passed_by node (first_at o v) step rs) (doing (first_at o v) step rs)
+at_passes node None v step rs = (inl refl, λ low is. refl)
+at_passes node (Some on) v step rs = on_passes node on v step rs
 
 open_plays : (o : Option ℕ) (rs : List Response) → played_at o (Once Open) rs ≡ []
 open_plays None rs = refl
 open_plays (Some on) rs = refl
 
-slot_passes : (node slot : ℕ) (slots : Slots) (v : Deed) (step : ℕ) (rs : List Response) → node < 32
-    → Passes v (played_at (slice_index_or slots slot None) v rs) (passed_by node (first_by_slot slot slots v) step rs) (doing (first_by_slot slot slots v) step rs)
-slot_passes node slot slots (Once Open) step rs low = free node (Once Open) (Still (OpenFrom slot 0)) step rs (played_at (slice_index_or slots slot None) (Once Open) rs) tt (open_plays (slice_index_or slots slot None) rs)
-slot_passes node slot slots v step rs low = at_passes node (slice_index_or slots slot None) v step rs low
+slot_passes : (node slot : ℕ) (slots : Slots) (v : Deed) (step : ℕ) (rs : List Response)
+    → Passes node v (played_at (slice_index_or slots slot None) v rs) (passed_by node (first_by_slot slot slots v) step rs) (doing (first_by_slot slot slots v) step rs)
+slot_passes node slot slots (Once Open) step rs = free node (Once Open) (Still (OpenFrom slot 0)) step rs (played_at (slice_index_or slots slot None) (Once Open) rs) tt (open_plays (slice_index_or slots slot None) rs)
+slot_passes node slot slots v step rs = at_passes node (slice_index_or slots slot None) v step rs
 
-first_passes : (node : ℕ) (slots : Slots) (t : Target) (v : Deed) (step : ℕ) (rs : List Response) → node < 32 → Passes v (played_in slots t v rs) (passed_by node (first slots t v) step rs) (doing (first slots t v) step rs)
-first_passes node slots (Node on) v step rs low = on_passes node on v step rs low
-first_passes node slots (Slot slot) v step rs low = slot_passes node slot slots v step rs low
-first_passes node slots Dvr v step rs low = on_passes node DEMUX_NODES v step rs low
+first_passes : (node : ℕ) (slots : Slots) (t : Target) (v : Deed) (step : ℕ) (rs : List Response) → Passes node v (played_in slots t v rs) (passed_by node (first slots t v) step rs) (doing (first slots t v) step rs)
+first_passes node slots (Node on) v step rs = on_passes node on v step rs
+first_passes node slots (Slot slot) v step rs = slot_passes node slot slots v step rs
+first_passes node slots Dvr v step rs = on_passes node DEMUX_NODES v step rs
 
-pub done_passes : (node : ℕ) (slots : Slots) (t : Target) (v : Deed) (step : ℕ) (rs : List Response) → node < 32 → Passes v (played_in slots t v rs) (passed_by node (first slots t v) step rs) (done slots t v step rs)
-done_passes node slots t v step rs low = by_steps (Passes v (played_in slots t v rs) (passed_by node (first slots t v) step rs)) slots t v step rs (first_passes node slots t v step rs low)
+pub done_passes : (node : ℕ) (slots : Slots) (t : Target) (v : Deed) (step : ℕ) (rs : List Response) → Passes node v (played_in slots t v rs) (passed_by node (first slots t v) step rs) (done slots t v step rs)
+done_passes node slots t v step rs = by_steps (Passes node v (played_in slots t v rs) (passed_by node (first slots t v) step rs)) slots t v step rs (first_passes node slots t v step rs)
 
 -- ------ all commands
 
@@ -146,7 +146,7 @@ same_passes node f g is (r ∷ rs) =
     ap (λ o. pass_by node o ++ passes_by node (λ m. f (r ∷ m)) rs) (is [])
     ∙ ap (λ ws. pass_by node (g []) ++ ws) (same_passes node (λ m. f (r ∷ m)) (λ m. g (r ∷ m)) (λ m. is (r ∷ m)) rs)
 
-no_passes : (node : ℕ) (rs : List Response) → passes_by node (λ m. None) rs ≡ []
+pub no_passes : (node : ℕ) (rs : List Response) → passes_by node (λ m. None) rs ≡ []
 no_passes node [] = refl
 no_passes node (r ∷ rs) = no_passes node rs
 
@@ -181,7 +181,7 @@ all_pass : (node : ℕ) (slots : Slots) (step : ℕ) (cs : List Command) (rs : L
 all_pass node slots step [] rs low none = no_passes node rs
 all_pass node slots step (c ∷ cs) rs low none =
     first_and_rest node slots step c cs rs
-    ∙ go (λ ending next left there. all_pass node (slots_after ending slots) next cs left low there) (done slots c.target c.deed step rs) (done_passes node slots c.target c.deed step rs low).1 none where
+    ∙ go (λ ending next left there. all_pass node (slots_after ending slots) next cs left low there) (done slots c.target c.deed step rs) ((done_passes node slots c.target c.deed step rs).1 low) none where
       go : ((ending : Ending) (next : ℕ) (left : List Response) → (progress_from (slots_after ending slots) next cs left).standing ≡ None
           → passes_by node (λ m. event_in (progress_from (slots_after ending slots) next cs m)) left ≡ played_from (slots_after ending slots) next cs left)
           → (d : Doing) → (IsThrough d → passed_by node (first slots c.target c.deed) step rs ≡ played_in slots c.target c.deed rs) → (progress_of slots step c cs d).standing ≡ None

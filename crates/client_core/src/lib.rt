@@ -9,17 +9,18 @@
 //!
 //! What a contract sees: a `ClientCore` as the record `Core` of `specs/Inside/Core.antt`, which holds no history; `IsAfter` says that it
 //! stands after these replies to this client of the script. The definitions are functions of the script and of the replies alone: `done`
-//! (`specs/Commands.antt`), `progress`, `next_event`, `waits_on` (`specs/Events.antt`), `stc`, `outcomes`, `played_writes`, `repeats`. Of
-//! `stc_clock` it sees the cutting so far and the last program clock reference (`HasFollowed`); of `dvr_play` the bytes of the packet
-//! that has begun, how many are whole, and the writes' batches (`HasPlayed`).
+//! (`specs/Commands.antt`), or by small steps `doing` (`specs/Steps.antt`), `progress`, `next_event`, `waits_on` (`specs/Events.antt`),
+//! `stc`, `outcomes`, `played_writes`, `repeats`. Of `stc_clock` it sees the cutting so far and the last program clock reference
+//! (`HasFollowed`); of `dvr_play` the bytes of the packet that has begun, how many are whole, and the writes' batches (`HasPlayed`).
 //!
 //! What is proved: `new` stands after no replies, `take` carries a core that stands after some replies to one that stands after one more
 //! (`HasTaken`); `next`, `next_at`, `line`, `waits` and `outcomes` are what the definitions say. `call_of` makes the call that is asked
 //! for, `call_of_want` for one who has no client core. `pcr` is the number of the standard's fields, and however the bytes come in pieces
 //! `value` is the clock of all that were pushed since `new` or `clear`. Joined, the batches of all writes are the packets of the cutting
-//! of all their bytes (`plays_law`). Laws: a client makes at most 33 calls a command beside the reads that it repeats (`calls_are_few`);
-//! one reply more repeats at most one read more (`one_reply_repeats_once`); its passes on a node are, in order and each once, those of its
-//! writes whose poll was Ready and which complete a packet (`writes_pass_their_batches`). Worked examples are computed by the check.
+//! of all their bytes (`plays_law`). Laws: what a command does as a whole and by small steps is the same (`small_steps_are_the_whole`); a
+//! client makes at most 33 calls a command beside the reads that it repeats (`calls_are_few`); one reply more repeats at most one read
+//! more (`one_reply_repeats_once`); its passes on a node are, in order and each once, those of its writes whose poll was Ready and which
+//! complete a packet (`writes_pass_their_batches`). Worked examples are computed by the check.
 //!
 //! What is only tested, in `tests_text`: that memory isn't refused where there is enough, and, by packets written by hand and one of
 //! ffmpeg's muxer, that the fields are those meant.

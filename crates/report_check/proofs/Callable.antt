@@ -2,7 +2,7 @@
 use Rattle.report_check.proofs.Imports.{◌≡◌, ◌<◌, ◌≤◌, ◌+◌, refl, sym, ap, ◌∙◌, subst, ℕ, zero, suc, List, [], ◌∷◌, Bool, true, false, nat_eq, length, map, sum, take, drop, arith, length-take, nat_tests, All-head, All-tail, All-nil, All-cons, All-weaker, sum_by-cons, Option, Some, None, IsSome, IfSome, slice_get, slice_index_or, nat_le, All, range_with_len, length-drop, get_or-map-range_with_len, Packets, IsPlayedBatch, StandsAmong, are_few, are_placed, LARGEST_READ, LogEntry, act_of, Want, Read, clients_in, IsScript, Scripted, writes_of, IsWritten, Event, Request, Own, Attach, Detach, Pass, Batches, batch_at, call_of, own_call, pass_of, played, plays_of, IsRequestInRange, IsRequestOf, next_event, Batch, Step, feeding, steps_of, IsRun, replies, IsEvent, few_in_all, all_played, is_callable, are_sound}
 use Rattle.std.proofs.Common.{nat_lt}
 use Rattle.report_check.proofs.Feeding.{Fits, size_of}
-use Rattle.report_check.proofs.Ranges.{asks_in_range}
+use Rattle.client_core.proofs.Numbering.{next_is_asked}
 
 -- ------ the feeder
 
@@ -116,7 +116,7 @@ module _ (script : Scripted) (packets : List (List ℕ)) (hs : List (List LogEnt
       let s = d.steps e.step e made in
       let eight : c < 8 = omega (arith, low, few_in_all script known.ranges) in
       subst (λ (k : ℕ). is_callable (length packets) amounts k e.act ≡ true) (sym is)
-      (event_can script known (length packets) c eight (next_event c script (replies (take e.step d.made))) e (λ event at'. asks_in_range c script (replies (take e.step d.made)) known.ranges event at') s.3)
+      (event_can script known (length packets) c eight (next_event c script (replies (take e.step d.made))) e (λ event at'. (let a = next_is_asked c script (replies (take e.step d.made)) event known.ranges at' in (a.1.1, a.1.2))) s.3)
 
   sound_from : (node place : ℕ) (h rest : List LogEntry) → slice_get hs node ≡ Some h → ((i : ℕ) (e : LogEntry) → slice_get rest i ≡ Some e → slice_get h (place + i) ≡ Some e)
       → are_sound (clients_in script) (length packets) amounts rest ≡ true

@@ -1,30 +1,18 @@
 -- The words of others that the proofs of this crate use.
-pub use Rattle.client_core.proofs.GoesOn.{progress_of}
 pub use Rattle.client_core.proofs.Joining.{are_counted, are_few, are_joined, are_packets, are_placed, few_in}
 pub use Rattle.client_core.proofs.Playing.{has_write}
-pub use Rattle.client_core.specs.Commands.{Doing, IsRequestInRange, IsRequestOf, Slots, call_of, called, commands_among, commands_in, commands_of, done, done_at, done_by_slot, done_on, ends_drain, ends_wait, once, opened, own_call, pass_of, passed, played, plays_of, read_until, stands, through, told, written}
-pub use Rattle.client_core.specs.Deeds.{Batches, IsDeedInRange, IsDeedOf, batch_at, deed_of}
-pub use Rattle.client_core.specs.Events.{Standing, next_event, no_slots, progress_from, slots_after}
+pub use Rattle.client_core.specs.Commands.{IsRequestInRange, IsRequestOf, call_of, own_call, pass_of, played, plays_of}
+pub use Rattle.client_core.specs.Deeds.{Batches, batch_at}
+pub use Rattle.client_core.specs.Events.{next_event}
 pub use Rattle.client_core.specs.Inside.Core.{Core, IsAfter}
 pub use Rattle.client_core.specs.Outcomes.{outcomes}
 pub use Rattle.client_core.specs.PlayLaws.{IsPlayed as IsPlayedBatch, StandsAmong, packets_in}
 pub use Rattle.client_core.specs.Plays.{HasPlayed, Playing, batch_of, cut_of, joined, with_write}
-pub use Rattle.client_core.specs.declared.command.Command.{Command}
-pub use Rattle.client_core.specs.declared.deed.Deed.{Deed}
-pub use Rattle.client_core.specs.declared.deed.Deed.TheVariants.{Drain, GetStc, Once, ReadWait, Write}
 pub use Rattle.client_core.specs.declared.event.Event.{Event}
 pub use Rattle.client_core.specs.declared.event.Request.{Request}
 pub use Rattle.client_core.specs.declared.event.Request.TheVariants.{Attach, Detach, Own, Pass}
-pub use Rattle.client_core.specs.declared.task.Ending.{Ending}
-pub use Rattle.client_core.specs.declared.task.Ending.TheVariants.{AllBusy, Bound, Made}
-pub use Rattle.client_script.specs.Grammar.{IsVerbInRange, IsWantInRange}
 pub use Rattle.client_script.specs.Script.{AreWritten, IsScript, Scripted, clients_in, writes_of}
 pub use Rattle.client_script.specs.Writes.{IsWritten}
-pub use Rattle.client_script.specs.declared.line.Line.{Line}
-pub use Rattle.client_script.specs.declared.line.Line.TheVariants.{Command as CommandLine}
-pub use Rattle.client_script.specs.declared.line.Target.{Target}
-pub use Rattle.client_script.specs.declared.line.Target.TheVariants.{Node, Slot}
-pub use Rattle.client_script.specs.declared.line.Verb.{Verb}
 pub use Rattle.client_script.specs.declared.line.Want.{Want}
 pub use Rattle.client_script.specs.declared.line.Want.TheVariants.{Add, Close, Open, Pes, Poll, Read, Remove, Section, Size, Start, Stop}
 pub use Rattle.dmx_calls.proofs.Numbered.{demux_rules, dvr_rules}
@@ -34,7 +22,7 @@ pub use Rattle.dmx_calls.specs.History.{Entry, History, entry_of}
 pub use Rattle.dmx_calls.specs.Invocation.{Invocation}
 pub use Rattle.dmx_calls.specs.Legal.{IsLegalFor, May}
 pub use Rattle.dmx_calls.specs.Log.{LogEntry, Sources, act_of, filled, filled_act, filled_entry}
-pub use Rattle.dmx_calls.specs.Response.{Busy, Done, NoMemory, Passed, Ready, Response, TapChange}
+pub use Rattle.dmx_calls.specs.Response.{NoMemory, Passed, Response}
 pub use Rattle.dmx_calls.specs.Rules.{Rules, rules_at}
 pub use Rattle.dmx_calls.specs.declared.limits.TheConstants.{DEMUX_NODES, LARGEST_READ}
 pub use Rattle.dmx_calls.specs.declared.log.Act.{Act}
@@ -43,7 +31,6 @@ pub use Rattle.dmx_calls.specs.declared.log.Entry.{Entry as ToldEntry}
 pub use Rattle.dmx_calls.specs.declared.outcome.Outcome.{Outcome}
 pub use Rattle.dmx_calls.specs.declared.params.Input.{Input}
 pub use Rattle.dmx_calls.specs.declared.params.Input.TheVariants.{Dvr, Dvr as FromDvr, Frontend}
-pub use Rattle.dmx_calls.specs.declared.reply.Tap.TheVariants.{Attach as AttachTap, Detach as DetachTap, Keep as KeepTap}
 pub use Rattle.dvr_core.specs.Stands.{CoreValue as DvrValue, StandsFor as DvrStands}
 pub use Rattle.lemmas.proofs.Lists.{at_place}
 pub use Rattle.node_core.specs.Stands.{CoreValue as DemuxValue, StandsFor as DemuxStands}

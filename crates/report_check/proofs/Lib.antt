@@ -2,7 +2,6 @@ pub mod Lists
 pub mod Ways
 pub mod Feeding
 pub mod Nodes
-pub mod Ranges
 pub mod Callable
 pub mod Fed
 pub mod Passed

@@ -1,24 +1,25 @@
 -- The words of others that the proofs of this crate use.
 pub use Rattle.client_core.proofs.FirstCalls.{first_calls, stays_on}
-pub use Rattle.client_core.proofs.GoesOn.{progress_of}
+pub use Rattle.client_core.proofs.Following.{exchanges_more}
 pub use Rattle.client_core.proofs.Joining.{are_counted, are_joined, are_packets, are_placed, few_in}
-pub use Rattle.client_core.proofs.More.{IsFirst, Onward, done_none, done_on_more, one_reply_more, repeats_none, some_of}
-pub use Rattle.client_core.specs.Commands.{Doing, Slots, call_of, called, commands_among, commands_in, commands_of, done, done_at, done_by_slot, done_on, ends_drain, ends_wait, once, opened, pass_of, passed, played, plays_of, read_until, stands, through, told, written}
+pub use Rattle.client_core.proofs.More.{one_reply_more, repeats_none, some_of}
+pub use Rattle.client_core.proofs.Passing.{by_calls, done_passes, event_in, first_and_rest, no_passes, own_write, passed_by, passes_behind, passes_by}
+pub use Rattle.client_core.specs.Commands.{Doing, Slots, call_of, commands_among, commands_in, commands_of, done, ends_drain, pass_of, passed, played, plays_of, stands, through}
 pub use Rattle.client_core.specs.Deeds.{Batches, batch_at, deed_of}
 pub use Rattle.client_core.specs.Events.{Standing, next_event, no_slots, progress, progress_from, slots_after, waits_on}
 pub use Rattle.client_core.specs.Inside.More.{added_by}
-pub use Rattle.client_core.specs.Passes.{played_at, played_from, played_in, played_on}
+pub use Rattle.client_core.specs.Passes.{pass_at, pass_in, passes_on, played_at, played_from, played_in, played_on}
 pub use Rattle.client_core.specs.PlayLaws.{StandsAmong, packets_in}
 pub use Rattle.client_core.specs.Plays.{cut_of, joined, plays}
-pub use Rattle.client_core.specs.Repeats.{repeats_in}
+pub use Rattle.client_core.specs.Stc.{exchanges, with_reply}
+pub use Rattle.client_core.specs.Steps.{first}
 pub use Rattle.client_core.specs.declared.command.Command.{Command, Command as ClientCommand}
 pub use Rattle.client_core.specs.declared.deed.Deed.{Deed}
 pub use Rattle.client_core.specs.declared.deed.Deed.TheVariants.{Drain, GetStc, Once, ReadWait, Write}
 pub use Rattle.client_core.specs.declared.event.Event.{Event}
 pub use Rattle.client_core.specs.declared.event.Request.{Request}
-pub use Rattle.client_core.specs.declared.event.Request.TheVariants.{Attach, Detach, Own, Pass}
+pub use Rattle.client_core.specs.declared.event.Request.TheVariants.{Own, Pass}
 pub use Rattle.client_core.specs.declared.task.Ending.{Ending}
-pub use Rattle.client_core.specs.declared.task.Ending.TheVariants.{AllBusy, Bound, Made}
 pub use Rattle.client_script.specs.Grammar.{IsInRange}
 pub use Rattle.client_script.specs.Script.{Scripted, clients_in, clients_of, named_among, named_by, named_in, writes_of}
 pub use Rattle.client_script.specs.declared.line.Line.{Line}
@@ -26,7 +27,6 @@ pub use Rattle.client_script.specs.declared.line.Line.TheVariants.{Command as Co
 pub use Rattle.client_script.specs.declared.line.Target.{Target}
 pub use Rattle.client_script.specs.declared.line.Target.TheVariants.{Dvr, Node, Slot}
 pub use Rattle.client_script.specs.declared.line.Verb.{Verb}
-pub use Rattle.client_script.specs.declared.line.Want.{Want}
 pub use Rattle.client_script.specs.declared.line.Want.TheVariants.{Open}
 pub use Rattle.dmx_calls.proofs.Nodes.{demux_keeps, dvr_keeps}
 pub use Rattle.dmx_calls.proofs.Reading.{read_each}
@@ -39,7 +39,7 @@ pub use Rattle.dmx_calls.specs.Invocation.{Invocation, brought}
 pub use Rattle.dmx_calls.specs.Ledger.{answered_in}
 pub use Rattle.dmx_calls.specs.Legal.{IsLegalFor, May}
 pub use Rattle.dmx_calls.specs.Log.{IsFrom, LogEntry, Sources, act_of, filled, filled_act, filled_entry}
-pub use Rattle.dmx_calls.specs.Response.{Again, Busy, Data, Done, NoMemory, Overflow, Passed, Ready, Refused, Response, TapChange, TimedOut}
+pub use Rattle.dmx_calls.specs.Response.{Again, Busy, Data, Done, NoMemory, Overflow, Passed, Ready, Refused, Response, TimedOut}
 pub use Rattle.dmx_calls.specs.Rules.{Rules, demux, dvr}
 pub use Rattle.dmx_calls.specs.Tenure.{has_ended}
 pub use Rattle.dmx_calls.specs.declared.limits.TheConstants.{DEMUX_NODES}
@@ -49,9 +49,7 @@ pub use Rattle.dmx_calls.specs.declared.params.Input.{Input}
 pub use Rattle.dmx_calls.specs.declared.params.Input.TheVariants.{Frontend}
 pub use Rattle.dmx_calls.specs.declared.reply.Errno.{Errno}
 pub use Rattle.dmx_calls.specs.declared.reply.Errno.TheVariants.{Ebadf}
-pub use Rattle.dmx_calls.specs.declared.reply.Tap.TheVariants.{Attach as AttachTap, Detach as DetachTap, Keep as KeepTap}
 pub use Rattle.lemmas.proofs.Lists.{at_map, at_place, has_at, has_left, has_right, one_value}
-pub use Rattle.lemmas.proofs.Options.{same_some}
 pub use Rattle.lemmas.specs.Lists.{Has}
 pub use Rattle.node_laws.proofs.Bytes.{demux_answers_fit, dvr_answers_fit}
 pub use Rattle.node_laws.proofs.LawsHold.{demux_accounted, dvr_accounted}
@@ -63,16 +61,16 @@ pub use Rattle.script_run.specs.Budget.{all_commands, bytes_in, bytes_written, m
 pub use Rattle.script_run.specs.IsRun.{Batch, HasDone, IsEvent, StandsIn, Step, feeding, replies, sources, steps_of}
 pub use Rattle.script_run.specs.Passing.{WritesPass, from_the_dvr}
 pub use Rattle.script_run.specs.SoFar.{CallsArePaid, HasDoneSoFar, IsPaidBehind, IsSoFar, MayPay, Payers, RunsAreAccounted, RunsEnd, commands_for, feeder, others}
-pub use Rattle.std.proofs.Common.{Bool, List, None, Option, Some, [], add-one, ap, append-nil, append_assoc, arith, drop, false, filter, fold, inl, inr, length, length-append, length-take, map, max, min, nat_eq, nat_lt, refl, slice_get, subst, suc, sym, take, true, zero, ℕ, ◌*◌, ◌++◌, ◌+◌, ◌-◌, ◌<◌, ◌∙◌, ◌∷◌, ◌≡◌, ◌≢◌, ◌≤◌}
+pub use Rattle.std.proofs.Common.{Bool, List, None, Option, Some, [], add-one, ap, append-nil, append_assoc, arith, drop, false, filter, fold, inl, inr, length, length-append, length-take, map, max, nat_eq, nat_lt, refl, slice_get, subst, suc, sym, take, true, zero, ℕ, ◌*◌, ◌++◌, ◌+◌, ◌-◌, ◌<◌, ◌∙◌, ◌∷◌, ◌≡◌, ◌≢◌, ◌≤◌}
 pub use Rattle.std.proofs.Math.Seq.{get_or-append_seam}
 pub use Rattle.std.proofs.lemmas.Bool.Decides.{nat_tests}
 pub use Rattle.std.proofs.lemmas.Grind.{flat_map-append}
 pub use Rattle.std.proofs.lemmas.List.{length-map, map-append, reverse-append, take_all}
 pub use Rattle.std.proofs.lemmas.List.Elements.{All-append, All-cons, All-drop, All-head, All-nil, All-tail, All-take, All-weaker, filter-append}
 pub use Rattle.std.proofs.lemmas.List.Sums.{sum_by-cons}
-pub use Rattle.std.proofs.lemmas.Option.{none-some, slice_get_within}
+pub use Rattle.std.proofs.lemmas.Option.{slice_get_within}
 pub use Rattle.std.specs.List.{All, cons_option, flat_map, range_with_len}
 pub use Rattle.std.specs.Option.{IfSome}
-pub use Rattle.std.specs.Prelude.{IsSome, filter_map, if◌then◌else◌, is_some, option_map, reverse, slice_index_or, sum, unwrap_or, ◌⊎◌}
+pub use Rattle.std.specs.Prelude.{IsSome, filter_map, if◌then◌else◌, is_some, reverse, slice_index_or, sum, unwrap_or, ◌⊎◌}
 pub use Rattle.ts_batch.specs.Batch.{Packets}
 pub use Rattle.ts_packet.specs.Fields.{IsPacket}

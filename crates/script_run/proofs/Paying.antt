@@ -1,6 +1,6 @@
 -- At each moment of a run, the commands and the bytes pay for the calls of a client: a repeat that follows bytes is paid for by
 -- them, and a repeat that follows Again by the entry right behind the read, which is the feeder's or adds no repeat to its own client's.
-use Rattle.script_run.proofs.Imports.{◌≡◌, ◌≢◌, refl, sym, ap, subst, ◌∙◌, ℕ, zero, suc, ◌+◌, ◌*◌, ◌<◌, ◌≤◌, Bool, true, false, nat_eq, List, [], ◌∷◌, ◌++◌, Option, Some, None, length, filter, take, slice_get, inl, inr, arith, ◌⊎◌, if◌then◌else◌, All, nat_tests, All-weaker, slice_get_within, Has, at_place, one_value, has_at, IsPacket, Ebadf, LogEntry, Sources, act_of, filled_act, filled_entry, HasRead, Response, Refused, Line, Feed, Tick, Target, Verb, clients_in, Scripted, ClientCommand, Event, Request, Own, Pass, Open, Packets, packets_in, Batches, batch_at, deed_of, call_of, commands_among, commands_of, ends_drain, pass_of, played, plays_of, next_event, no_slots, all_commands, bytes_in, most_calls, IsEvent, StandsIn, replies, sources, Payers, feeder, others, MayPay, IsPaidBehind, HasDoneSoFar, IsSoFar, commands_for, CallsArePaid}
+use Rattle.script_run.proofs.Imports.{◌≡◌, ◌≢◌, refl, sym, ap, subst, ◌∙◌, ℕ, zero, suc, ◌+◌, ◌*◌, ◌<◌, ◌≤◌, Bool, true, false, nat_eq, List, [], ◌∷◌, ◌++◌, Option, Some, None, length, filter, take, slice_get, inl, inr, arith, ◌⊎◌, if◌then◌else◌, All, nat_tests, All-weaker, slice_get_within, Has, at_place, one_value, has_at, IsPacket, Ebadf, LogEntry, Sources, act_of, filled_act, filled_entry, HasRead, Response, Refused, Line, Feed, Tick, Target, Verb, clients_in, Scripted, ClientCommand, Event, Request, Own, Pass, Open, Packets, packets_in, Batches, batch_at, deed_of, call_of, commands_among, ends_drain, pass_of, played, plays_of, next_event, all_commands, bytes_in, most_calls, IsEvent, StandsIn, replies, sources, Payers, feeder, others, MayPay, IsPaidBehind, HasDoneSoFar, IsSoFar, commands_for, CallsArePaid, pass_in, pass_at}
 use Rattle.client_script.specs.declared.line.Line.TheVariants.{Command}
 use Rattle.script_run.proofs.Lists.{has_filter}
 use Rattle.script_run.proofs.Counting.{total, total_le, total_add, total_same, total_33, total_but, total_one, one_at, but, sum_of, Pool, both, all_pools, HaveTokens, counts_fit, weigh_places, weight_at, weight_got}
@@ -8,7 +8,7 @@ use Rattle.script_run.proofs.ReadReplies.{read_there, next_is_refused}
 use Rattle.script_run.proofs.HistoryBytes.{bytes_fit, feeder_brings, feeder_long, packets_of}
 use Rattle.script_run.proofs.Events.{all_packets, count_of}
 use Rattle.script_run.proofs.Played.{all_few, named_once}
-use Rattle.script_run.proofs.Passing.{asked_to, from_worth, passes_by, worth_all, worth_of}
+use Rattle.script_run.proofs.Passing.{passed_worth, worth_all, worth_of}
 use Rattle.script_run.proofs.Repeating.{adds, quiet, IsGoing, going, quiet_calls, grows, but_one, calls_and_repeats, by_bytes, by_again, both_kinds, bytes_pay, IsWaiting, waiting}
 
 -- ------ the commands of all clients
@@ -72,7 +72,7 @@ zero_either : (b : Bool) → (if b then 0 else 0) ≤ 0
 zero_either true = omega arith
 zero_either false = omega arith
 
-asked_size : (batches : Batches) (node at moment : ℕ) (w : Request) → (if nat_eq at node then count_of (act_of (call_of batches w moment)) else 0) ≤ sum_of (write_size batches) (asked_to node at w)
+asked_size : (batches : Batches) (node at moment : ℕ) (w : Request) → (if nat_eq at node then count_of (act_of (call_of batches w moment)) else 0) ≤ sum_of (write_size batches) (if nat_eq at node then pass_in w else [])
 asked_size batches node at moment (Pass write) = go (nat_eq at node) where
   go : (b : Bool) → (if b then count_of (act_of (pass_of (batch_at batches write) moment)) else 0) ≤ sum_of (write_size batches) (if b then write ∷ [] else [])
   go true = omega (arith, pass_size (batch_at batches write) moment)
@@ -80,7 +80,7 @@ asked_size batches node at moment (Pass write) = go (nat_eq at node) where
 asked_size batches node at moment (Own Open) = zero_either (nat_eq at node)
 asked_size batches node at moment _ = zero_either (nat_eq at node)
 
-event_size : (batches : Batches) (node : ℕ) (e : LogEntry) (w : Event) (moment : ℕ) → e.node ≡ w.node → e.act ≡ act_of (call_of batches w.want moment) → brings_on node e ≤ sum_of (write_size batches) (passes_by node w)
+event_size : (batches : Batches) (node : ℕ) (e : LogEntry) (w : Event) (moment : ℕ) → e.node ≡ w.node → e.act ≡ act_of (call_of batches w.want moment) → brings_on node e ≤ sum_of (write_size batches) (pass_at node w)
 event_size batches node e w moment on is =
     omega (
       arith,
@@ -158,7 +158,7 @@ module _ (payers : Payers) (script : Scripted) (most : ℕ) (stream : List (List
         within = omega (
           arith,
           worth_all script client made (λ i e at. ((s.clients client low).steps i e at).3) node (brings_on node) (write_size batches) (event_size batches node),
-          from_worth node (write_size batches) no_slots 0 (commands_of client script) (replies made),
+          passed_worth node (write_size batches) client script (replies made),
         );
         all = λ t is. is low;
       }

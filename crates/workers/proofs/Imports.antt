@@ -10,11 +10,13 @@ pub use Rattle.adapter.specs.Nodes.{IsLegalAt, MakesEachEntry, ended, fed, is_in
 pub use Rattle.adapter.specs.Rows.{Fits, OneCalls, OneLooks, OneMore, all_calls, column}
 pub use Rattle.atomic_table.specs.Seated.{TableId}
 pub use Rattle.client_core.proofs.GoesOn.{progress_of}
-pub use Rattle.client_core.specs.Commands.{Doing, Slots, call_of, call_of as call_at, called, commands_among, commands_in, commands_of, done, done_on, ends_drain, ends_wait, once, pass_of, passed, plays_of, read_until, stands, through, told, written}
+pub use Rattle.client_core.proofs.Steps.{along, by_steps, if_next}
+pub use Rattle.client_core.specs.Commands.{Doing, Slots, call_of, call_of as call_at, commands_among, commands_in, commands_of, done, ends_drain, ends_wait, pass_of, plays_of, stands, through}
 pub use Rattle.client_core.specs.Deeds.{Batches, deed_of}
 pub use Rattle.client_core.specs.Events.{Progress, Standing, next_event, no_slots, progress, progress_from, slots_after, waits_on}
 pub use Rattle.client_core.specs.Inside.Core.{Core, IsAfter, behind, coming, next_of}
 pub use Rattle.client_core.specs.Outcomes.{outcomes}
+pub use Rattle.client_core.specs.Steps.{after, doing, event_of, first_on, telling}
 pub use Rattle.client_core.specs.declared.command.Command.{Command}
 pub use Rattle.client_core.specs.declared.deed.Deed.{Deed}
 pub use Rattle.client_core.specs.declared.deed.Deed.TheVariants.{Drain, GetStc, ReadWait, Write}
@@ -25,13 +27,16 @@ pub use Rattle.client_core.specs.declared.stop.Stop.TheVariants.{NoMemory, TooLo
 pub use Rattle.client_core.specs.declared.stop.TheConstants.{MOST_CALLS}
 pub use Rattle.client_core.specs.declared.task.Ending.{Ending}
 pub use Rattle.client_core.specs.declared.task.Ending.TheVariants.{Made}
+pub use Rattle.client_core.specs.declared.task.Next.{Next}
+pub use Rattle.client_core.specs.declared.task.Next.TheVariants.{Still, Through}
+pub use Rattle.client_core.specs.declared.task.Task.{Task}
+pub use Rattle.client_core.specs.declared.task.Task.TheVariants.{Call, OpenFrom, Play}
 pub use Rattle.client_script.specs.Script.{AreNumbered, Scripted, clients_in}
 pub use Rattle.client_script.specs.declared.line.Line.{Line}
 pub use Rattle.client_script.specs.declared.line.Line.TheVariants.{Command as CommandLine, Feed, Tick}
 pub use Rattle.client_script.specs.declared.line.Target.{Target}
 pub use Rattle.client_script.specs.declared.line.Target.TheVariants.{Dvr, Node, Slot}
 pub use Rattle.client_script.specs.declared.line.Verb.{Verb}
-pub use Rattle.client_script.specs.declared.line.Want.{Want}
 pub use Rattle.dmx_calls.proofs.Telling.{fills}
 pub use Rattle.dmx_calls.proofs.Weaving.{in_place-at, woven_nodes-at, woven_nodes-length}
 pub use Rattle.dmx_calls.specs.Calls.{response_of, told_entry}

@@ -1,7 +1,8 @@
 -- Each call of a client is on a node that its script can name.
-use Rattle.workers.proofs.Imports.{◌≡◌, ◌⊎◌, inl, inr, ⊎_elim, ℕ, ◌+◌, Bool, true, false, ◌||◌, nat_eq, nat_lt, eq-eqb, List, [], ◌∷◌, Option, Some, None, refl, ap, sym, ◌∙◌, subst, if◌then◌else◌, option_map, list_any, Has, has_either, DEMUX_NODES, KeepTap, AttachTap, DetachTap, Response, Done, Ready, TapChange, Scripted, Line, CommandLine, Feed, Tick, Target, Node, Slot, Dvr, Verb, Want, Command, Deed, ReadWait, Drain, GetStc, Write, Batches, deed_of, Event, Request, Ending, Made, commands_in, commands_among, commands_of, Doing, stands, through, once, told, called, read_until, ends_wait, ends_drain, passed, written, done_on, Slots, done, plays_of, Standing, slots_after, progress_from, no_slots, next_event, progress_of, is_for, passes_all, names, is_named}
+use Rattle.workers.proofs.Imports.{◌≡◌, ◌⊎◌, inl, inr, ⊎_elim, ℕ, ◌+◌, Bool, true, false, ◌||◌, nat_eq, nat_lt, eq-eqb, List, [], ◌∷◌, Option, Some, None, refl, ap, sym, ◌∙◌, subst, if◌then◌else◌, option_map, list_any, Has, has_either, DEMUX_NODES, KeepTap, AttachTap, DetachTap, Response, Done, Ready, TapChange, Scripted, Line, CommandLine, Feed, Tick, Target, Node, Slot, Dvr, Verb, Command, Deed, ReadWait, Drain, GetStc, Write, Batches, deed_of, Event, Ending, Made, commands_in, commands_among, commands_of, Doing, stands, through, ends_wait, ends_drain, Slots, done, plays_of, Standing, slots_after, progress_from, no_slots, next_event, progress_of, is_for, passes_all, names, is_named, Task, Call, OpenFrom, Play, Next, Still, Through, first_on, telling, after, doing, event_of, along, by_steps, if_next}
 use Rattle.client_script.specs.declared.line.Verb.TheVariants as verb
 use Rattle.client_core.specs.declared.deed.Deed.TheVariants.{Once}
+use Rattle.client_core.specs.declared.task.Task.TheVariants as task
 use Rattle.client_core.specs.Events.{progress}
 
 -- ------ what a command does
@@ -32,57 +33,60 @@ any_slot slot deed (stands event) = inl refl
 any_slot slot deed (through ending step left) = tt
 
 module _ (target : Target) (deed : Deed) where
-  once_on : (ending : Ending) (node : ℕ) (want : Request) (step : ℕ) (rs : List Response) → MayCall target deed node → IsOn target deed (once ending node want step rs)
-  once_on ending node want step [] may = may
-  once_on ending node want step (r ∷ rs) may = tt
+  -- a task on such a node; a slot is opened by no other target
+  abbrev KeepsOn : Next → Type 0
+  KeepsOn (Still (Call node want)) = MayCall target deed node
+  KeepsOn (Still (task.ReadWait node count)) = MayCall target deed node
+  KeepsOn (Still (task.Drain node count)) = MayCall target deed node
+  KeepsOn (Still (OpenFrom slot node)) = ⊥
+  KeepsOn (Still (task.Write node write has)) = MayCall target deed node × (passes deed ≡ true)
+  KeepsOn (Still (Play write node)) = passes deed ≡ true
+  KeepsOn _ = Unit {0}
 
-  told_on : (ending : Ending) (node : ℕ) (tap : TapChange) (step : ℕ) (rs : List Response) → IsOn target deed (told ending node tap step rs)
-  told_on ending node KeepTap step rs = tt
-  told_on ending node (AttachTap pids) step rs = once_on ending DEMUX_NODES _ step rs (inr refl)
-  told_on ending node DetachTap step rs = once_on ending DEMUX_NODES _ step rs (inr refl)
-
-  called_on : (node : ℕ) (want : Want) (step : ℕ) (rs : List Response) → MayCall target deed node → IsOn target deed (called node want step rs)
-  called_on node want step [] may = may
-  called_on node want step (Done from to tap ∷ rs) may = by_test (nat_lt node DEMUX_NODES) where
-    by_test : (b : Bool) → IsOn target deed (if b then told Made node tap (step + 1) rs else through Made (step + 1) rs)
-    by_test true = told_on Made node tap (step + 1) rs
-    by_test false = tt
-  called_on node want step (_ ∷ rs) may = tt
-
-  read_on : (ends : Response → Bool) (node count step : ℕ) (rs : List Response) → MayCall target deed node → IsOn target deed (read_until ends node count step rs)
-  read_on ends node count step [] may = may
-  read_on ends node count step (r ∷ rs) may = by_test (ends r) (read_on ends node count (step + 1) rs may) where
-    by_test : (b : Bool) → IsOn target deed (read_until ends node count (step + 1) rs) → IsOn target deed (if b then through Made (step + 1) rs else read_until ends node count (step + 1) rs)
-    by_test true on = tt
-    by_test false on = on
-
-  passed_on : (write node step : ℕ) (rs : List Response) → passes deed ≡ true → IsOn target deed (passed write node step rs)
-  passed_on write node step [] all = inl (ap (λ b. is_for target node || b) all ∙ or_true (is_for target node)) where
+  stands_on : (t : Task) (step : ℕ) → KeepsOn (Still t) → MayCall target deed (event_of t step).node
+  stands_on (Call node want) step may = may
+  stands_on (task.ReadWait node count) step may = may
+  stands_on (task.Drain node count) step may = may
+  stands_on (OpenFrom slot node) step none = absurd none
+  stands_on (task.Attach ending node pids) step may = inr refl
+  stands_on (task.Detach ending node) step may = inr refl
+  stands_on (task.Write node write has) step may = may.0
+  stands_on (Play write node) step all = inl (ap (λ b. is_for target node || b) all ∙ or_true (is_for target node)) where
     or_true : (b : Bool) → (b || true) ≡ true
     or_true true = refl
     or_true false = refl
-  passed_on write node step (r ∷ rs) all = by_test (nat_lt (node + 1) DEMUX_NODES) (passed_on write (node + 1) (step + 1) rs all) where
-    by_test : (b : Bool) → IsOn target deed (passed write (node + 1) (step + 1) rs) → IsOn target deed (if b then passed write (node + 1) (step + 1) rs else through Made (step + 1) rs)
-    by_test true on = on
-    by_test false on = tt
 
-  written_on : (node write : ℕ) (has_batch : Bool) (step : ℕ) (rs : List Response) → passes deed ≡ true → MayCall target deed node → IsOn target deed (written node write has_batch step rs)
-  written_on node write has_batch step [] all may = may
-  written_on node write true step (Ready readable error at ended ∷ rs) all may = passed_on write 0 (step + 1) rs all
-  written_on node write false step (Ready readable error at ended ∷ rs) all may = tt
-  written_on node write has_batch step (_ ∷ rs) all may = tt
+  telling_on : (ending : Ending) (node : ℕ) (tap : TapChange) → KeepsOn (telling ending node tap)
+  telling_on ending node KeepTap = tt
+  telling_on ending node (AttachTap pids) = tt
+  telling_on ending node DetachTap = tt
 
-deed_on : (target : Target) (deed : Deed) (node step : ℕ) (rs : List Response) → MayCall target deed node → IsOn target deed (done_on node deed step rs)
-deed_on target (Once want) node step rs may = called_on target (Once want) node want step rs may
-deed_on target (ReadWait count) node step rs may = read_on target (ReadWait count) ends_wait node count step rs may
-deed_on target (Drain count) node step rs may = read_on target (Drain count) ends_drain node count step rs may
-deed_on target (GetStc num) node step rs may = tt
-deed_on target (Write write has_batch) node step rs may = written_on target (Write write has_batch) node write has_batch step rs refl may
+  next_on : (t : Task) (r : Response) → KeepsOn (Still t) → KeepsOn (after t r)
+  next_on (Call node want) (Done from to tap) may = if_next KeepsOn (nat_lt node DEMUX_NODES) (telling Made node tap) (Through Made) (λ yes. telling_on Made node tap) tt
+  next_on (Call node want) _ may = tt
+  next_on (task.ReadWait node count) r may = if_next KeepsOn (ends_wait r) (Through Made) (Still (task.ReadWait node count)) (λ yes. tt) may
+  next_on (task.Drain node count) r may = if_next KeepsOn (ends_drain r) (Through Made) (Still (task.Drain node count)) (λ yes. tt) may
+  next_on (OpenFrom slot node) r none = absurd none
+  next_on (task.Attach ending node pids) r may = tt
+  next_on (task.Detach ending node) r may = tt
+  next_on (task.Write node write has) (Ready readable error at ended) may = if_next KeepsOn has (Still (Play write 0)) (Through Made) (λ yes. may.1) tt
+  next_on (task.Write node write has) _ may = tt
+  next_on (Play write node) r all = if_next KeepsOn (nat_lt (node + 1) DEMUX_NODES) (Still (Play write (node + 1))) (Through Made) (λ yes. all) tt
+
+  doing_on : (n : Next) (step : ℕ) (rs : List Response) → KeepsOn n → IsOn target deed (doing n step rs)
+  doing_on n step rs on = along KeepsOn (IsOn target deed) stands_on (λ ending step left may. tt) next_on n step rs on
+
+first_is_on : (target : Target) (deed : Deed) (node : ℕ) → MayCall target deed node → KeepsOn target deed (first_on node deed)
+first_is_on target (Once want) node may = may
+first_is_on target (ReadWait count) node may = may
+first_is_on target (Drain count) node may = may
+first_is_on target (GetStc num) node may = tt
+first_is_on target (Write write has) node may = (may, refl)
 
 done_is_on : (slots : Slots) (target : Target) (deed : Deed) (step : ℕ) (rs : List Response) → IsOn target deed (done slots target deed step rs)
-done_is_on slots (Node n) deed step rs = deed_on (Node n) deed n step rs (inl (ap (λ b. b || passes deed) (eq-eqb n n refl)))
+done_is_on slots (Node n) deed step rs = by_steps (IsOn (Node n) deed) slots (Node n) deed step rs (doing_on (Node n) deed (first_on n deed) step rs (first_is_on (Node n) deed n (inl (ap (λ b. b || passes deed) (eq-eqb n n refl)))))
 done_is_on slots (Slot slot) deed step rs = any_slot slot deed (done slots (Slot slot) deed step rs)
-done_is_on slots Dvr deed step rs = deed_on Dvr deed DEMUX_NODES step rs (inr refl)
+done_is_on slots Dvr deed step rs = by_steps (IsOn Dvr deed) slots Dvr deed step rs (doing_on Dvr deed (first_on DEMUX_NODES deed) step rs (first_is_on Dvr deed DEMUX_NODES (inr refl)))
 
 -- ------ what the commands of a client do
 
