@@ -108,17 +108,17 @@ module _ (batches : Batches) where
   pass_brings None moment = refl
   pass_brings (Some batch) moment = refl
 
-  none_either : (b : Bool) (none : List Packets) → none ≡ [] → (if b then none else []) ≡ []
-  none_either true none is = is
-  none_either false none is = refl
+  none_either : (b : Bool) → ◌≡◌ {A = List Packets} (if b then [] else []) (map batch_of (if b then [] else []))
+  none_either true = refl
+  none_either false = refl
 
   event_brings : (node at moment : ℕ) (w : Request) → (if nat_eq at node then from_the_dvr (call_of batches w moment) else []) ≡ map batch_of (if nat_eq at node then pass_in w else [])
   event_brings node at moment (Pass write) = go (nat_eq at node) where
     go : (b : Bool) → (if b then from_the_dvr (pass_of (batch_at batches write) moment) else []) ≡ map batch_of (if b then write ∷ [] else [])
     go true = pass_brings (batch_at batches write) moment
     go false = refl
-  event_brings node at moment (Own Open) = none_either (nat_eq at node) [] refl
-  event_brings node at moment _ = none_either (nat_eq at node) [] refl
+  event_brings node at moment (Own Open) = none_either (nat_eq at node)
+  event_brings node at moment _ = none_either (nat_eq at node)
 
 played_batches : (client : ℕ) (script : Scripted) (rs : List Response) → AreBatches (plays_of client script) (played_writes client script rs)
 unfolding played_writes

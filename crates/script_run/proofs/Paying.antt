@@ -68,17 +68,17 @@ pass_size : (o : Option Packets) (moment : ℕ) → count_of (act_of (pass_of o 
 pass_size None moment = refl
 pass_size (Some batch) moment = refl
 
-zero_either : (b : Bool) → (if b then 0 else 0) ≤ 0
-zero_either true = omega arith
-zero_either false = omega arith
+zero_either : (batches : Batches) (b : Bool) → (if b then 0 else 0) ≤ sum_of (write_size batches) (if b then [] else [])
+zero_either batches true = omega arith
+zero_either batches false = omega arith
 
 asked_size : (batches : Batches) (node at moment : ℕ) (w : Request) → (if nat_eq at node then count_of (act_of (call_of batches w moment)) else 0) ≤ sum_of (write_size batches) (if nat_eq at node then pass_in w else [])
 asked_size batches node at moment (Pass write) = go (nat_eq at node) where
   go : (b : Bool) → (if b then count_of (act_of (pass_of (batch_at batches write) moment)) else 0) ≤ sum_of (write_size batches) (if b then write ∷ [] else [])
   go true = omega (arith, pass_size (batch_at batches write) moment)
   go false = omega arith
-asked_size batches node at moment (Own Open) = zero_either (nat_eq at node)
-asked_size batches node at moment _ = zero_either (nat_eq at node)
+asked_size batches node at moment (Own Open) = zero_either batches (nat_eq at node)
+asked_size batches node at moment _ = zero_either batches (nat_eq at node)
 
 event_size : (batches : Batches) (node : ℕ) (e : LogEntry) (w : Event) (moment : ℕ) → e.node ≡ w.node → e.act ≡ act_of (call_of batches w.want moment) → brings_on node e ≤ sum_of (write_size batches) (pass_at node w)
 event_size batches node e w moment on is =
