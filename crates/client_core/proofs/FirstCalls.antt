@@ -1,5 +1,5 @@
 -- A client makes at most 33 first calls a command, the next call counted too; and a read that is repeated stays on its node.
-use Rattle.client_core.proofs.Imports.{Task, Call, OpenFrom, Play, ◌≡◌, refl, sym, ap, ◌∙◌, ℕ, ◌+◌, ◌-◌, ◌*◌, ◌<◌, ◌≤◌, Bool, true, false, List, [], ◌∷◌, ◌++◌, Option, Some, None, length, arith, nat_lt, if◌then◌else◌, slice_index_or, nat_tests, DEMUX_NODES, KeepTap, AttachTap, DetachTap, Response, Done, Busy, Again, Ready, TapChange, Scripted, Target, Node, Slot, Dvr, Deed, Once, ReadWait, Drain, Write, Open, Command, Attach, Detach, Ending, Made, Bound, AllBusy, Slots, Doing, stands, through, done, ends_wait, ends_drain, commands_of, Standing, slots_after, progress_from, no_slots, repeated, repeats_in, repeats_from, CallsAreFew, none-some, same_some, first_on, first_at, first_by_slot, first, telling, after, doing, Next, Still, Through}
+use Rattle.client_core.proofs.Imports.{Task, Call, OpenFrom, Play, ◌≡◌, refl, sym, ap, ◌∙◌, ℕ, ◌+◌, ◌-◌, ◌*◌, ◌<◌, ◌≤◌, Bool, true, false, List, [], ◌∷◌, ◌++◌, Option, Some, None, length, arith, nat_lt, if◌then◌else◌, slice_index_or, nat_tests, DEMUX_NODES, KeepTap, AttachTap, DetachTap, Response, Done, Busy, Again, Ready, TapChange, Scripted, Target, Node, Slot, Dvr, Deed, Once, Open, Command, Ending, Made, Bound, AllBusy, Slots, Doing, stands, through, done, ends_wait, ends_drain, commands_of, Standing, slots_after, progress_from, no_slots, repeats_in, repeats_from, CallsAreFew, none-some, same_some, first_on, first_at, first_by_slot, first, telling, after, doing, Next, Still, Through}
 use Rattle.client_core.specs.Events.{progress}
 use Rattle.client_core.specs.Repeats.{repeats}
 use Rattle.client_core.proofs.GoesOn.{progress_of}

@@ -20,7 +20,7 @@ pub use Rattle.client_core.specs.declared.deed.Deed.{Deed}
 pub use Rattle.client_core.specs.declared.deed.Deed.TheVariants.{Drain, GetStc, Once, ReadWait, Write}
 pub use Rattle.client_core.specs.declared.event.Event.{Event}
 pub use Rattle.client_core.specs.declared.event.Request.{Request}
-pub use Rattle.client_core.specs.declared.event.Request.TheVariants.{Attach, Detach, Own}
+pub use Rattle.client_core.specs.declared.event.Request.TheVariants.{Own}
 pub use Rattle.client_core.specs.declared.task.Ending.{Ending}
 pub use Rattle.client_core.specs.declared.task.Ending.TheVariants.{AllBusy, Asked, Bound, Made, NoNode}
 pub use Rattle.client_core.specs.declared.task.Next.{Next}

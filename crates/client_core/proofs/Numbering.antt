@@ -1,5 +1,5 @@
 -- A client's calls are numbered, and are made on one of the 33 nodes; a command that is through stays through.
-use Rattle.client_core.proofs.Imports.{◌≡◌, refl, sym, ap, subst, ◌∙◌, ℕ, ◌+◌, ◌<◌, ◌≤◌, Bool, true, false, nat_eq, List, [], ◌∷◌, ◌++◌, Option, Some, None, length, replicate, arith, if◌then◌else◌, IfSome, All, All-nil, All-cons, All-head, All-tail, All-set, nat_tests, DEMUX_NODES, Response, IsInRange, Scripted, Line, CommandLine, Once, ReadWait, Drain, GetStc, Write, Command, Event, Ending, Bound, Slots, Doing, stands, through, done, commands_in, commands_among, commands_of, plays_of, Batches, deed_of, Standing, slots_after, progress_from, no_slots, next_event, standing_at, IsEndingInRange, AreSlots, repeats_in, none-some, same_some, IsDeedInRange, IsDeedOf, IsNextInRange, IsNextOf, first, after, doing, Next, Still, Through, IsVerbInRange, Verb, IsCommandInRange, IsCommandOf, Packets, batch_at, All-append, All-replicate, IsSome}
+use Rattle.client_core.proofs.Imports.{◌≡◌, refl, sym, ap, subst, ◌∙◌, ℕ, ◌+◌, ◌<◌, ◌≤◌, Bool, true, false, nat_eq, List, [], ◌∷◌, ◌++◌, Option, Some, None, length, replicate, arith, if◌then◌else◌, IfSome, All, All-nil, All-cons, All-head, All-tail, All-set, nat_tests, DEMUX_NODES, Response, IsInRange, Scripted, Line, CommandLine, Command, Event, Ending, Bound, Slots, Doing, stands, through, done, commands_in, commands_among, commands_of, plays_of, Batches, deed_of, Standing, slots_after, progress_from, no_slots, next_event, standing_at, IsEndingInRange, AreSlots, repeats_in, none-some, same_some, IsDeedInRange, IsDeedOf, IsNextInRange, IsNextOf, first, after, doing, Next, Still, Through, IsVerbInRange, Verb, IsCommandInRange, IsCommandOf, Packets, batch_at, All-append, All-replicate, IsSome}
 use Rattle.client_core.specs.Events.{progress}
 use Rattle.client_script.specs.declared.line.Verb.TheVariants as verb
 use Rattle.std.specs.Prelude.{is_some}

@@ -1,5 +1,5 @@
 -- The batches of writes pass each demux node once.
-use Rattle.client_core.proofs.Imports.{Task, Call, OpenFrom, Play, ◌≡◌, ◌⊎◌, inl, inr, refl, sym, ap, ◌∙◌, ℕ, ◌+◌, ◌<◌, ◌≤◌, Bool, true, false, List, [], ◌∷◌, ◌++◌, Option, Some, None, arith, nat_lt, option_map, slice_index_or, if◌then◌else◌, append_assoc, append-nil, nat_tests, none-some, DEMUX_NODES, KeepTap, AttachTap, DetachTap, Response, Done, Busy, Ready, TapChange, Scripted, Target, Node, Slot, Dvr, Open, Deed, Once, ReadWait, Drain, GetStc, Write, Command, Event, Attach, Detach, Ending, Made, Bound, AllBusy, Slots, Doing, stands, through, once, passed, done, ends_wait, ends_drain, commands_of, Standing, Progress, slots_after, progress_from, no_slots, next_event, Exchange, with_reply, exchanges_after, pass_at, passes_on, played_on, played_at, played_in, played_from, WritesPass, first_on, first_at, first_by_slot, first, event_of, telling, after, doing, Next, Still, Through}
+use Rattle.client_core.proofs.Imports.{Task, Call, OpenFrom, Play, ◌≡◌, ◌⊎◌, inl, inr, refl, sym, ap, ◌∙◌, ℕ, ◌+◌, ◌<◌, ◌≤◌, Bool, true, false, List, [], ◌∷◌, ◌++◌, Option, Some, None, arith, nat_lt, option_map, slice_index_or, if◌then◌else◌, append_assoc, append-nil, nat_tests, none-some, DEMUX_NODES, KeepTap, AttachTap, DetachTap, Response, Done, Busy, Ready, TapChange, Scripted, Target, Node, Slot, Dvr, Open, Deed, Once, ReadWait, Drain, GetStc, Write, Command, Event, Ending, Made, Bound, AllBusy, Slots, Doing, stands, through, done, ends_wait, ends_drain, commands_of, Standing, Progress, slots_after, progress_from, no_slots, next_event, Exchange, with_reply, exchanges_after, pass_at, passes_on, played_on, played_at, played_in, played_from, WritesPass, first_on, first_at, first_by_slot, first, event_of, telling, after, doing, Next, Still, Through}
 use Rattle.std.specs.Prelude.{nat_eq}
 use Rattle.client_core.specs.Events.{progress}
 use Rattle.client_core.specs.Passes.{played_writes}

@@ -1,5 +1,5 @@
 -- What commands do, by what their client plays (this project's own).
-use Rattle.std.specs.Prelude.{ℕ, ◌≡◌, ◌≤◌, Bool, true, List, Option, None, is_some, slice_index_or, IsSome}
+use Rattle.std.specs.Prelude.{ℕ, ◌≡◌, ◌≤◌, true, List, Option, None, is_some, slice_index_or, IsSome}
 use Rattle.dmx_calls.specs.declared.limits.TheConstants.{LARGEST_READ}
 use Rattle.ts_batch.specs.Batch.{Packets}
 use Rattle.client_script.specs.Grammar.{IsWantInRange}

@@ -4,7 +4,7 @@ pub use Rattle.client_core.proofs.Following.{exchanges_more}
 pub use Rattle.client_core.proofs.Joining.{are_counted, are_joined, are_packets, are_placed, few_in}
 pub use Rattle.client_core.proofs.More.{one_reply_more, repeats_none, some_of}
 pub use Rattle.client_core.proofs.Passing.{by_calls, done_passes, event_in, first_and_rest, no_passes, own_write, passed_by, passes_behind, passes_by}
-pub use Rattle.client_core.specs.Commands.{Doing, Slots, call_of, commands_among, commands_in, commands_of, done, ends_drain, pass_of, passed, played, plays_of, stands, through}
+pub use Rattle.client_core.specs.Commands.{Doing, Slots, call_of, commands_among, commands_in, commands_of, done, ends_drain, pass_of, played, plays_of, stands, through}
 pub use Rattle.client_core.specs.Deeds.{Batches, batch_at, deed_of}
 pub use Rattle.client_core.specs.Events.{Standing, next_event, no_slots, progress, progress_from, slots_after, waits_on}
 pub use Rattle.client_core.specs.Inside.More.{added_by}

@@ -1,5 +1,5 @@
 -- The passes of a client: each is of a write whose poll was Ready, and passes the nodes one after another.
-use Rattle.script_run.proofs.Imports.{◌≡◌, refl, sym, ap, ◌∙◌, ℕ, zero, suc, ◌+◌, ◌≤◌, Bool, true, false, nat_eq, List, [], ◌∷◌, ◌++◌, append-nil, Option, Some, None, length, map, filter, take, slice_get, arith, if◌then◌else◌, slice_index_or, filter_map, is_some, unwrap_or, flat_map, cons_option, flat_map-append, map-append, take_all, filter-append, at_place, Packets, LogEntry, act_of, filled_act, fills, Response, Ready, Scripted, Line, Feed, Tick, CommandLine, Verb, Target, Node, Slot, Dvr, Open, Command, Deed, Once, ReadWait, Drain, GetStc, Write, Event, Request, Own, Pass, Ending, Batches, batch_at, deed_of, Slots, Doing, stands, through, passed, done, call_of, commands_among, commands_in, commands_of, pass_of, plays_of, slots_after, progress_from, no_slots, next_event, IsEvent, replies, sources, played_at, played_from, played_in, played_on, WritesPass, from_the_dvr, pass_in, pass_at, passes_on, exchanges, with_reply, exchanges_more, passed_by, passes_by, passes_behind, event_in, no_passes, own_write, done_passes, first_and_rest, by_calls, first, inl, inr, ◌⊎◌}
+use Rattle.script_run.proofs.Imports.{◌≡◌, refl, sym, ap, ◌∙◌, ℕ, zero, suc, ◌+◌, ◌≤◌, Bool, true, false, nat_eq, List, [], ◌∷◌, ◌++◌, append-nil, Option, Some, None, length, map, filter, take, slice_get, arith, if◌then◌else◌, slice_index_or, filter_map, is_some, unwrap_or, flat_map, cons_option, flat_map-append, map-append, take_all, filter-append, at_place, Packets, LogEntry, act_of, filled_act, fills, Response, Ready, Scripted, Line, Feed, Tick, CommandLine, Verb, Target, Node, Slot, Dvr, Open, Command, Deed, Once, ReadWait, Drain, GetStc, Write, Event, Request, Own, Pass, Ending, Batches, batch_at, deed_of, Slots, Doing, stands, through, done, call_of, commands_among, commands_in, commands_of, pass_of, plays_of, slots_after, progress_from, no_slots, next_event, IsEvent, replies, sources, played_at, played_from, played_in, played_on, WritesPass, from_the_dvr, pass_in, pass_at, passes_on, exchanges, with_reply, exchanges_more, passed_by, passes_by, passes_behind, event_in, no_passes, own_write, done_passes, first_and_rest, by_calls, first, inl, inr, ◌⊎◌}
 use Rattle.client_script.specs.declared.line.Verb.TheVariants as verb
 use Rattle.client_core.specs.Events.{progress}
 use Rattle.client_core.specs.Passes.{played_writes}
