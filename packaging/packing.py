@@ -21,7 +21,7 @@ LIBRARY, DOC, MAN = os.path.join("lib", "dvbemu"), os.path.join("share", "doc", 
 # What isn't packed: what builds, proves and checks, and what is made.
 LEFT_OUT = {
     "tools": ("build", "checks", "install", "package", "lib/haste.py", "lib/checks.py", "lib/crates.py"),
-    "serve": ("check", "cases", "calls.c", "out", "airs.py", "bad.py", "beginnings.py", "devices.py", "guarded.py", "hostile.py",
+    "serve": ("check", "cases", "calls.c", "late.c", "out", "airs.py", "bad.py", "beginnings.py", "devices.py", "guarded.py", "hostile.py",
               "lasting.py", "loops.py", "programs.py", "receivers.py", "room.py", "stations.py", "tuner.py"),  # fmt: skip
 }
 MADE = "__pycache__", "out"

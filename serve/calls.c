@@ -22,7 +22,8 @@
 #include <sys/wait.h>
 #include <unistd.h>
 
-enum { PACKET = 188, PAT_BYTES = 24, NODES = 32 };
+/* (a busy machine may bring a section late, or a program to its sections: these have room for minutes) */
+enum { PACKET = 188, PAT_BYTES = 24, NODES = 32, ROOM = 1 << 20, LATE_MS = 20000 };
 
 static const char demux[] = "/dev/dvb/adapter0/demux0", dvr[] = "/dev/dvb/adapter0/dvr0";
 static unsigned char bytes[65536], others[65536];
@@ -44,6 +45,7 @@ static int open_pat(int flags)
 	params.filter.mask[0] = 0xff;
 	int fd = open(demux, O_RDWR | flags);
 	want(fd >= 0, "open of demux0");
+	want(!ioctl(fd, DMX_SET_BUFFER_SIZE, ROOM), "a large buffer");
 	want(!ioctl(fd, DMX_SET_FILTER, &params), "a section filter");
 	return fd;
 }
@@ -53,7 +55,7 @@ static void try_blocking(void)
 	int fd = open_pat(0);
 	struct pollfd one = { fd, POLLIN | POLLPRI, 0 };
 	want(read(fd, bytes, sizeof bytes) == PAT_BYTES && bytes[0] == 0, "a blocking read gives a PAT");
-	want(poll(&one, 1, 3000) == 1 && (one.revents & POLLIN), "poll finds the next");
+	want(poll(&one, 1, LATE_MS) == 1 && (one.revents & POLLIN), "poll finds the next");
 	want(read(fd, bytes, 10) == 10 && read(fd, others, 100) == PAT_BYTES - 10, "a section in two reads");
 	want(!close(fd), "close");
 }
@@ -72,10 +74,10 @@ static void try_waits(int fd)
 	struct epoll_event event = { EPOLLIN, { .fd = fd } }, found;
 	struct pollfd one = { fd, POLLIN, 0 };
 	int set = epoll_create1(0);
-	want(select_one(fd, 3000), "select finds a section");
+	want(select_one(fd, LATE_MS), "select finds a section");
 	want(read(fd, bytes, sizeof bytes) == PAT_BYTES, "a read behind select");
 	want(!epoll_ctl(set, EPOLL_CTL_ADD, fd, &event), "epoll_ctl");
-	want(epoll_wait(set, &found, 1, 3000) == 1 && found.data.fd == fd, "epoll_wait finds a section");
+	want(epoll_wait(set, &found, 1, LATE_MS) == 1 && found.data.fd == fd, "epoll_wait finds a section");
 	ioctl(fd, DMX_STOP);
 	while (read(fd, bytes, sizeof bytes) > 0)
 		;
@@ -150,7 +152,7 @@ static void try_last(void)
 {
 	int fd = open_pat(0);
 	struct pollfd one = { fd, POLLIN, 0 };
-	want(poll(&one, 1, 20000) == 1, "poll finds the last section");
+	want(poll(&one, 1, LATE_MS) == 1, "poll finds the last section");
 	want(read(fd, bytes, sizeof bytes) == PAT_BYTES && bytes[0] == 0, "it is a PAT");
 	want(poll(&one, 1, 300) == 0, "nothing comes behind the end");
 }
@@ -161,7 +163,7 @@ static void try_many(int calls)
 	while (done < calls && !ioctl(fd, DMX_STOP))
 		done++;
 	want(done == calls, "as many calls as are wanted");
-	want(!ioctl(fd, DMX_START) && select_one(fd, 3000), "the filter starts once more");
+	want(!ioctl(fd, DMX_START) && select_one(fd, LATE_MS), "the filter starts once more");
 }
 
 /* beside other programs the free nodes aren't known */

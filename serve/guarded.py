@@ -53,6 +53,12 @@ def try_sanitizers(room):
         room.want(not made.returncode, f"{os.path.basename(name)} is built with sanitizers", made.stdout)
     out, status = room.run("env", SANITIZED, cases, keep="none", rate=SLOW)
     room.want(status == 0 and is_passed(out), f"own calls of a program with a sanitizer, status {status}", out)
+    late = room.path("late.so")
+    made = ran(["gcc", "-O2", "-Wall", "-Wextra", "-shared", "-fPIC", os.path.join(HERE, "late.c"), "-o", late, "-ldl"])
+    room.want(not made.returncode, "late.c is built", made.stdout)
+    script = f"LD_PRELOAD=\"$LD_PRELOAD:{late}\" exec \"$0\" in_a_daemon"
+    out, status = room.run("env", SANITIZED, "sh", "-c", script, cases, keep="none", rate=SLOW)
+    room.want(status == 0 and is_passed(out) and "late\n" in out, f"a fork while a thread begins, status {status}", out)
     loaded = f"LD_PRELOAD={':'.join([*libraries, preload])}"
     out, status = room.run("env", SANITIZED, loaded, cases_of(room), NOT_OVER_SANITIZERS, keep="none", rate=SLOW)
     room.want(status == 0 and is_passed(out), f"own calls over a preload with sanitizers, status {status}", out)

@@ -19,7 +19,7 @@ CHECKER = os.path.join(TOP, "crates", "dvbemu", "out", "dvbemu")
 PACKET, BATCH = 188, 64
 # The packets a second, the seconds that a run may take, and the bytes of a session's script and stream up to which it is done again:
 # the second program is slow.
-RATE, MOST, AGAIN = "1500", 100, 300_000
+RATE, MOST, AGAIN = "1500", 300, 300_000
 
 
 def calls_of(room):

@@ -7,6 +7,7 @@
 #define _GNU_SOURCE
 #include <fcntl.h>
 #include <limits.h>
+#include <semaphore.h>
 #include <stdio.h>
 #include <sys/inotify.h>
 #include <sys/stat.h>
@@ -24,6 +25,8 @@ static ino_t wake_ino, bells_ino;
 static int runs, count_of_watchers, is_ending;
 /* whether devices were open before: a bell that nobody has heard since doesn't ring again until the device is looked at */
 static int is_late;
+/* the watcher that begins has come */
+static sem_t has_come;
 
 int watch_runs(void) { return __atomic_load_n(&runs, __ATOMIC_SEQ_CST) || is_ending || getpid() != self; }
 
@@ -173,6 +176,7 @@ static void *run(void *number)
 	struct pollfd all[2 + MOST_LINES * (1 + MOST_DEVICES)];
 	long time = 0;
 	nfds_t count = 0;
+	sem_post(&has_come);
 	do
 		wait_raw(all, count, time);
 	while (turn((int)(intptr_t)number, all, &count, &time));
@@ -214,7 +218,10 @@ static void make_bells(void)
 				line->mine[i].bell = bell_of((struct at){ line, i });
 }
 
-/* begins to watch, where nobody does: 0 where it can't */
+/*
+ * Begins to watch, where nobody does: 0 where it can't. A thread that begins may hold locks of libraries, as of a sanitizer's; a child that
+ * is forked meanwhile would find them held for ever, and its own watcher would never come. So no call comes back before the thread has come.
+ */
 static int begin(void)
 {
 	struct stat made;
@@ -230,10 +237,13 @@ static int begin(void)
 	pthread_attr_setdetachstate(&small, PTHREAD_CREATE_DETACHED);
 	pthread_attr_setstacksize(&small, STACK);
 	runs = ++count_of_watchers;
-	if (pthread_create(&thread, &small, run, (void *)(intptr_t)runs))
+	sem_init(&has_come, 0, 0);
+	if (pthread_create(&thread, &small, run, (void *)(intptr_t)runs)) {
 		watch_stopped();
-	else
+	} else {
 		pthread_setname_np(thread, "dvbemu");
+		sem_wait(&has_come);
+	}
 	pthread_attr_destroy(&small);
 	return runs;
 }

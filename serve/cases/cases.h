@@ -20,7 +20,8 @@
 #define DEMUX "/dev/dvb/adapter0/demux0"
 #define RECORDER "/dev/dvb/adapter0/dvr0"
 #define TUNER "/dev/dvb/adapter0/frontend0"
-enum { PACKET = 188, NEVER = 0x1ff0, ALL_PIDS = 0x2000, FREQUENCY = 474000000 };
+/* (by then whatever is waited for has come, also on a busy machine) */
+enum { PACKET = 188, NEVER = 0x1ff0, ALL_PIDS = 0x2000, FREQUENCY = 474000000, LATE_MS = 30000 };
 
 /* a case; some want that no other one runs beside it */
 struct one {

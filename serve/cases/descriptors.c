@@ -151,7 +151,7 @@ static void polls_and_reads(void *fd)
 {
 	struct pollfd one = { *(int *)fd, POLLIN, 0 };
 	pause_for(300);
-	if (poll(&one, 1, 10000) != 1 || !is_pat(one.fd))
+	if (poll(&one, 1, LATE_MS) != 1 || !is_pat(one.fd))
 		_exit(1);
 	close(one.fd);
 	if (!is_pat(pat(0)))

@@ -7,7 +7,7 @@
 
 #include "cases.h"
 
-enum { MOST_SECONDS = 40, LANES = 6, PAT_BYTES = 24, TRIES = 1000 };
+enum { MOST_SECONDS = 150, LANES = 6, PAT_BYTES = 24, TRIES = 1000 };
 
 unsigned char bytes[1 << 21];
 

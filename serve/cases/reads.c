@@ -26,7 +26,7 @@ static void a_timeout(void)
 	struct pollfd one = { other, POLLIN, 0 };
 	double begun = seconds();
 	want(!ioctl(fd, DMX_SET_FILTER, &params) && read(fd, bytes, 10) < 0 && errno == ETIMEDOUT && seconds() - begun > 0.29, "ETIMEDOUT");
-	want(!ioctl(other, DMX_SET_FILTER, &params) && poll(&one, 1, 8000) == 1 && one.revents & POLLERR, "poll tells it by POLLERR");
+	want(!ioctl(other, DMX_SET_FILTER, &params) && poll(&one, 1, LATE_MS) == 1 && one.revents & POLLERR, "poll tells it by POLLERR");
 }
 
 static void an_overflow(void)
@@ -38,7 +38,7 @@ static void an_overflow(void)
 	want(!ioctl(fd, DMX_SET_BUFFER_SIZE, 1880) && !ioctl(fd, DMX_SET_PES_FILTER, &params), "a small buffer");
 	for (int i = 0; i < 100 && !(one.revents & POLLERR); i++) {
 		pause_for(50);
-		want(poll(&one, 1, 8000) == 1, "poll");
+		want(poll(&one, 1, LATE_MS) == 1, "poll");
 	}
 	want(one.revents & POLLERR && read(fd, bytes, PACKET) < 0 && errno == EOVERFLOW, "an overflow is told by POLLERR and EOVERFLOW");
 }
@@ -65,7 +65,7 @@ static void what_is_there(void)
 	int fd = demux(0), all = recorder(O_RDONLY | O_NONBLOCK);
 	struct pollfd one = { all, POLLIN, 0 };
 	record_all(fd);
-	want(poll(&one, 1, 8000) == 1, "some");
+	want(poll(&one, 1, LATE_MS) == 1, "some");
 	ssize_t n = read(all, bytes, sizeof bytes);
 	want(n > 0 && n % PACKET == 0 && bytes[0] == 0x47, "a read that doesn't wait gives what is there");
 }
@@ -192,7 +192,7 @@ static void without_bells(void)
 	for (int i = 0; i < 1000 && inotify_init1(0) >= 0; i++)
 		;
 	struct pollfd one = { pat(0), POLLIN, 0 };
-	want(poll(&one, 1, 8000) == 1 && is_pat(one.fd), "where no inotify is left");
+	want(poll(&one, 1, LATE_MS) == 1 && is_pat(one.fd), "where no inotify is left");
 }
 
 const struct one reads[] = { CASE(sections), CASE(nothing_waits), CASE(before_a_filter), CASE(a_timeout), CASE(an_overflow),

@@ -111,7 +111,7 @@ static void an_event(void)
 	struct dvb_frontend_parameters asked = { .frequency = FREQUENCY, .u.ofdm.bandwidth = BANDWIDTH_7_MHZ }, now;
 	struct dvb_frontend_event event;
 	struct pollfd one = { fd, POLLIN, 0 };
-	want(!ioctl(fd, FE_SET_FRONTEND, &asked) && poll(&one, 1, 5000) == 1 && one.revents & POLLIN, "poll finds an event");
+	want(!ioctl(fd, FE_SET_FRONTEND, &asked) && poll(&one, 1, LATE_MS) == 1 && one.revents & POLLIN, "poll finds an event");
 	want(!ioctl(fd, FE_GET_EVENT, &event) && event.status & FE_HAS_LOCK && event.parameters.frequency == FREQUENCY, "the event");
 	want(ioctl(fd, FE_GET_EVENT, &event) < 0 && errno == EAGAIN && !poll(&one, 1, 50), "there is one alone");
 	want(!ioctl(fd, FE_GET_FRONTEND, &now) && now.frequency == FREQUENCY && now.u.ofdm.bandwidth == BANDWIDTH_7_MHZ, "FE_GET_FRONTEND");

@@ -10,8 +10,6 @@
 
 #include "cases.h"
 
-enum { LONG = 8000 };
-
 static int set_with(int fd, uint32_t events)
 {
 	struct epoll_event one = { events, { .fd = fd } };
@@ -40,7 +38,7 @@ static void poll_of_two(void)
 	struct pollfd both[2] = { { first, POLLIN, 0 }, { second, POLLIN | POLLPRI, 0 } };
 	want(!ioctl(second, DMX_SET_FILTER, &params), "a filter on the SDT");
 	while (counts[0] < 3 || counts[1] < 3) {
-		want(poll(both, 2, LONG) > 0, "poll finds one");
+		want(poll(both, 2, LATE_MS) > 0, "poll finds one");
 		for (int i = 0; i < 2; i++)
 			if (both[i].revents & POLLIN) {
 				want(read(both[i].fd, bytes, 4096) > 8 && bytes[0] == (i ? 0x42 : 0), "a section of its own");
@@ -53,7 +51,7 @@ static void poll_of_two(void)
 static void poll_by_priority(void)
 {
 	struct pollfd one = { pat(0), POLLPRI, 0 };
-	want(poll(&one, 1, LONG) == 1 && one.revents == POLLPRI && one.events == POLLPRI, "POLLPRI alone");
+	want(poll(&one, 1, LATE_MS) == 1 && one.revents == POLLPRI && one.events == POLLPRI, "POLLPRI alone");
 }
 
 static void poll_of_many(void)
@@ -67,7 +65,7 @@ static void poll_of_many(void)
 	for (int i = 0; i < 3000; i++)
 		many[i].fd = -1;
 	many[2999] = (struct pollfd){ fd, POLLIN, 0 };
-	want(limit.rlim_cur < 3000 || poll(many, 3000, LONG) == 1, "poll over 3000");
+	want(limit.rlim_cur < 3000 || poll(many, 3000, LATE_MS) == 1, "poll over 3000");
 }
 
 static void select_in_each_set(void)
@@ -102,7 +100,7 @@ static void nothing_is_left(void)
 {
 	int fd = pat(O_NONBLOCK);
 	struct pollfd one = { fd, POLLIN, 0 };
-	want(poll(&one, 1, LONG) == 1, "a section");
+	want(poll(&one, 1, LATE_MS) == 1, "a section");
 	want(!ioctl(fd, DMX_STOP), "a stop");
 	read_all(fd);
 	want(!poll(&one, 1, 50) && !finds(set_with(fd, EPOLLIN), 50), "no wait finds what was read");
@@ -111,7 +109,7 @@ static void nothing_is_left(void)
 static void by_level(void)
 {
 	int fd = pat(O_NONBLOCK), set = set_with(fd, EPOLLIN);
-	want(finds(set, LONG) == 1 && finds(set, 0) == 1, "epoll finds it until it is read");
+	want(finds(set, LATE_MS) == 1 && finds(set, 0) == 1, "epoll finds it until it is read");
 	want(!ioctl(fd, DMX_STOP), "a stop");
 	read_all(fd);
 	want(!finds(set, 50), "and not behind that");
@@ -121,7 +119,7 @@ static void by_edge(void)
 {
 	int fd = pat(O_NONBLOCK), set = set_with(fd, EPOLLIN | EPOLLET);
 	for (int i = 0; i < 4; i++) {
-		want(finds(set, LONG) == 1, "an edge");
+		want(finds(set, LATE_MS) == 1, "an edge");
 		read_all(fd);
 		pause_for(i * 100);
 	}
@@ -131,23 +129,23 @@ static void by_edge_and_part(void)
 {
 	int fd = pat(O_NONBLOCK), set = set_with(fd, EPOLLIN | EPOLLET);
 	for (int i = 0; i < 4; i++)
-		want(finds(set, LONG) == 1 && read(fd, bytes, 4) > 0, "an edge behind a read of a part");
+		want(finds(set, LATE_MS) == 1 && read(fd, bytes, 4) > 0, "an edge behind a read of a part");
 }
 
 static void once_at_a_time(void)
 {
 	int fd = pat(O_NONBLOCK), set = set_with(fd, EPOLLIN | EPOLLONESHOT);
 	struct epoll_event one = { EPOLLIN | EPOLLONESHOT, { .fd = fd } };
-	want(finds(set, LONG) == 1 && !finds(set, 200), "once");
-	want(!epoll_ctl(set, EPOLL_CTL_MOD, fd, &one) && finds(set, LONG) == 1, "and again");
+	want(finds(set, LATE_MS) == 1 && !finds(set, 200), "once");
+	want(!epoll_ctl(set, EPOLL_CTL_MOD, fd, &one) && finds(set, LATE_MS) == 1, "and again");
 }
 
 static void a_set_in_a_set(void)
 {
 	int inner = set_with(pat(O_NONBLOCK), EPOLLIN), outer = set_with(inner, EPOLLIN);
 	struct pollfd one = { set_with(pat(O_NONBLOCK), EPOLLIN), POLLIN, 0 };
-	want(finds(outer, LONG) == 1, "a set in a set");
-	want(poll(&one, 1, LONG) == 1, "a set in poll");
+	want(finds(outer, LATE_MS) == 1, "a set in a set");
+	want(poll(&one, 1, LATE_MS) == 1, "a set in poll");
 }
 
 static void by_each_wait(void)
@@ -155,7 +153,7 @@ static void by_each_wait(void)
 	int set = set_with(pat(O_NONBLOCK), EPOLLIN | EPOLLPRI);
 	struct epoll_event one;
 	struct timespec most = { 8, 0 };
-	want(epoll_pwait(set, &one, 1, LONG, NULL) == 1, "epoll_pwait");
+	want(epoll_pwait(set, &one, 1, LATE_MS, NULL) == 1, "epoll_pwait");
 	want(epoll_pwait2(set, &one, 1, &most, NULL) == 1 || errno == ENOSYS, "epoll_pwait2");
 }
 
@@ -183,10 +181,10 @@ static void as_a_reactor_does(void)
 {
 	struct two added = { epoll_create1(0), pat(O_NONBLOCK) };
 	pthread_t thread;
-	want(!pthread_create(&thread, NULL, adds, &added) && finds(added.set, LONG) == 1, "a device that another thread adds");
+	want(!pthread_create(&thread, NULL, adds, &added) && finds(added.set, LATE_MS) == 1, "a device that another thread adds");
 	struct two set = { 0, demux(O_NONBLOCK) };
 	set.set = set_with(set.fd, EPOLLIN | EPOLLET);
-	want(!pthread_create(&thread, NULL, sets, &set) && finds(set.set, LONG) == 1, "and one of which another sets the filter");
+	want(!pthread_create(&thread, NULL, sets, &set) && finds(set.set, LATE_MS) == 1, "and one of which another sets the filter");
 }
 
 static void set_while_one_waits(void)
@@ -195,7 +193,7 @@ static void set_while_one_waits(void)
 	struct pollfd one = { two.fd, POLLIN, 0 };
 	fd_set reads;
 	pthread_t thread;
-	want(!pthread_create(&thread, NULL, sets, &two) && poll(&one, 1, LONG) == 1, "poll");
+	want(!pthread_create(&thread, NULL, sets, &two) && poll(&one, 1, LATE_MS) == 1, "poll");
 	want(!pthread_join(thread, NULL) && !ioctl(two.fd, DMX_STOP), "a stop");
 	FD_ZERO(&reads);
 	FD_SET(two.fd, &reads);
@@ -236,7 +234,7 @@ static void a_signal_ends_a_wait(void)
 {
 	struct pollfd one = { silent(0), POLLIN, 0 };
 	rings_every(300, SA_RESTART);
-	want(poll(&one, 1, LONG) < 0 && errno == EINTR, "poll is EINTR by any handler");
+	want(poll(&one, 1, LATE_MS) < 0 && errno == EINTR, "poll is EINTR by any handler");
 	rings_every(300, 0);
 	want(read(one.fd, bytes, 10) < 0 && errno == EINTR, "a read by one without SA_RESTART");
 }
