@@ -14,13 +14,17 @@ LEAVES = 2
 VARIABLE = "DVBEMU_DIR"
 
 
-def processes():
-    """The other processes, by number; none where the system doesn't tell, or tells the numbers of another name space."""
+def is_told():
+    """Whether the system tells of processes, by the numbers of this one's own name space."""
     try:
-        own = os.readlink("/proc/self")
-        return [int(name) for name in os.listdir("/proc") if name.isdecimal() and name != own] if own == str(os.getpid()) else []
+        return os.readlink("/proc/self") == str(os.getpid())
     except OSError:
-        return []
+        return False
+
+
+def processes():
+    """The other processes, by number; none where the system doesn't tell."""
+    return [int(name) for name in os.listdir("/proc") if name.isdecimal() and int(name) != os.getpid()] if is_told() else []
 
 
 def finds(number, value):
@@ -37,16 +41,20 @@ def programs_of(value):
     return [number for number in processes() if finds(number, value)]
 
 
-def end_programs(value):
-    """Ends these processes: by SIGTERM, and from some seconds on by SIGKILL; some more seconds, and one that stays is left."""
+def end_all(those_left, seconds):
+    """Ends the processes that are left, which are asked for again and again: by SIGTERM, and from some seconds on by SIGKILL. One that
+    stays for so many seconds is left."""
     begun = time.monotonic()
-    while (gone := time.monotonic() - begun) < 2 * LEAVES and (left := programs_of(value)):
+    while (gone := time.monotonic() - begun) < seconds and (left := those_left()):
         for number in left:
-            try:
+            with contextlib.suppress(OSError):
                 os.kill(number, signal.SIGTERM if gone < LEAVES else signal.SIGKILL)
-            except OSError:
-                pass
         time.sleep(0.05)
+
+
+def end_programs(value):
+    """Ends the processes that find these adapters; one that stays for some seconds behind SIGKILL is left."""
+    end_all(lambda: programs_of(value), 2 * LEAVES)
 
 
 def watch(pipe, path, value):

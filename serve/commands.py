@@ -1,12 +1,12 @@
 """The command of dvbemu-serve: how it is begun, told of signals, and ended with all that it has left running."""
+import math
 import os
 import signal
 import subprocess
 import sys
-import time
 
 from building import PRELOAD, Stopped
-from clearing import LEAVES, VARIABLE, end_programs
+from clearing import VARIABLE, end_all, end_programs
 
 
 def children():
@@ -15,20 +15,17 @@ def children():
         return [int(word) for word in file.read().split()]
 
 
-def end_all_but(servers, folder):
-    """Ends what the command has left running, and what else has found the adapters: by SIGTERM, and from some seconds on by
-    SIGKILL."""
-    begun = time.monotonic()
+def still_there(servers):
+    """The children but for these that haven't ended; none where the system doesn't tell of children."""
     try:
-        while left := [child for child in children() if child not in servers]:
-            for child in left:
-                os.kill(child, signal.SIGTERM if time.monotonic() - begun < LEAVES else signal.SIGKILL)
-            time.sleep(0.05)
-            for child in left:
-                os.waitpid(child, os.WNOHANG)
-    except (OSError, AttributeError):
-        # (where the system doesn't tell of children, they are left)
-        pass
+        return [child for child in children() if child not in servers and not os.waitpid(child, os.WNOHANG)[0]]
+    except OSError:
+        return []
+
+
+def end_all_but(servers, folder):
+    """Ends what the command has left running, for as long as that takes, and what else has found the adapters."""
+    end_all(lambda: still_there(servers), math.inf)
     end_programs(folder.value())
 
 

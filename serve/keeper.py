@@ -6,6 +6,8 @@ import stat
 import threading
 import time
 
+from clearing import is_told
+
 # The bytes of a name at the server's door, with zeros behind its digits; how much is read at once; the seconds in which a server
 # opens its door, and those in which what was told is handed on; and a pause.
 NAME, ROOM, OPENS, ENDS, PAUSE = 64, 1 << 16, 30, 5, 0.002
@@ -22,8 +24,8 @@ def is_pipe(path):
 
 
 def readers(pid, pipe):
-    """How often a process has a pipe open to be read. An error where the system doesn't tell, or tells of other processes."""
-    if os.readlink("/proc/self") != str(os.getpid()):
+    """How often a process has a pipe open to be read. An error where the system doesn't tell."""
+    if not is_told():
         raise FileNotFoundError(f"/proc/{pid}")
     count = 0
     for name in os.listdir(f"/proc/{pid}/fd"):
