@@ -112,11 +112,10 @@ module _ (script : Scripted) (packets : List (List ℕ)) (hs : List (List LogEnt
       let low : c < clients_in script = omega (arith, places.2, is) in
       let d = run.clients_done c low in
       let number : e.who ≡ c + 1 = omega (arith, is) in
-      let made = d.only node place h e at here number in
-      let s = d.steps e.step e made in
+      let asked = d.calls.events e.step e (d.calls.only node place h e at here number) in
       let eight : c < 8 = omega (arith, low, few_in_all script known.ranges) in
       subst (λ (k : ℕ). is_callable (length packets) amounts k e.act ≡ true) (sym is)
-      (event_can script known (length packets) c eight (next_event c script (replies (take e.step d.made))) e (λ event at'. (let a = next_is_asked c script (replies (take e.step d.made)) event known.ranges at' in (a.1.1, a.1.2))) s.3)
+      (event_can script known (length packets) c eight (next_event c script (replies (take e.step d.made))) e (λ event at'. (let a = next_is_asked c script (replies (take e.step d.made)) event known.ranges at' in (a.1.1, a.1.2))) asked)
 
   sound_from : (node place : ℕ) (h rest : List LogEntry) → slice_get hs node ≡ Some h → ((i : ℕ) (e : LogEntry) → slice_get rest i ≡ Some e → slice_get h (place + i) ≡ Some e)
       → are_sound (clients_in script) (length packets) amounts rest ≡ true

@@ -183,10 +183,11 @@ idle_made script c hs quiet d = by d.made refl
     by : (made : List LogEntry) → d.made ≡ made → d.made ≡ []
     by [] is = is
     by (e ∷ made) is =
-        let s = d.steps 0 e (rw is refl) in
-        let stands : StandsIn hs e = s.2 in
+        let first : slice_get d.made 0 ≡ Some e = rw is refl in
+        let who = (d.calls.steps 0 e first).1 in
+        let stands : StandsIn hs e = d.calls.stands 0 e first in
         let zero' = zero_at stands.0 (uncalled stands.0 (quiet e.node stands.0 stands.1)) e.place e stands.2 in
-        absurd (omega (arith, zero', s.1))
+        absurd (omega (arith, zero', who))
 
 pub idle_runs : (script : Scripted) (most : ℕ) (packets : List (List ℕ)) (head : StreamHead) (outcomes : List (List Outcome)) (hs : List (List LogEntry)) → head.tally.packets ≡ length packets
     → IsRun script most packets hs → shown 0 hs ≡ [] → IsRun script 64 packets (completed (told_by head outcomes hs))
@@ -220,13 +221,17 @@ idle_runs script most packets head outcomes hs count run none =
           let d = run.clients_done c is' in
           record {
             made = [];
-            steps = λ i e at. absurd (cc at);
+            calls = record {
+              steps = λ i e at. absurd (cc at);
+              events = λ i e at. absurd (cc at);
+              stands = λ i e at. absurd (cc at);
+              only = λ node place h e at here who.
+                  let same : h ≡ renumbered (0 + node) 0 feeder = idle_at (DEMUX_NODES + 1) 0 feeder node h at in
+                  let t = told_there (0 + node) 0 feeder all place e (subst (λ (es : List LogEntry). slice_get es place ≡ Some e) same here) in
+                  absurd (omega (arith, t.2, who));
+              in_order = λ i j e f less at at' same. absurd (cc at);
+            };
             ends = subst (λ (made : List LogEntry). next_event c script (replies made) ≡ None) (idle_made script c hs (uncalled_at 0 hs none) d) d.ends;
-            only = λ node place h e at here who.
-                let same : h ≡ renumbered (0 + node) 0 feeder = idle_at (DEMUX_NODES + 1) 0 feeder node h at in
-                let t = told_there (0 + node) 0 feeder all place e (subst (λ (es : List LogEntry). slice_get es place ≡ Some e) same here) in
-                absurd (omega (arith, t.2, who));
-            in_order = λ i j e f less at at' same. absurd (cc at);
           };
     })
   where

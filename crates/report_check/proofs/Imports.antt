@@ -32,7 +32,8 @@ pub use Rattle.dmx_calls.specs.declared.outcome.Outcome.{Outcome}
 pub use Rattle.dmx_calls.specs.declared.params.Input.{Input}
 pub use Rattle.dmx_calls.specs.declared.params.Input.TheVariants.{Dvr, Dvr as FromDvr, Frontend}
 pub use Rattle.dvr_core.specs.Stands.{CoreValue as DvrValue, StandsFor as DvrStands}
-pub use Rattle.lemmas.proofs.Lists.{at_place}
+pub use Rattle.lemmas.proofs.Lists.{at_before, at_last, at_place, has_at}
+pub use Rattle.lemmas.specs.Lists.{Has}
 pub use Rattle.node_core.specs.Stands.{CoreValue as DemuxValue, StandsFor as DemuxStands}
 pub use Rattle.report_check.specs.Completed.{complete, completed, feeder_of, of_feeder, renumbered, shown, tiled, told_by}
 pub use Rattle.report_check.specs.Inside.Feeding.{IsFedAlike, are_none, feeds, is_end, or_else, passed_behind, step_of}
@@ -50,14 +51,17 @@ pub use Rattle.report_text.specs.Entries.{caller_text, entry_text, histories_tex
 pub use Rattle.report_text.specs.Replies.{response_text}
 pub use Rattle.report_text.specs.Report.{clients_text, end_text, report_of, row_text, tally_text}
 pub use Rattle.report_text.specs.Told.{Told, ToldNode, text_of, told_node_text}
+pub use Rattle.script_run.proofs.Calls.{asked_more, turn_more}
 pub use Rattle.script_run.proofs.Clients.{few_in_all}
-pub use Rattle.script_run.specs.IsRun.{Batch, HasDone, IsEvent, IsRun, StandsIn, Step, feeding, replies, sources, steps_of}
+pub use Rattle.script_run.proofs.Lists.{at_has, has_filter, of_filter}
+pub use Rattle.script_run.proofs.OnNodes.{by_caller, calls_of, calls_on, on_node}
+pub use Rattle.script_run.specs.IsRun.{AreAsked, Batch, HasDone, InTurn, IsEvent, IsRun, StandsIn, Step, feeding, replies, sources, steps_of}
 pub use Rattle.std.proofs.Common.{Bool, Bor, Decides, List, [], add-one, ap, append-nil, append_assoc, arith, codes, drop, false, get_or, inl, inr, is_some, length, length-append, length-take, map, min, nat_eq, not, refl, reverse, rules, subst, suc, sum, sym, take, take-append-drop, take_all, true, zero, ℕ, ◌*◌, ◌++◌, ◌+◌, ◌-◌, ◌<◌, ◌^◌, ◌∙◌, ◌∷◌, ◌≡◌, ◌≤◌, ◌⊎◌}
-pub use Rattle.std.proofs.Math.Seq.{drop-cons}
+pub use Rattle.std.proofs.Math.Seq.{drop-cons, take-append_seam}
 pub use Rattle.std.proofs.lemmas.Bool.{cases_lt, false≢true}
 pub use Rattle.std.proofs.lemmas.Bool.Decides.{nat_tests}
 pub use Rattle.std.proofs.lemmas.Grind.{flat_map-append}
-pub use Rattle.std.proofs.lemmas.List.{get_or-map, get_or_past, length-drop, length-map, length-take-le, map-append, map-set, reverse-append, take_more}
+pub use Rattle.std.proofs.lemmas.List.{get_or-map, get_or_past, length-drop, length-map, length-set, length-take-le, map-append, map-set, reverse-append, take_more}
 pub use Rattle.std.proofs.lemmas.List.Elements.{All-cons, All-get_or, All-head, All-nil, All-push, All-tail, All-weaker}
 pub use Rattle.std.proofs.lemmas.List.FromFn.{get_or-map-range_with_len, length-map-range_with_len, map-range_with_len_more}
 pub use Rattle.std.proofs.lemmas.List.Sums.{sum_by-cons}
@@ -65,7 +69,7 @@ pub use Rattle.std.proofs.lemmas.Option.{get_or_from_slice_get, slice_get-get_or
 pub use Rattle.std.proofs.lemmas.Slice.Eq.{slice_eq-Decides}
 pub use Rattle.std.specs.Cmp.Lexicographic.{pointwise}
 pub use Rattle.std.specs.List.{All, flat_map, list_any, range_with_len}
-pub use Rattle.std.specs.Prelude.{Err, IfOk, IfSome, IsSome, MatchOption, None, Ok, Option, Result, Some, Vec, filter, if◌then◌else◌, nat_le, nat_lt, option_map, slice_get, slice_index_or, slice_set, ◌&&◌, ◌||◌, ◌≢◌}
+pub use Rattle.std.specs.Prelude.{Err, IfOk, IfSome, IsSome, MatchOption, None, Ok, Option, Result, Some, Vec, if◌then◌else◌, nat_le, nat_lt, option_map, slice_get, slice_index_or, slice_set, ◌&&◌, ◌||◌, ◌≢◌}
 pub use Rattle.std.specs.declared.alloc.Global.{Global}
 pub use Rattle.text_forms.specs.Names.{node_text}
 pub use Rattle.ts_batch.specs.Batch.{Packets}

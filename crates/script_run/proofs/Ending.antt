@@ -16,10 +16,8 @@ runs_end payers script most stream hs s over = (
     };
     clients_done = λ c is. record {
       made = (s.clients c is).made;
-      steps = (s.clients c is).steps;
+      calls = (s.clients c is).calls;
       ends = over.through c is;
-      only = (s.clients c is).only;
-      in_order = (s.clients c is).in_order;
     };
   },
   refl,

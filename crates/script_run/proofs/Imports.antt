@@ -49,7 +49,7 @@ pub use Rattle.dmx_calls.specs.declared.params.Input.{Input}
 pub use Rattle.dmx_calls.specs.declared.params.Input.TheVariants.{Frontend}
 pub use Rattle.dmx_calls.specs.declared.reply.Errno.{Errno}
 pub use Rattle.dmx_calls.specs.declared.reply.Errno.TheVariants.{Ebadf}
-pub use Rattle.lemmas.proofs.Lists.{at_map, at_place, has_at, has_left, has_right, one_value}
+pub use Rattle.lemmas.proofs.Lists.{at_end, at_map, at_place, has_at, has_left, has_right, one_value}
 pub use Rattle.lemmas.specs.Lists.{Has}
 pub use Rattle.node_laws.proofs.Bytes.{demux_answers_fit, dvr_answers_fit}
 pub use Rattle.node_laws.proofs.LawsHold.{demux_accounted, dvr_accounted}
@@ -58,14 +58,14 @@ pub use Rattle.node_laws.proofs.Pending.{names_a_byte}
 pub use Rattle.node_laws.specs.Bytes.{OverflowNamesAByte, bytes_answered}
 pub use Rattle.node_laws.specs.Owning.{HasRead}
 pub use Rattle.script_run.specs.Budget.{all_commands, bytes_in, bytes_written, most_calls}
-pub use Rattle.script_run.specs.IsRun.{Batch, HasDone, IsEvent, StandsIn, Step, feeding, replies, sources, steps_of}
+pub use Rattle.script_run.specs.IsRun.{AreAsked, AreCalls, AreInOrder, Batch, InTurn, IsEvent, StandsIn, Step, feeding, replies, sources, steps_of}
 pub use Rattle.script_run.specs.Passing.{WritesPass, from_the_dvr}
 pub use Rattle.script_run.specs.SoFar.{CallsArePaid, HasDoneSoFar, IsPaidBehind, IsSoFar, MayPay, Payers, RunsAreAccounted, RunsEnd, commands_for, feeder, others}
-pub use Rattle.std.proofs.Common.{Bool, List, None, Option, Some, [], add-one, ap, append-nil, append_assoc, arith, drop, false, filter, fold, inl, inr, length, length-append, length-take, map, max, nat_eq, nat_lt, refl, slice_get, subst, suc, sym, take, true, zero, ℕ, ◌*◌, ◌++◌, ◌+◌, ◌-◌, ◌<◌, ◌∙◌, ◌∷◌, ◌≡◌, ◌≢◌, ◌≤◌}
-pub use Rattle.std.proofs.Math.Seq.{get_or-append_seam}
+pub use Rattle.std.proofs.Common.{Bool, List, None, Option, Some, [], add-one, ap, append-nil, append_assoc, arith, drop, false, filter, fold, inl, inr, length, length-append, length-take, map, max, nat_eq, nat_lt, refl, slice_get, subst, suc, sym, take, true, zero, ℕ, ⊎_elim, ◌*◌, ◌++◌, ◌+◌, ◌-◌, ◌<◌, ◌∙◌, ◌∷◌, ◌≡◌, ◌≢◌, ◌≤◌}
+pub use Rattle.std.proofs.Math.Seq.{get_or-append_seam, take-append_seam}
 pub use Rattle.std.proofs.lemmas.Bool.Decides.{nat_tests}
 pub use Rattle.std.proofs.lemmas.Grind.{flat_map-append}
-pub use Rattle.std.proofs.lemmas.List.{length-map, map-append, reverse-append, take_all}
+pub use Rattle.std.proofs.lemmas.List.{length-map, map-append, reverse-append, take-append-le, take_all}
 pub use Rattle.std.proofs.lemmas.List.Elements.{All-append, All-cons, All-drop, All-head, All-nil, All-tail, All-take, All-weaker, filter-append}
 pub use Rattle.std.proofs.lemmas.List.Sums.{sum_by-cons}
 pub use Rattle.std.proofs.lemmas.Option.{slice_get_within}

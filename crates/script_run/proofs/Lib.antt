@@ -5,6 +5,7 @@ pub mod Events
 pub mod ReadReplies
 pub mod HistoryBytes
 pub mod Repeating
+pub mod Calls
 pub mod OnNodes
 pub mod Passing
 pub mod Played

@@ -1,5 +1,5 @@
 -- The passes of a client: each is of a write whose poll was Ready, and passes the nodes one after another.
-use Rattle.script_run.proofs.Imports.{◌≡◌, refl, sym, ap, ◌∙◌, ℕ, zero, suc, ◌+◌, ◌≤◌, Bool, true, false, nat_eq, List, [], ◌∷◌, ◌++◌, append-nil, Option, Some, None, length, map, filter, take, slice_get, arith, if◌then◌else◌, slice_index_or, filter_map, is_some, unwrap_or, flat_map, cons_option, flat_map-append, map-append, take_all, filter-append, at_place, Packets, LogEntry, act_of, filled_act, fills, Response, Ready, Scripted, Line, Feed, Tick, CommandLine, Verb, Target, Node, Slot, Dvr, Open, Command, Deed, Once, ReadWait, Drain, GetStc, Write, Event, Request, Own, Pass, Ending, Batches, batch_at, deed_of, Slots, Doing, stands, through, done, call_of, commands_among, commands_in, commands_of, pass_of, plays_of, slots_after, progress_from, no_slots, next_event, IsEvent, replies, sources, played_at, played_from, played_in, played_on, WritesPass, from_the_dvr, pass_in, pass_at, passes_on, exchanges, with_reply, exchanges_more, passed_by, passes_by, passes_behind, event_in, no_passes, own_write, done_passes, first_and_rest, by_calls, first, inl, inr, ◌⊎◌}
+use Rattle.script_run.proofs.Imports.{◌≡◌, refl, sym, ap, ◌∙◌, ℕ, zero, suc, ◌+◌, ◌≤◌, Bool, true, false, nat_eq, List, [], ◌∷◌, ◌++◌, append-nil, Option, Some, None, length, map, filter, take, slice_get, arith, if◌then◌else◌, slice_index_or, filter_map, is_some, unwrap_or, flat_map, cons_option, flat_map-append, map-append, take_all, filter-append, at_place, Packets, LogEntry, act_of, filled_act, fills, Response, Ready, Scripted, Line, Feed, Tick, CommandLine, Verb, Target, Node, Slot, Dvr, Open, Command, Deed, Once, ReadWait, Drain, GetStc, Write, Event, Request, Own, Pass, Ending, Batches, batch_at, deed_of, Slots, Doing, stands, through, done, call_of, commands_among, commands_in, commands_of, pass_of, plays_of, slots_after, progress_from, no_slots, next_event, AreAsked, replies, sources, played_at, played_from, played_in, played_on, WritesPass, from_the_dvr, pass_in, pass_at, passes_on, exchanges, with_reply, exchanges_more, passed_by, passes_by, passes_behind, event_in, no_passes, own_write, done_passes, first_and_rest, by_calls, first, inl, inr, ◌⊎◌}
 use Rattle.client_script.specs.declared.line.Verb.TheVariants as verb
 use Rattle.client_core.specs.Events.{progress}
 use Rattle.client_core.specs.Passes.{played_writes}
@@ -126,7 +126,7 @@ played_batches client script rs = from_batches (plays_of client script) no_slots
 
 -- ------ along a log
 
-module _ (script : Scripted) (client : ℕ) (log : List LogEntry) (events : (i : ℕ) (e : LogEntry) → slice_get log i ≡ Some e → IsEvent (plays_of client script) (next_event client script (replies (take i log))) e) (node : ℕ) where
+module _ (script : Scripted) (client : ℕ) (log : List LogEntry) (events : AreAsked script client log) (node : ℕ) where
   abbrev batches : Batches
   batches = plays_of client script
 
@@ -248,7 +248,7 @@ pub writes_pass : WritesPass
 writes_pass script most stream hs run client is node h lt at =
     let d = run.clients_done client is in
     ap (flat_map (λ e. from_the_dvr (filled_act (sources script stream e.who) e.act)))
-    (sym (calls_on script client hs (λ n place g e there here. let p = run.places n place g e there here in (p.0, p.1)) d node h at))
-    ∙ all_told script client d.made (λ i e here. (d.steps i e here).3) node stream (λ i e here. (d.steps i e here).1)
+    (sym (calls_on script client hs d.made (λ n place g e there here. let p = run.places n place g e there here in (p.0, p.1)) node h at d.calls))
+    ∙ all_told script client d.made d.calls.events node stream (λ i e here. (d.calls.steps i e here).1)
     ∙ ap (map (batch_of (plays_of client script))) (client_passes client script (replies d.made) node d.ends lt)
     ∙ all_there (plays_of client script) (played_writes client script (replies d.made)) (played_batches client script (replies d.made))

@@ -1,6 +1,6 @@
 -- At each moment of a run, the commands and the bytes pay for the calls of a client: a repeat that follows bytes is paid for by
 -- them, and a repeat that follows Again by the entry right behind the read, which is the feeder's or adds no repeat to its own client's.
-use Rattle.script_run.proofs.Imports.{◌≡◌, ◌≢◌, refl, sym, ap, subst, ◌∙◌, ℕ, zero, suc, ◌+◌, ◌*◌, ◌<◌, ◌≤◌, Bool, true, false, nat_eq, List, [], ◌∷◌, ◌++◌, Option, Some, None, length, filter, take, slice_get, inl, inr, arith, ◌⊎◌, if◌then◌else◌, All, nat_tests, All-weaker, slice_get_within, Has, at_place, one_value, has_at, IsPacket, Ebadf, LogEntry, Sources, act_of, filled_act, filled_entry, HasRead, Response, Refused, Line, Feed, Tick, Target, Verb, clients_in, Scripted, ClientCommand, Event, Request, Own, Pass, Open, Packets, packets_in, Batches, batch_at, deed_of, call_of, commands_among, ends_drain, pass_of, played, plays_of, next_event, all_commands, bytes_in, most_calls, IsEvent, StandsIn, replies, sources, Payers, feeder, others, MayPay, IsPaidBehind, HasDoneSoFar, IsSoFar, commands_for, CallsArePaid, pass_in, pass_at}
+use Rattle.script_run.proofs.Imports.{◌≡◌, ◌≢◌, refl, sym, ap, subst, ◌∙◌, ℕ, zero, suc, ◌+◌, ◌*◌, ◌<◌, ◌≤◌, Bool, true, false, nat_eq, List, [], ◌∷◌, ◌++◌, Option, Some, None, length, filter, slice_get, inl, inr, arith, ◌⊎◌, if◌then◌else◌, All, nat_tests, All-weaker, slice_get_within, Has, at_place, one_value, has_at, IsPacket, Ebadf, LogEntry, Sources, act_of, filled_act, filled_entry, HasRead, Response, Refused, Line, Feed, Tick, Target, Verb, clients_in, Scripted, ClientCommand, Event, Request, Own, Pass, Open, Packets, packets_in, Batches, batch_at, deed_of, call_of, commands_among, ends_drain, pass_of, played, plays_of, all_commands, bytes_in, most_calls, AreAsked, StandsIn, replies, sources, Payers, feeder, others, MayPay, IsPaidBehind, HasDoneSoFar, IsSoFar, commands_for, CallsArePaid, pass_in, pass_at}
 use Rattle.client_script.specs.declared.line.Line.TheVariants.{Command}
 use Rattle.script_run.proofs.Lists.{has_filter}
 use Rattle.script_run.proofs.Counting.{total, total_le, total_add, total_same, total_33, total_but, total_one, one_at, but, sum_of, Pool, both, all_pools, HaveTokens, counts_fit, weigh_places, weight_at, weight_got}
@@ -119,7 +119,7 @@ module _ (payers : Payers) (script : Scripted) (most : ℕ) (stream : List (List
     go (suc d) is =
         let low : d < clients_in script = omega (arith, is, (s.places e.node e.place h e log at).2) in
         let who : e.who ≡ d + 1 = omega (arith, is) in
-        record { client = d; low = low; who = who; made = λ is. (s.clients d is).only e.node e.place h e log at who }
+        record { client = d; low = low; who = who; made = λ is. (s.clients d is).calls.only e.node e.place h e log at who }
 
   -- the entry at a place of a node's history stands in the histories
   stands_at : (node : ℕ) (h : List LogEntry) → slice_get hs node ≡ Some h → (i : ℕ) (e : LogEntry) → slice_get h i ≡ Some e → StandsIn hs e
@@ -157,7 +157,7 @@ module _ (payers : Payers) (script : Scripted) (most : ℕ) (stream : List (List
         tokens = made;
         within = omega (
           arith,
-          worth_all script client made (λ i e at. ((s.clients client low).steps i e at).3) node (brings_on node) (write_size batches) (event_size batches node),
+          worth_all script client made (s.clients client low).calls.events node (brings_on node) (write_size batches) (event_size batches node),
           passed_worth node (write_size batches) client script (replies made),
         );
         all = λ t is. is low;
@@ -272,8 +272,8 @@ module _ (payers : Payers) (script : Scripted) (most : ℕ) (stream : List (List
     abbrev OtherPays : LogEntry → Type 0
     OtherPays e = (d : ℕ) × (d < clients_in script) × ClientPays d e
 
-    events : (d : ℕ) (low : d < clients_in script) (i : ℕ) (e : LogEntry) → slice_get (s.clients d low).made i ≡ Some e → IsEvent (plays_of d script) (next_event d script (replies (take i (s.clients d low).made))) e
-    events d low i e at = ((s.clients d low).steps i e at).3
+    abbrev events : (d : ℕ) (low : d < clients_in script) → AreAsked script d (s.clients d low).made
+    events d low = (s.clients d low).calls.events
 
     client_at : (d : ℕ) → d < clients_in script → (same : Bool) → nat_eq d c ≡ same → Pool quiet (ClientPays d) (if same then 0 else firsts script d)
     client_at d low true yea = record { tokens = []; within = omega arith; all = λ t pays. absurd (pays.0 (grind (arith, nat_tests, yea))) }
@@ -311,11 +311,11 @@ module _ (payers : Payers) (script : Scripted) (most : ℕ) (stream : List (List
     bytes_count : All IsPacket stream → (k : ℕ) → k ≤ length me.made → total my_bytes k ≤ 33 * (188 * most_packets)
     bytes_count are k le = omega (arith, counts_fit bytes_of k my_bytes (λ i t. slice_get me.made i ≡ Some t) (all_bytes are).tokens tokens, (all_bytes are).within, total_same (188 * most_packets) 33) where
       twice : (i j : ℕ) (t : LogEntry) → i < j → slice_get me.made i ≡ Some t → slice_get me.made j ≡ Some t → ⊥
-      twice i j t less a b = let up = me.in_order i j t t less a b refl in omega (arith, up)
+      twice i j t less a b = let up = me.calls.in_order i j t t less a b refl in omega (arith, up)
 
       there : (i : ℕ) (e : LogEntry) → slice_get me.made i ≡ Some e → 0 < my_bytes i → (t : LogEntry) × Has (all_bytes are).tokens t × (my_bytes i ≤ bytes_of t) × (slice_get me.made i ≡ Some t)
       there i e at more =
-          let stands = (me.steps i e at).2 in (
+          let stands = me.calls.stands i e at in (
             e,
             (all_bytes are).all e (stands_on e stands),
             bytes_pay script c me.made (events c is) i e at (λ now count read. read_there e.node (sources script stream) stands.0 (s.legal e.node stands.0 stands.1) e.place e now count stands.2 read) more,
@@ -335,7 +335,7 @@ module _ (payers : Payers) (script : Scripted) (most : ℕ) (stream : List (List
     IsBehind i x = (e : LogEntry) × (slice_get me.made i ≡ Some e) × (x.node ≡ e.node) × (x.place ≡ e.place + 1)
 
     behind_one : (i j : ℕ) (t : LogEntry) → i < j → IsBehind i t → IsBehind j t → ⊥
-    behind_one i j t less (e, at, node, place) (f, at_f, node_f, place_f) = let up = me.in_order i j e f less at at_f (sym node ∙ node_f) in omega (arith, up, place, place_f)
+    behind_one i j t less (e, at, node, place) (f, at_f, node_f, place_f) = let up = me.calls.in_order i j e f less at at_f (sym node ∙ node_f) in omega (arith, up, place, place_f)
 
     module _ (Pays : LogEntry → Type 0) (bound : ℕ) (pool : Pool quiet Pays bound) (pays : (x : LogEntry) → StandsIn hs x → MayPay payers c x.who → Pays x) where
       again_there : (i : ℕ) (e f : LogEntry) → slice_get me.made i ≡ Some e → slice_get me.made (suc i) ≡ Some f → 0 < my_again i → (x : LogEntry) × Has pool.tokens x × (my_again i ≤ quiet x) × IsBehind i x
@@ -344,9 +344,9 @@ module _ (payers : Payers) (script : Scripted) (most : ℕ) (stream : List (List
           go w (me.paid i e f at next (w.stays f next) w.waits) where
             go : IsWaiting script c me.made (events c is) i e → IsPaidBehind payers c hs e → (x : LogEntry) × Has pool.tokens x × (my_again i ≤ quiet x) × IsBehind i x
             go w (x, stands, node, place, may) =
-                let mine : e.who ≡ c + 1 = (me.steps i e at).1 in
+                let mine : e.who ≡ c + 1 = (me.calls.steps i e at).1 in
                 let differ : e.who ≢ x.who = λ same. pays_not_itself payers c x.who may (sym same ∙ mine) in
-                let silent : quiet x ≡ 1 = quiet_behind e x (me.steps i e at).2 stands node place differ w.going (adds x) refl in
+                let silent : quiet x ≡ 1 = quiet_behind e x (me.calls.stands i e at) stands node place differ w.going (adds x) refl in
                 (x, pool.all x (pays x stands may), omega (arith, silent, w.once), (e, at, node, place))
 
       again_count : (k : ℕ) → suc k ≤ length me.made → total my_again k ≤ bound

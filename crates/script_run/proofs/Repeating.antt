@@ -1,6 +1,6 @@
 -- How often a client repeats a read, by its log: each repeat follows a read that gave bytes, named some as lost, or was
 -- answered Again, after which the client waits on the same node.
-use Rattle.script_run.proofs.Imports.{◌≡◌, refl, sym, ap, subst, ◌∙◌, ℕ, zero, suc, ◌+◌, ◌-◌, ◌*◌, ◌<◌, ◌≤◌, Bool, true, false, List, [], ◌∷◌, ◌++◌, Option, Some, None, length, take, slice_get, inl, inr, arith, ◌⊎◌, if◌then◌else◌, IsSome, map-append, Act, ReadAct, LogEntry, act_of, Response, Done, Busy, Refused, NoMemory, Data, Again, Overflow, TimedOut, Ready, Passed, Scripted, Event, Request, Own, Pass, Open, Packets, Batches, batch_at, call_of, commands_of, ends_drain, pass_of, plays_of, Standing, progress, next_event, waits_on, no_slots, IsEvent, replies, bytes_in, added_by, one_reply_more, some_of, repeats_none, at_place, first_calls, stays_on}
+use Rattle.script_run.proofs.Imports.{◌≡◌, refl, sym, ap, subst, ◌∙◌, ℕ, zero, suc, ◌+◌, ◌-◌, ◌*◌, ◌<◌, ◌≤◌, Bool, true, false, List, [], ◌∷◌, ◌++◌, Option, Some, None, length, take, slice_get, inl, inr, arith, ◌⊎◌, if◌then◌else◌, IsSome, map-append, Act, ReadAct, LogEntry, act_of, Response, Done, Busy, Refused, NoMemory, Data, Again, Overflow, TimedOut, Ready, Passed, Scripted, Event, Request, Own, Pass, Open, Packets, Batches, batch_at, call_of, commands_of, ends_drain, pass_of, plays_of, Standing, progress, next_event, waits_on, no_slots, AreAsked, IsEvent, replies, bytes_in, added_by, one_reply_more, some_of, repeats_none, at_place, first_calls, stays_on}
 use Rattle.client_core.specs.Repeats.{repeats}
 use Rattle.script_run.proofs.Counting.{total, total_le, total_add, weigh, weight_at, weigh_places, weight_got}
 use Rattle.script_run.proofs.Lists.{take_next, length_taken}
@@ -79,7 +79,7 @@ asked_by batches (Some event) e is = record { event = event; is = refl; node = i
 
 -- ------ along the log
 
-module _ (script : Scripted) (client : ℕ) (log : List LogEntry) (events : (i : ℕ) (e : LogEntry) → slice_get log i ≡ Some e → IsEvent (plays_of client script) (next_event client script (replies (take i log))) e) where
+module _ (script : Scripted) (client : ℕ) (log : List LogEntry) (events : AreAsked script client log) where
   -- the repeats after so many calls
   abbrev pub repeats_after : ℕ → ℕ
   repeats_after i = repeats client script (replies (take i log))

@@ -58,22 +58,40 @@ IsEvent batches (Some event) e = (e.node ≡ event.node) × ((moment : ℕ) × (
 abbrev pub replies : List LogEntry → List Response
 replies made = map (λ e. e.response) made
 
--- A client did just what its commands ask, by the replies that it got, to their
--- end: `made` is its calls in their order.
-pub record HasDone (script : Scripted) (client : ℕ) (hs : List (List LogEntry)) : Type 0 where
-  pub made : List LogEntry
+-- calls of one caller, one after another: their steps are 0, 1, ..
+abbrev pub InTurn : (who : ℕ) → (made : List LogEntry) → Type 0
+InTurn who made = (i : ℕ) (e : LogEntry) → slice_get made i ≡ Some e → (e.step ≡ i) × (e.who ≡ who)
+
+-- each is the call that the client's commands ask for after the replies before it
+abbrev pub AreAsked : Scripted → (client : ℕ) → (made : List LogEntry) → Type 0
+AreAsked script client made = (i : ℕ) (e : LogEntry) → slice_get made i ≡ Some e
+    → IsEvent (plays_of client script) (next_event client script (replies (take i made))) e
+
+-- on each node they stand in the order in which they were made
+abbrev pub AreInOrder : (made : List LogEntry) → Type 0
+AreInOrder made = (i j : ℕ) (e f : LogEntry) → i < j → slice_get made i ≡ Some e → slice_get made j ≡ Some f
+    → e.node ≡ f.node → e.place < f.place
+
+-- These are a client's calls in the histories, so far: it did just what its commands ask, by the replies that it got.
+pub record AreCalls (script : Scripted) (client : ℕ) (hs : List (List LogEntry)) (made : List LogEntry) : Type 0 where
   -- its steps are 0, 1, .., and each is the call that its commands ask for after the replies before it
-  pub steps : (i : ℕ) (e : LogEntry) → slice_get made i ≡ Some e
-      → (e.step ≡ i) × (e.who ≡ client + 1) × StandsIn hs e
-      × IsEvent (plays_of client script) (next_event client script (replies (take i made))) e
-  -- after all of them the commands are through
-  pub ends : next_event client script (replies made) ≡ None
+  pub steps : InTurn (client + 1) made
+  pub events : AreAsked script client made
+  -- each stands in the histories, on its node and at its place
+  pub stands : (i : ℕ) (e : LogEntry) → slice_get made i ≡ Some e → StandsIn hs e
   -- the histories have no other call of this client
   pub only : (node place : ℕ) (h : List LogEntry) (e : LogEntry) → slice_get hs node ≡ Some h
       → slice_get h place ≡ Some e → e.who ≡ client + 1 → slice_get made e.step ≡ Some e
   -- on each node its calls stand in the order in which it made them
-  pub in_order : (i j : ℕ) (e f : LogEntry) → i < j → slice_get made i ≡ Some e → slice_get made j ≡ Some f
-      → e.node ≡ f.node → e.place < f.place
+  pub in_order : AreInOrder made
+
+-- A client did just what its commands ask, by the replies that it got, to their
+-- end: `made` is its calls in their order.
+pub record HasDone (script : Scripted) (client : ℕ) (hs : List (List LogEntry)) : Type 0 where
+  pub made : List LogEntry
+  pub calls : AreCalls script client hs made
+  -- after all of them the commands are through
+  pub ends : next_event client script (replies made) ≡ None
 
 -- ------ the run
 

@@ -7,10 +7,10 @@ use Rattle.dmx_calls.specs.Legal.{IsLegalFor}
 use Rattle.dmx_calls.specs.Log.{LogEntry, filled}
 use Rattle.dmx_calls.specs.Rules.{rules_at}
 use Rattle.client_script.specs.Script.{AreNumbered, clients_in, Scripted}
-use Rattle.client_core.specs.Commands.{commands_of, plays_of}
+use Rattle.client_core.specs.Commands.{commands_of}
 use Rattle.client_core.specs.Events.{next_event, waits_on}
 use Rattle.script_run.specs.Budget.{all_commands, bytes_written, most_calls}
-use Rattle.script_run.specs.IsRun.{ArePlaced, Batch, Step, IsEvent, IsRun, StandsIn, feeding, replies, sources, steps_of}
+use Rattle.script_run.specs.IsRun.{AreCalls, ArePlaced, Batch, Step, IsRun, StandsIn, feeding, replies, sources, steps_of}
 
 -- ------ the feeder
 
@@ -43,16 +43,7 @@ IsPaidBehind payers client hs e =
 pub record HasDoneSoFar (payers : Payers) (script : Scripted) (client : ℕ)
     (hs : List (List LogEntry)) : Type 0 where
   pub made : List LogEntry
-  -- its steps are 0, 1, .., and each is the call that its commands ask for after the replies before it
-  pub steps : (i : ℕ) (e : LogEntry) → slice_get made i ≡ Some e
-      → (e.step ≡ i) × (e.who ≡ client + 1) × StandsIn hs e
-      × IsEvent (plays_of client script) (next_event client script (replies (take i made))) e
-  -- the histories have no other call of this client
-  pub only : (node place : ℕ) (h : List LogEntry) (e : LogEntry) → slice_get hs node ≡ Some h
-      → slice_get h place ≡ Some e → e.who ≡ client + 1 → slice_get made e.step ≡ Some e
-  -- on each node its calls stand in the order in which it made them
-  pub in_order : (i j : ℕ) (e f : LogEntry) → i < j → slice_get made i ≡ Some e → slice_get made j ≡ Some f
-      → e.node ≡ f.node → e.place < f.place
+  pub calls : AreCalls script client hs made
   -- between a read that found nothing and its repeat an entry of another stands on that node: it pays for the repeat
   pub paid : (i : ℕ) (e f : LogEntry) → slice_get made i ≡ Some e → slice_get made (suc i) ≡ Some f
       → f.node ≡ e.node → IsSome (waits_on client script (replies (take (suc i) made)))

@@ -10,7 +10,7 @@ pub use Rattle.byteorder.specs.Numbers.{little_number-reads_back}
 pub use Rattle.client_core.proofs.GoesOn.{last_counts, progress_of, waits_not}
 pub use Rattle.client_core.specs.Commands.{Doing, IsRequestInRange, Slots, call_of, called, commands_of, done, opened, own_call, plays_of, stands, through, told}
 pub use Rattle.client_core.specs.Deeds.{Batches}
-pub use Rattle.client_core.specs.Events.{Ended, Progress, Standing, next_event, no_slots, progress_from, slots_after, waits_after, waits_on, with_ended}
+pub use Rattle.client_core.specs.Events.{Ended, Progress, Standing, no_slots, progress_from, slots_after, waits_after, waits_on, with_ended}
 pub use Rattle.client_core.specs.Outcomes.{Counters, counters_after, kind_by, outcome_by}
 pub use Rattle.client_core.specs.declared.command.Command.{Command}
 pub use Rattle.client_core.specs.declared.deed.Deed.TheVariants.{Once}
@@ -55,7 +55,7 @@ pub use Rattle.node_lock.proofs.Views.{at_below, prefix_at}
 pub use Rattle.node_lock.specs.Inside.Seats.{fresh}
 pub use Rattle.node_lock.specs.Passes.{KnowsItsCalls}
 pub use Rattle.node_lock.specs.declared.view.View.{View}
-pub use Rattle.script_run.specs.IsRun.{IsEvent, replies}
+pub use Rattle.script_run.specs.IsRun.{AreAsked, IsEvent, replies}
 pub use Rattle.script_run.specs.WholeRun.{IsGiven}
 pub use Rattle.seats.specs.Answered.{AreBusy, AreClosings, IsAnswered, IsAnsweredBy, IsBehind, IsClosing, IsCommand, IsFull, IsOpened, act_behind, act_by_tap, is_busy, refusal, told_opened}
 pub use Rattle.seats.specs.Asks.{IsWantInRange, ask_of, asked}

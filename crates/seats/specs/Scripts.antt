@@ -4,10 +4,10 @@ use Rattle.dmx_calls.specs.declared.limits.TheConstants.{DEMUX_NODES}
 use Rattle.dmx_calls.specs.declared.outcome.Outcome.{Outcome}
 use Rattle.dmx_calls.specs.Log.{LogEntry}
 use Rattle.client_script.specs.Script.{Scripted}
-use Rattle.client_core.specs.Commands.{commands_of, plays_of}
+use Rattle.client_core.specs.Commands.{commands_of}
 use Rattle.client_core.specs.Events.{next_event, waits_on}
 use Rattle.client_core.specs.Outcomes.{outcomes}
-use Rattle.script_run.specs.IsRun.{IsEvent, replies}
+use Rattle.script_run.specs.IsRun.{AreAsked, replies}
 use Rattle.script_run.specs.WholeRun.{IsGiven}
 use Rattle.seats.specs.Answered.{AreClosings}
 use Rattle.seats.specs.Seated.{AreOnNodes}
@@ -17,8 +17,7 @@ use Rattle.seats.specs.Turns.{Turn, IsTurn, calls_of, spelled}
 -- These calls are those that the commands of a client of a script ask for, one after another, by the replies to the calls before;
 -- behind them its commands are through, and ended so.
 pub record IsPlayed (may : ℕ → Bool) (client : ℕ) (script : Scripted) (calls : List LogEntry) (told : List Outcome) : Type 0 where
-  pub events : (i : ℕ) (e : LogEntry) → slice_get calls i ≡ Some e
-      → IsEvent (plays_of client script) (next_event client script (replies (take i calls))) e
+  pub events : AreAsked script client calls
   pub ends : next_event client script (replies calls) ≡ None
   pub outcomes : told ≡ outcomes client script (replies calls)
   -- the moments are those of the clock

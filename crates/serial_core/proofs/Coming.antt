@@ -1,5 +1,5 @@
 -- Wherever the serial run of a script has come: its nodes, its feeder and its clients.
-use Rattle.serial_core.proofs.Imports.{◌≡◌, ◌≢◌, refl, sym, ap, subst, ◌∙◌, ℕ, ◌+◌, ◌<◌, ◌≤◌, Bool, true, false, nat_eq, List, [], ◌∷◌, ◌++◌, Option, Some, None, length, length-append, take, drop, min, ◌⊎◌, inl, inr, arith, length-take-le, length-drop, IsSome, is_some, if◌then◌else◌, slice_get, slice_index_or, All, nat_tests, length-map, length-set, get_or-set_same, get_or-set_other, drop-drop, All-nil, get_or-map-range_with_len, at_last, DEMUX_NODES, Frontend, Invocation, Response, Again, is_accepted, entry_of, rules_at, PassAct, IsFrom, LogEntry, act_of, IsInRange, Scripted, Event, Batches, call_of, plays_of, Standing, progress, next_event, waits_after, waits_on, sources, steps_of, last_counts, next_is_numbered, same_some, from_client, Node, uncalled, history_of, answer_by, answered, Run, begun, fed_to_all, passed, ended, turned, ticked, node_at, replies_of, reply_to, called, after_waiting, IsSerialRun, IsMoment}
+use Rattle.serial_core.proofs.Imports.{◌≡◌, ◌≢◌, refl, sym, ap, subst, ◌∙◌, ℕ, ◌+◌, ◌<◌, ◌≤◌, Bool, true, false, nat_eq, List, [], ◌∷◌, ◌++◌, Option, Some, None, length, length-append, take, drop, min, ◌⊎◌, inl, inr, arith, length-take-le, length-drop, IsSome, is_some, if◌then◌else◌, slice_get, slice_index_or, All, nat_tests, length-map, length-set, get_or-set_same, get_or-set_other, drop-drop, All-nil, get_or-map-range_with_len, at_last, DEMUX_NODES, Frontend, Invocation, Response, Again, is_accepted, entry_of, rules_at, PassAct, IsFrom, LogEntry, act_of, IsInRange, Scripted, Event, Batches, call_of, plays_of, Standing, progress, next_event, waits_after, waits_on, sources, steps_of, last_counts, next_is_numbered, same_some, from_client, by_caller, Node, uncalled, history_of, answer_by, answered, Run, begun, fed_to_all, passed, ended, turned, ticked, node_at, replies_of, reply_to, called, after_waiting, IsSerialRun, IsMoment}
 use Rattle.dmx_calls.specs.Invocation as call
 use Rattle.dmx_calls.specs.Tenure.{has_ended}
 use Rattle.serial_core.proofs.Answering.{end_answer, end_stays, ends, no_end}
@@ -58,7 +58,7 @@ module _ (script : Scripted) (batch : ℕ) (packets : List (List ℕ)) (clients 
       (λ e le waits unended. (
         entry_for 0 r.turns c (node_at e.node r),
         subst (λ h. slice_get h (e.place + 1) ≡ Some (entry_for 0 r.turns c (node_at e.node r))) (sym (fed_entries e.node c r long le))
-            (subst (λ n. slice_get (entries_at e.node r ++ entry_for 0 r.turns c (node_at e.node r) ∷ []) n ≡ Some (entry_for 0 r.turns c (node_at e.node r))) unended.0 (at_last (entries_at e.node r) (entry_for 0 r.turns c (node_at e.node r)))),
+            (subst (λ n. slice_get (entries_at e.node r ++ entry_for 0 r.turns c (node_at e.node r) ∷ []) n ≡ Some (entry_for 0 r.turns c (node_at e.node r))) unended.1 (at_last (entries_at e.node r) (entry_for 0 r.turns c (node_at e.node r)))),
         refl,
       ))
       m
@@ -186,9 +186,9 @@ module _ (script : Scripted) (batch : ℕ) (packets : List (List ℕ)) (clients 
         get_or-set_same r.replies client (replies_of client r ++ reply_to client (plays_of client script) e r ∷ []) [] (omega (arith, lt, few, p.eight))
 
     -- the feeder has had its turn where the client waited
-    not_last : (x : LogEntry) → x.node ≤ DEMUX_NODES → x.who ≡ client + 1 → slice_get (entries_at x.node r) x.place ≡ Some x → Waits script client (replies_of client r)
+    not_last : (x : LogEntry) → x.node ≤ DEMUX_NODES → x.who ≡ client + 1 → Waits script client (replies_of client r)
         → IsOpenBehind (λ node. entries_at node r) r.has_ended x → ⊥
-    not_last x le mine there waits (last, unended) =
+    not_last x le mine waits (there, last, unended) =
         let f = fed waits unended x.node le in
         let end : x.place ≡ length f.0 = omega (arith, last, ap length f.2, length-append f.0 (f.1 ∷ [])) in
         let same : f.1 ≡ x = same_some f.1 x (sym (at_last f.0 f.1) ∙ ap (slice_get (f.0 ++ f.1 ∷ [])) (sym end) ∙ ap (λ h. slice_get h x.place) (sym f.2) ∙ there) in
@@ -256,8 +256,9 @@ module _ (script : Scripted) (batch : ℕ) (packets : List (List ℕ)) (clients 
       made = [];
       same = sym (none_said 8 client);
       steps = λ i e is. absurd (no_entry i e [] refl is);
-      only = λ node place e le is mine. absurd (no_entry place e (entries_at node (begun packets)) (ap entries_of (begun_at node le)) is);
-      in_order = λ i j e f less a b on. absurd (no_entry i e [] refl a);
+      events = λ i e is. absurd (no_entry i e [] refl is);
+      within = λ i e is. absurd (no_entry i e [] refl is);
+      each = λ node le. ap (λ n. by_caller (client + 1) (entries_of n)) (sym (begun_at node le));
       paid = λ i e is waits. absurd (no_entry i e [] refl is);
     };
     silent = λ client above. none_said 8 client;

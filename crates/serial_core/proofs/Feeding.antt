@@ -1,5 +1,5 @@
 -- All packets pass each node in the same batches, one after another, and then End.
-use Rattle.serial_core.proofs.Imports.{◌≡◌, ◌≢◌, refl, sym, ap, ◌∙◌, ℕ, suc, ◌+◌, ◌≤◌, Bool, true, false, nat_eq, List, [], ◌∷◌, ◌++◌, length, map, filter, arith, length-append, sum, All, map-append, sum_by-append, sum_by-cons, All-nil, All-cons, All-append, filter-append, nat_tests, Frontend, DEMUX_NODES, PassAct, EndAct, LogEntry, Batch, Step, feeding, steps_of, one_if}
+use Rattle.serial_core.proofs.Imports.{◌≡◌, ◌≢◌, sym, ap, ◌∙◌, ℕ, suc, ◌+◌, ◌≤◌, Bool, true, false, nat_eq, List, [], ◌∷◌, ◌++◌, length, map, append-nil, arith, length-append, sum, All, map-append, sum_by-append, sum_by-cons, All-nil, All-cons, All-append, nat_tests, Frontend, DEMUX_NODES, PassAct, EndAct, LogEntry, Batch, Step, feeding, steps_of, one_if, filter_more, by_caller}
 
 -- ------ the feeder's calls in a log
 
@@ -9,17 +9,12 @@ step_of e = record { step = e.step; act = e.act }
 pub more_fed : (h : List LogEntry) (x : LogEntry) → x.who ≡ 0 → steps_of 0 (h ++ x ∷ []) ≡ steps_of 0 h ++ record { step = x.step; act = x.act } ∷ []
 more_fed h x is =
     let own : nat_eq x.who 0 ≡ true = grind (arith, nat_tests, is) in
-    ap (map step_of) (filter-append (λ e. nat_eq e.who 0) h (x ∷ [])) ∙ map-append step_of (filter (λ e. nat_eq e.who 0) h) (filter (λ e. nat_eq e.who 0) (x ∷ []))
-    ∙ rw own refl
+    ap (map step_of) (filter_more (λ (e : LogEntry). nat_eq e.who 0) h x true own) ∙ map-append step_of (by_caller 0 h) (x ∷ [])
 
 pub none_fed : (h : List LogEntry) (x : LogEntry) → x.who ≢ 0 → steps_of 0 (h ++ x ∷ []) ≡ steps_of 0 h
 none_fed h x not =
     let other : nat_eq x.who 0 ≡ false = grind (arith, nat_tests, not) in
-    ap (map step_of) (filter-append (λ e. nat_eq e.who 0) h (x ∷ [])) ∙ map-append step_of (filter (λ e. nat_eq e.who 0) h) (filter (λ e. nat_eq e.who 0) (x ∷ []))
-    ∙ rw other (nil (steps_of 0 h)) where
-      nil : (xs : List Step) → xs ++ [] ≡ xs
-      nil [] = refl
-      nil (y ∷ ys) = ap (λ zs. y ∷ zs) (nil ys)
+    ap (map step_of) (filter_more (λ (e : LogEntry). nat_eq e.who 0) h x false other ∙ append-nil (by_caller 0 h))
 
 -- ------ batches
 
@@ -71,10 +66,6 @@ pub record AreFed (most : ℕ) (logs : ℕ → List LogEntry) (turns first : ℕ
   pub counted : turns ≡ length batches + one_if has_ended
   pub on_each : (node : ℕ) → node ≤ DEMUX_NODES → steps_of 0 (logs node) ≡ passes_of 0 0 batches ++ end_of (length batches) has_ended
 
-append_nil : (xs : List Step) → xs ++ [] ≡ xs
-append_nil [] = refl
-append_nil (y ∷ ys) = ap (λ zs. y ∷ zs) (append_nil ys)
-
 module _ (most : ℕ) (logs after : ℕ → List LogEntry) where
   -- a batch passes
   pub fed_pass : (turns first size moment : ℕ) → 1 ≤ size → size ≤ most → AreFed most logs turns first false
@@ -96,11 +87,11 @@ module _ (most : ℕ) (logs after : ℕ → List LogEntry) where
             let s : x.step ≡ 0 + length f.batches = omega (arith, step, f.counted) in
             let p : first ≡ 0 + sizes_of f.batches = omega (arith, f.whole) in
             ap (steps_of 0) more ∙ more_fed (logs node) x who
-            ∙ ap (λ l. l ++ record { step = x.step; act = x.act } ∷ []) (before ∙ append_nil (passes_of 0 0 f.batches))
+            ∙ ap (λ l. l ++ record { step = x.step; act = x.act } ∷ []) (before ∙ append-nil (passes_of 0 0 f.batches))
             ∙ ap (λ n. passes_of 0 0 f.batches ++ record { step = n; act = x.act } ∷ []) s
             ∙ ap (λ a. passes_of 0 0 f.batches ++ record { step = 0 + length f.batches; act = a } ∷ []) (act ∙ ap (λ n. PassAct Frontend n size moment) p)
             ∙ sym (passes_more 0 0 f.batches (record { size = size; moment = moment }))
-            ∙ sym (append_nil (passes_of 0 0 (f.batches ++ record { size = size; moment = moment } ∷ [])))
+            ∙ sym (append-nil (passes_of 0 0 (f.batches ++ record { size = size; moment = moment } ∷ [])))
 
   -- the end passes
   pub fed_end : (turns first : ℕ) → AreFed most logs turns first false
@@ -118,7 +109,7 @@ module _ (most : ℕ) (logs after : ℕ → List LogEntry) where
     on node (x, more, who, step, act) before =
         let s : x.step ≡ length f.batches = omega (arith, step, f.counted) in
         ap (steps_of 0) more ∙ more_fed (logs node) x who
-        ∙ ap (λ l. l ++ record { step = x.step; act = x.act } ∷ []) (before ∙ append_nil (passes_of 0 0 f.batches))
+        ∙ ap (λ l. l ++ record { step = x.step; act = x.act } ∷ []) (before ∙ append-nil (passes_of 0 0 f.batches))
         ∙ ap (λ n. passes_of 0 0 f.batches ++ record { step = n; act = x.act } ∷ []) s
         ∙ ap (λ a. passes_of 0 0 f.batches ++ record { step = length f.batches; act = a } ∷ []) act
 

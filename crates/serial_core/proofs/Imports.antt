@@ -53,13 +53,16 @@ pub use Rattle.feed_pull.specs.Streams.{Draws, OfStream}
 pub use Rattle.feed_pull.specs.declared.fault.Reading.TheVariants.{TooMany}
 pub use Rattle.lemmas.proofs.Lists.{at_before, at_end, at_last, at_last as got_last}
 pub use Rattle.lemmas.proofs.Options.{same_some}
+pub use Rattle.script_run.proofs.Calls.{asked_more, turn_more}
 pub use Rattle.script_run.proofs.Clients.{clients_within, few_in_all}
 pub use Rattle.script_run.proofs.Counting.{total}
 pub use Rattle.script_run.proofs.Ending.{are_accounted, runs_end}
 pub use Rattle.script_run.proofs.Events.{from_client}
+pub use Rattle.script_run.proofs.Lists.{filter_more}
+pub use Rattle.script_run.proofs.OnNodes.{by_caller, calls_of, on_node}
 pub use Rattle.script_run.proofs.Paying.{calls_are_bounded, calls_are_paid, commands_shared, plays_by}
 pub use Rattle.script_run.specs.Budget.{IsTooLong, all_commands, bytes_written, most_calls}
-pub use Rattle.script_run.specs.IsRun.{Batch, IsEvent, Step, feeding, replies, sources, steps_of}
+pub use Rattle.script_run.specs.IsRun.{AreAsked, Batch, InTurn, IsEvent, Step, feeding, replies, sources, steps_of}
 pub use Rattle.script_run.specs.SoFar.{HasDoneSoFar, IsFedSoFar, IsOver, IsPaidBehind, IsSoFar, feeder}
 pub use Rattle.serial_core.specs.Budget.{AreBegun, IsBegun, IsMoment, IsOnTheWay, IsWithinBudget, no_call, one_call}
 pub use Rattle.serial_core.specs.Examples.{DrainedOutcomes, DrainedRun, PlayedOutcomes, PlayedRun, WaitedOutcomes, WaitedRun}
@@ -78,14 +81,14 @@ pub use Rattle.serial_core.specs.declared.nodes.Nodes.{Nodes}
 pub use Rattle.serial_core.specs.declared.run.Left.{Left}
 pub use Rattle.serial_core.specs.declared.runner.Runner.{Runner}
 pub use Rattle.serial_core.specs.declared.seat.Seat.{Seat}
-pub use Rattle.std.proofs.Common.{Bool, Err, IfOk, IsErrAnd, List, None, Ok, OnErr, Option, Result, Some, [], add-one, ap, append-nil, append_assoc, arith, drop, false, filter, fold, get_or, inl, inr, length, length-append, length-drop, length-take-le, map, min, nat_eq, nat_lt, not, refl, replicate, reverse, set, subst, suc, sym, take, true, vec_len, zero, zero-add, ℕ, ◌%◌, ◌*◌, ◌++◌, ◌+◌, ◌-◌, ◌/◌, ◌<◌, ◌==◌, ◌^◌, ◌∙◌, ◌∷◌, ◌≡◌, ◌≢◌, ◌≤◌, ◌⊎◌}
+pub use Rattle.std.proofs.Common.{Bool, Err, IfOk, IsErrAnd, List, None, Ok, OnErr, Option, Result, Some, [], add-one, ap, append-nil, append_assoc, arith, drop, false, fold, get_or, inl, inr, length, length-append, length-drop, length-take-le, map, min, nat_eq, nat_lt, not, refl, replicate, reverse, set, subst, suc, sym, take, true, vec_len, zero, zero-add, ℕ, ⊎_elim, ◌%◌, ◌*◌, ◌++◌, ◌+◌, ◌-◌, ◌/◌, ◌<◌, ◌==◌, ◌^◌, ◌∙◌, ◌∷◌, ◌≡◌, ◌≢◌, ◌≤◌, ◌⊎◌}
 pub use Rattle.std.proofs.Math.Nat.{add-div_right, add-mod_right, div-eq_of_lt, mod-eq_of_lt}
 pub use Rattle.std.proofs.Math.Seq.{drop-append_seam, drop-cons, get_or-append_seam, map-set_same, take-append_seam}
 pub use Rattle.std.proofs.lemmas.Bool.{cases_lt}
 pub use Rattle.std.proofs.lemmas.Bool.Decides.{nat_tests}
 pub use Rattle.std.proofs.lemmas.Grind.{flat_map-append}
 pub use Rattle.std.proofs.lemmas.List.{drop-drop, drop_all, get_or-map, get_or-replicate, get_or-set_other, get_or-set_same, get_or_append_left, length-map, length-replicate, length-set, map-append, reverse-append, take-append-drop, take-append-le, take_all}
-pub use Rattle.std.proofs.lemmas.List.Elements.{All-append, All-cons, All-head, All-map, All-nil, All-push, All-set, All-tail, All-weaker, filter-append}
+pub use Rattle.std.proofs.lemmas.List.Elements.{All-append, All-cons, All-head, All-map, All-nil, All-push, All-set, All-tail, All-weaker}
 pub use Rattle.std.proofs.lemmas.List.Folds.{sum_by-replicate}
 pub use Rattle.std.proofs.lemmas.List.FromFn.{get_or-map-range_with_len, length-range_with_len, map-range_with_len_more}
 pub use Rattle.std.proofs.lemmas.List.Sums.{get_or-le-sum_by, sum_by-append, sum_by-cons, sum_by-le, sum_by-set}

@@ -1,5 +1,5 @@
 -- A moment of the serial run of a script is a run of it so far, so its calls are paid; the whole serial run is a run.
-use Rattle.serial_core.proofs.Imports.{◌≡◌, sym, ap, subst, ◌∙◌, ◌⊎◌, ℕ, suc, ◌+◌, ◌*◌, ◌<◌, ◌≤◌, Bool, true, false, not, List, ◌++◌, append-nil, Some, None, length, inl, inr, arith, slice_get, All, cases_lt, length-map, slice_get_within, IsPacket, rules_at, IsLegalFor, LogEntry, filled, IsInRange, AreNumbered, clients_in, Scripted, commands_of, next_event, bytes_written, most_calls, Batch, Step, feeding, replies, sources, steps_of, feeder, IsPaidBehind, IsFedSoFar, HasDoneSoFar, IsSoFar, IsOver, runs_end, are_accounted, few_in_all, total, calls_are_bounded, calls_are_paid, plays_by, history_of, Run, all_passed, node_at, replies_of, IsMoment, IsWithinBudget, histories_in, IsAccountedRun, SerialRunsAreRuns}
+use Rattle.serial_core.proofs.Imports.{◌≡◌, sym, ap, subst, ◌∙◌, ◌⊎◌, ℕ, suc, ◌+◌, ◌*◌, ◌<◌, ◌≤◌, Bool, true, false, not, List, ◌++◌, append-nil, Some, None, length, inl, inr, arith, slice_get, All, cases_lt, length-map, slice_get_within, IsPacket, rules_at, IsLegalFor, LogEntry, filled, IsInRange, AreNumbered, clients_in, Scripted, commands_of, next_event, bytes_written, most_calls, Batch, Step, feeding, replies, sources, steps_of, feeder, IsPaidBehind, IsFedSoFar, HasDoneSoFar, IsSoFar, IsOver, runs_end, are_accounted, few_in_all, by_caller, calls_of, total, calls_are_bounded, calls_are_paid, plays_by, history_of, Run, all_passed, node_at, replies_of, IsMoment, IsWithinBudget, histories_in, IsAccountedRun, SerialRunsAreRuns}
 use Rattle.serial_core.proofs.Logs.{entries_of, entries_at, histories_get, histories_is}
 use Rattle.serial_core.proofs.Sound.{IsPlaced, sound_placed, sound_filled}
 use Rattle.serial_core.proofs.Making.{AreMade, IsFedBehind, IsOpenBehind}
@@ -51,14 +51,11 @@ module _ (script : Scripted) (batch : ℕ) (packets : List (List ℕ)) (few : cl
     abbrev m : AreMade script client (λ node. entries_at node r) r.has_ended (replies_of client r)
     m = p.made client lt
 
-    only : (node place : ℕ) (h : List LogEntry) (e : LogEntry) → slice_get (histories_in r) node ≡ Some h → slice_get h place ≡ Some e → e.who ≡ client + 1 → slice_get m.made e.step ≡ Some e
-    only node place h e log is mine = let w = histories_is r node h p.nodes log in m.only node place e w.0 (subst (λ l. slice_get l place ≡ Some e) (sym w.1) is) mine
-
     paid : (i : ℕ) (e f : LogEntry) → slice_get m.made i ≡ Some e → slice_get m.made (suc i) ≡ Some f → IsFedBehind (λ node. entries_at node r) e ⊎ (suc i ≡ length m.made) × IsOpenBehind (λ node. entries_at node r) r.has_ended e
         → IsPaidBehind feeder client (histories_in r) e
     paid i e f is next (inr (last, unended)) = absurd (omega (arith, last, slice_get_within m.made (suc i) f next))
     paid i e f is next (inl (x, there, fed)) =
-        let le = (m.steps i e is).within in
+        let le = m.within i e is in
         let h : slice_get (histories_in r) e.node ≡ Some (entries_at e.node r) = histories_get r e.node p.nodes le in
         let k = placed e.node (e.place + 1) (entries_at e.node r) x h there in
         (x, (entries_at e.node r, ap (slice_get (histories_in r)) k.0 ∙ h, ap (slice_get (entries_at e.node r)) k.1 ∙ there), k.0, k.1, fed)
@@ -66,9 +63,9 @@ module _ (script : Scripted) (batch : ℕ) (packets : List (List ℕ)) (few : cl
     done : HasDoneSoFar feeder script client (histories_in r)
     done = record {
       made = m.made;
-      steps = λ i e is. let s = m.steps i e is in (s.step, s.who, (entries_at e.node r, histories_get r e.node p.nodes s.within, s.there), s.event);
-      only = only;
-      in_order = m.in_order;
+      calls = calls_of script client (histories_in r) m.made (λ node place h e log is. let k = placed node place h e log is in (k.0, k.1)) m.steps m.events
+          (λ i e is. omega (arith, m.within i e is, p.nodes, length-map r.nodes entries_of))
+          (λ node h log. let w = histories_is r node h p.nodes log in m.each node w.0 ∙ ap (by_caller (client + 1)) w.1);
       paid = λ i e f is next same waits. paid i e f is next (m.paid i e is waits);
     }
 

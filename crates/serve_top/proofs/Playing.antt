@@ -117,8 +117,8 @@ module _ (may : ℕ → Bool) (stream : List (List ℕ)) (feeder : Caller) (feed
       no_call (suc c) e node place h who less at there =
           let top = (r.run.places node place h e at there).2 in
           let d = r.run.clients_done c (omega (arith, who, top)) in
-          let stands = d.only node place h e at there (omega (arith, who)) in
-          subst (λ (o : Option Event). IsEvent (plays_of c more) o e) (nothing c (omega (arith, less)) (omega (arith, who, top, many)) (replies (take e.step d.made))) (d.steps e.step e stands).3 where
+          let stands = d.calls.only node place h e at there (omega (arith, who)) in
+          subst (λ (o : Option Event). IsEvent (plays_of c more) o e) (nothing c (omega (arith, less)) (omega (arith, who, top, many)) (replies (take e.step d.made))) (d.calls.events e.step e stands) where
             nothing : (c : ℕ) → m ≤ c → c < n → (rs : List Response) → next_event c more rs ≡ None
             nothing c less low rs = dite (ℕ_discrete last c)
                 (λ same. subst (λ k. next_event k more rs ≡ None) same (question_next last more own rs))
@@ -136,10 +136,14 @@ module _ (may : ℕ → Bool) (stream : List (List ℕ)) (feeder : Caller) (feed
           let d = r.run.clients_done c (omega (arith, less, low, many, is)) in
           record {
             made = d.made;
-            steps = λ i e at. let s = d.steps i e at in (s.0, s.1, s.2, subst (λ (o : Option Event). IsEvent (plays_of c script) o e) (next_same c more script (same c less) (replies (take i d.made))) s.3);
+            calls = record {
+              steps = d.calls.steps;
+              events = λ i e at. subst (λ (o : Option Event). IsEvent (plays_of c script) o e) (next_same c more script (same c less) (replies (take i d.made))) (d.calls.events i e at);
+              stands = d.calls.stands;
+              only = d.calls.only;
+              in_order = d.calls.in_order;
+            };
             ends = sym (next_same c more script (same c less) (replies d.made)) ∙ d.ends;
-            only = d.only;
-            in_order = d.in_order;
           }
 
       -- it is filled with the same packets, since neither script writes

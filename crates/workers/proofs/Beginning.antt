@@ -15,7 +15,7 @@ module _ (locks : List TableId) (callers who left : ℕ) (c : Caller) (f : IsFre
     mine = λ node p at. (fresh_pass node p at).0 ∙ sym f.number;
     steps = λ i e at. absurd (cc at);
     tells = λ i e at. absurd (cc at);
-    rises = λ i j e g low at more same. absurd (cc at);
+    in_order = λ i j e g low at more same. absurd (cc at);
     just = λ node p at. (fresh_pass node p at).1;
   }
 

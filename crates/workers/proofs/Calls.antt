@@ -1,9 +1,8 @@
 -- The merged entries of a node are those of the logs on it, at places that rise.
-use Rattle.workers.proofs.Imports.{◌≡◌, ◌≢◌, inl, inr, ⊎_elim, ℕ, zero, suc, false, cond, nat_eq, eq-eqb, ne_eqb, ◌<◌, List, [], ◌∷◌, map, filter, get_or, slice_get, Some, refl, ap, sym, ◌∙◌, subst, arith, AllByRecursion, IsPermutation, IsNonDecreasingBy, map-append, filter-append, All-permutation, IsPermutation-map, IsPermutation-sym, IsDistinct-cons, IsDistinct-IsPermutation, get_or_from_slice_get, slice_get_within, slice_get-get_or, dite, ℕ_discrete, Has, has_at, has_either, has_left, has_right, Once, once_append, ToldEntry, told_entry, is_on, all_of, entries_on, nat_eq_turned, Ascends, ascends}
+use Rattle.workers.proofs.Imports.{◌≡◌, ◌≢◌, inl, inr, ⊎_elim, ℕ, zero, suc, true, false, cond, nat_eq, eq-eqb, ne_eqb, ◌<◌, List, [], ◌∷◌, map, filter, get_or, slice_get, Some, refl, ap, sym, ◌∙◌, subst, arith, AllByRecursion, IsPermutation, IsNonDecreasingBy, map-append, filter-append, All-permutation, IsPermutation-map, IsPermutation-sym, IsDistinct-cons, IsDistinct-IsPermutation, get_or_from_slice_get, slice_get_within, slice_get-get_or, dite, ℕ_discrete, Has, has_at, has_either, has_left, has_right, Once, once_append, ToldEntry, told_entry, is_on, all_of, entries_on, nat_eq_turned, Ascends, ascends, nat_tests, at_has, has_filter, of_filter}
 use Rattle.std.proofs.Common.{All}
 use Rattle.std.specs.List.{IsDistinct}
 use Rattle.workers.proofs.Weaves.{Rises}
-use Rattle.workers.proofs.Members.{at_has}
 
 -- ------ members
 
@@ -27,16 +26,13 @@ is_passed : (node : ℕ) (e : ToldEntry) (log : List ToldEntry) → e.node ≢ n
 is_passed node e log off = ap (λ b. cond b (e ∷ on_node node log) (on_node node log)) (ne_eqb e.node node off)
 
 pub on_has : (node : ℕ) (log : List ToldEntry) (e : ToldEntry) → Has (on_node node log) e → (e.node ≡ node) × Has log e
-on_has node [] e has = absurd has
-on_has node (x ∷ log) e has = dite (ℕ_discrete x.node node)
-    (λ on. ⊎_elim (λ is. (ap (λ (z : ToldEntry). z.node) (sym is) ∙ on, inl is)) (λ more. let r = on_has node log e more in (r.0, inr r.1)) (subst (λ l. Has l e) (is_first node x log on) has))
-    (λ off. let r = on_has node log e (subst (λ l. Has l e) (is_passed node x log off) has) in (r.0, inr r.1))
+on_has node log e has =
+    let kept = of_filter (is_on node) log e has in
+    let on : nat_eq e.node node ≡ true = kept.1 in
+    (grind (arith, nat_tests, on), kept.0)
 
 pub has_on : (node : ℕ) (log : List ToldEntry) (e : ToldEntry) → e.node ≡ node → Has log e → Has (on_node node log) e
-has_on node [] e on has = has
-has_on node (x ∷ log) e on has = dite (ℕ_discrete x.node node)
-    (λ here. subst (λ l. Has l e) (sym (is_first node x log here)) (⊎_elim (λ is. inl is) (λ more. inr (has_on node log e on more)) has))
-    (λ off. subst (λ l. Has l e) (sym (is_passed node x log off)) (⊎_elim (λ is. absurd (off (ap (λ (z : ToldEntry). z.node) is ∙ on))) (λ more. has_on node log e on more) has))
+has_on node log e on has = has_filter (is_on node) log e (eq-eqb e.node node on) has
 
 all_of_has : (logs : List (List ToldEntry)) (e : ToldEntry) → Has (all_of logs) e → (c : ℕ) × (log : List ToldEntry) × (slice_get logs c ≡ Some log) × Has log e
 all_of_has [] e has = absurd has

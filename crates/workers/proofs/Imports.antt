@@ -73,11 +73,13 @@ pub use Rattle.node_lock.proofs.Views.{at_below, once_append, prefix_at}
 pub use Rattle.node_lock.specs.Inside.Lists.{Once, up_from}
 pub use Rattle.node_lock.specs.Passes.{HasJust, IsSamePass}
 pub use Rattle.node_lock.specs.declared.view.View.{View}
+pub use Rattle.script_run.proofs.Calls.{asked_more, before, made_before, order_more, turn_more}
 pub use Rattle.script_run.proofs.Ending.{are_accounted, runs_end}
 pub use Rattle.script_run.proofs.Events.{is_from}
+pub use Rattle.script_run.proofs.Lists.{at_has, has_filter, of_filter}
 pub use Rattle.script_run.proofs.Paying.{calls_are_paid}
 pub use Rattle.script_run.specs.Budget.{IsTooLong, all_commands, bytes_written, most_calls}
-pub use Rattle.script_run.specs.IsRun.{Batch, IsEvent, StandsIn, Step, feeding, replies, sources, steps_of}
+pub use Rattle.script_run.specs.IsRun.{AreInOrder, Batch, InTurn, IsEvent, StandsIn, Step, feeding, replies, sources, steps_of}
 pub use Rattle.script_run.specs.SoFar.{HasDoneSoFar, IsFedSoFar, IsOver, IsPaidBehind, IsSoFar, others as Others}
 pub use Rattle.script_run.specs.WholeRun.{AreFull, IsGiven, IsWholeRun}
 pub use Rattle.std.proofs.Common.{Bool, Err, Global, IsErrOf, List, None, Ok, OnOk, Option, Result, Some, Vec, [], ap, append-nil, append_assoc, arith, cond, drop, eq-eqb, false, filter, get_or, inl, inr, length, length-append, map, nat_eq, nat_lt, ne_eqb, refl, replicate, reverse, rules, set, slice_get, subst, suc, sum, sym, take, true, zero, ℕ, ⊎_elim, ◌*◌, ◌++◌, ◌+◌, ◌-◌, ◌<◌, ◌^◌, ◌||◌, ◌∙◌, ◌∷◌, ◌≡◌, ◌≢◌, ◌≤◌, ◌⊎◌}

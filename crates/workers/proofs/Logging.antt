@@ -1,5 +1,5 @@
 -- One call more in a client's log, and one look more.
-use Rattle.workers.proofs.Imports.{append_assoc, ◌≡◌, ◌≢◌, ⊎_elim, ℕ, nat_eq, Bool, eq-eqb, ne_eqb, suc, ◌+◌, ◌<◌, ◌≤◌, true, false, List, [], ◌∷◌, ◌++◌, length, take, slice_get, set, Some, refl, ap, sym, ◌∙◌, subst, arith, length-append, if◌then◌else◌, IsSome, take-append-le, take-append_seam, All-push, slice_get_within, dite, some, IsPrefix, ℕ_discrete, get_elem?, TableId, View, at_below, prefix_at, Input, Entry, IsFrom, LogEntry, caller_of, Scripted, next_event, waits_on, plays_of, IsEvent, replies, sources, IsGiven, Caller, OneCalls, OneLooks, set_there, set_elsewhere, one_value, at_end, BringFrom, BringsIn, HasCalled, IsLogged, Tells, TellsIn, calls_on}
+use Rattle.workers.proofs.Imports.{append_assoc, ◌≡◌, ◌≢◌, ⊎_elim, ℕ, nat_eq, Bool, eq-eqb, ne_eqb, suc, ◌+◌, ◌<◌, ◌≤◌, true, false, List, [], ◌∷◌, ◌++◌, length, take, slice_get, set, Some, refl, ap, sym, ◌∙◌, subst, arith, length-append, if◌then◌else◌, IsSome, take-append_seam, All-push, slice_get_within, dite, some, IsPrefix, ℕ_discrete, get_elem?, TableId, View, at_below, prefix_at, Input, Entry, IsFrom, LogEntry, caller_of, Scripted, next_event, waits_on, plays_of, InTurn, IsEvent, replies, before, turn_more, asked_more, order_more, sources, IsGiven, Caller, OneCalls, OneLooks, set_there, set_elsewhere, one_value, at_end, BringFrom, BringsIn, HasCalled, IsLogged, Tells, TellsIn, calls_on}
 use Rattle.atomic_table.proofs.Lists.{at_last}
 use Rattle.dmx_calls.specs.Response.{NoMemory}
 
@@ -80,18 +80,15 @@ module _ (c d : Caller) (S : List Entry → Type 0) (node place : ℕ) (x : Entr
       let there = now_there c.passes d.passes node o.first o.then o.was o.is longer in
       let elsewhere = else_there c.passes d.passes node o.first o.then o.was o.is longer in record {
         mine = still_each c.passes d.passes node o.first o.then o.was o.is longer (λ i (p : TableId × View Entry). p.1.number ≡ d.who) (o.more.same.1 ∙ (l.mine node o.first o.was ∙ sym who)) (λ i p at. l.mine i p at ∙ sym who);
-        steps = λ i f at. ⊎_elim (λ old. let s = l.steps i f old in (s.0, s.1 ∙ sym who)) (λ last. subst (λ z. (z.step ≡ i) × (z.who ≡ d.who)) last.1 (step_is ∙ sym last.0, who_is ∙ sym who)) (at_end log e f i at);
+        steps = turn_more log e d.who (subst (λ who. InTurn who log) (sym who) l.steps) step_is (who_is ∙ sym who);
         tells = λ i f at. ⊎_elim (λ old. let t = l.tells i f old in still c.passes d.passes node o.first o.then o.was o.is longer (Tells f) f t.0 t.1 t.2)
             (λ last. subst (λ (z : LogEntry). (p : TableId × View Entry) × (slice_get d.passes z.node ≡ Some p) × TellsIn p.1.seen z) last.1
             (o.then, ap (slice_get d.passes) node_is ∙ there, (x, now_seen e.place place_is, tells)))
             (at_end log e f i at);
-        rises = λ i j f g low a b same. ⊎_elim
-            (λ old_i. ⊎_elim (λ old_j. l.rises i j f g low old_i old_j same)
-            (λ last. let is_node : g.node ≡ node = ap (λ (z : LogEntry). z.node) (sym last.1) ∙ node_is in let t = l.tells i f old_i in
-            let under = before_this f t.0 t.1 t.2 (same ∙ is_node) in let is_place : g.place ≡ place = ap (λ (z : LogEntry). z.place) (sym last.1) ∙ place_is in omega arith)
-            (at_end log e g j b))
-            (λ last_i. let at_i : i ≡ length log = last_i.0 in let long = slice_get_within (log ++ e ∷ []) j g b in absurd (omega (arith, length-append log (e ∷ []))))
-            (at_end log e f i a);
+        in_order = order_more log e l.in_order (λ i f at same.
+            let t = l.tells i f at in
+            let under = before_this f t.0 t.1 t.2 (same ∙ node_is) in
+            omega (arith, under, place_is));
         just = λ n q at. dite (ℕ_discrete n node)
             (λ here. let same : o.then ≡ q = one_value d.passes node o.then q there (ap (slice_get d.passes) (sym here) ∙ at) in
             let old = l.just node o.first o.was in
@@ -111,27 +108,18 @@ module _ (c d : Caller) (S : List Entry → Type 0) (node place : ℕ) (x : Entr
       who = who ∙ l.who;
       logged = logged_more log e l.logged node_is place_is step_is who_is tells;
       brought = λ stream. brings_more (sources script stream (suc client)) log e (l.brought stream) node_is place_is (from stream);
-      events = λ i f at. ⊎_elim
-          (λ old. subst (λ (m : List LogEntry). IsEvent (plays_of client script) (next_event client script (replies m)) f) (sym (front i (below i f old))) (l.events i f old))
-          (λ last. subst (λ (m : List LogEntry). IsEvent (plays_of client script) (next_event client script (replies m)) f) (sym (all i last.0)) (subst (IsEvent (plays_of client script) (next_event client script (replies log))) last.1 event))
-          (at_end log e f i at);
+      events = asked_more log e script client l.events event;
       found = All-push (λ (z : LogEntry). z.response ≢ NoMemory) log e l.found found;
       moments = All-push (λ (z : LogEntry). IsGiven may z.act) log e l.moments given;
       paid = λ i f g at next waits. ⊎_elim
           (λ old. let low = slice_get_within log (i + 1) g old in
-          l.paid i f g (inside i f (omega arith) at) old (subst (λ (m : List LogEntry). IsSome (waits_on client script (replies m))) (front (i + 1) (omega arith)) waits))
+          l.paid i f g (inside i f (omega arith) at) old (subst (λ (m : List LogEntry). IsSome (waits_on client script (replies m))) (before log e (i + 1) (omega arith)) waits))
           (λ last. let long : i + 1 ≡ length log = last.0 in
           let w = subst (λ (m : List LogEntry). IsSome (waits_on client script (replies m))) (all (i + 1) long) waits in
           let t = turn w f i (inside i f (omega arith) at) long in
           let g_is : g.place ≡ place = ap (λ (z : LogEntry). z.place) (sym last.1) ∙ place_is in omega arith)
           (at_end log e g (i + 1) next);
     } where
-      below : (i : ℕ) (f : LogEntry) → slice_get log i ≡ Some f → i ≤ length log
-      below i f at = let low = slice_get_within log i f at in omega arith
-
-      front : (i : ℕ) → i ≤ length log → take i (log ++ e ∷ []) ≡ take i log
-      front i low = take-append-le i log (e ∷ []) low
-
       all : (i : ℕ) → i ≡ length log → take i (log ++ e ∷ []) ≡ log
       all i is = ap (λ (n : ℕ). take n (log ++ e ∷ [])) is ∙ take-append_seam log (e ∷ [])
 
@@ -146,7 +134,7 @@ module _ (c d : Caller) (S : List Entry → Type 0) (node len : ℕ) (o : OneLoo
     mine = still_each c.passes d.passes node o.first o.then o.was o.is o.looked.seen (λ i (p : TableId × View Entry). p.1.number ≡ d.who) (o.looked.same.1 ∙ (l.mine node o.first o.was ∙ sym who)) (λ i p at. l.mine i p at ∙ sym who);
     steps = λ i f at. let s = l.steps i f at in (s.0, s.1 ∙ sym who);
     tells = λ i f at. let t = l.tells i f at in still c.passes d.passes node o.first o.then o.was o.is o.looked.seen (Tells f) f t.0 t.1 t.2;
-    rises = l.rises;
+    in_order = l.in_order;
     just = still_each c.passes d.passes node o.first o.then o.was o.is o.looked.seen (λ i (p : TableId × View Entry). p.1.own ≡ calls_on i log) (o.looked.own ∙ l.just node o.first o.was) l.just;
   }
 

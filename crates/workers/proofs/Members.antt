@@ -53,10 +53,6 @@ has_woven node [] j x at place step acts = absurd (cc at)
 has_woven node (c ∷ calls) zero x at place step acts = let same : c ≡ x = cc at in has_before node c x calls (inl same) place step acts
 has_woven node (c ∷ calls) (suc j) x at place step acts = has_before node c x calls (inr (λ p s bs. has_woven node calls j x at p s bs)) place step acts
 
-pub at_has : {A : Type 0} (xs : List A) (x : A) → Has xs x → (i : ℕ) × (slice_get xs i ≡ Some x)
-at_has [] x h = absurd h
-at_has (y ∷ xs) x h = ⊎_elim (λ e. (0, ap (λ z. Some z) e)) (λ m. let r = at_has xs x m in (suc r.0, r.1)) h
-
 -- ------ the feeder's steps
 
 abbrev step_of : LogEntry → Step

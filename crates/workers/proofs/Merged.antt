@@ -1,10 +1,10 @@
 -- The merged histories tell what was called.
-use Rattle.workers.proofs.Imports.{◌≡◌, ◌≢◌, ◌⊎◌, inl, inr, ⊎_elim, ℕ, zero, suc, ◌+◌, ◌≤◌, Bool, true, false, nat_lt, List, [], ◌∷◌, ◌++◌, length, length-append, map, slice_get, Some, refl, ap, sym, ◌∙◌, subst, arith, nat_tests, length-map, slice_get_within, TableId, View, Has, at_map, has_at, Fed, DEMUX_NODES, Act, ToldEntry, told_entry, Entry, Frontend, LogEntry, Sources, filled_entry, feeder_acts, feeder_entry, histories_of, woven, AreInPlace, in_place-at, woven_nodes-at, woven_nodes-length, StandsIn, steps_of, AreOnNodes, AreByPlace, Caller, AreAllCallers, IsHistory, HaveHistories, IsLegalAt, with_last, at_last, at_place, one_value, HaveCalled, IsLoggedIn, IsTheHistory, TellWhatWasCalled, steps_from}
+use Rattle.workers.proofs.Imports.{◌≡◌, ◌≢◌, ◌⊎◌, inl, inr, ⊎_elim, ℕ, zero, suc, ◌+◌, ◌≤◌, Bool, true, false, nat_lt, List, [], ◌∷◌, ◌++◌, length, length-append, map, slice_get, Some, refl, ap, sym, ◌∙◌, subst, arith, nat_tests, length-map, slice_get_within, TableId, View, Has, at_map, has_at, Fed, DEMUX_NODES, Act, ToldEntry, told_entry, Entry, Frontend, LogEntry, Sources, filled_entry, feeder_acts, feeder_entry, histories_of, woven, AreInPlace, in_place-at, woven_nodes-at, woven_nodes-length, StandsIn, steps_of, AreOnNodes, AreByPlace, Caller, AreAllCallers, IsHistory, HaveHistories, IsLegalAt, with_last, at_last, at_place, one_value, HaveCalled, IsLoggedIn, IsTheHistory, TellWhatWasCalled, steps_from, at_has}
 use Rattle.std.proofs.Common.{All}
 use Rattle.workers.proofs.Completing.{feeders_calls, nothing, same_column, whole, whole_full, whole_have}
 use Rattle.workers.proofs.Weaves.{Rises, rises_less, weaves}
 use Rattle.workers.proofs.Lists.{mapped}
-use Rattle.workers.proofs.Members.{all_at, all_from, at_has, each_woven, has_woven, steps_woven}
+use Rattle.workers.proofs.Members.{all_at, all_from, each_woven, has_woven, steps_woven}
 use Rattle.workers.proofs.Calls.{has_all, all_has, RisesOn, AreApart, of_some_log, is_merged, merged_rise}
 use Rattle.workers.proofs.Owning.{Moment, at_end, idle_there, made_by, passes_on, called, log_rises, logged_there, IsLoggedAt, IsFeeders, feeders_zero, owner, acts_by, told_here}
 

@@ -1,5 +1,5 @@
 -- Each entry of a node's history is in a client's log, or is the feeder's; so the logs and the batches tell the history.
-use Rattle.workers.proofs.Imports.{◌≡◌, ◌≢◌, ◌⊎◌, inl, inr, ⊎_elim, ℕ, suc, Bool, true, false, eq-eqb, ne_eqb, ◌+◌, ◌<◌, List, [], ◌∷◌, ◌++◌, length, filter, slice_get, Option, Some, None, refl, ap, sym, ◌∙◌, subst, arith, if◌then◌else◌, slice_get_within, dite, some, some-injective, get_elem?, IsPrefix, ℕ_discrete, TableId, View, Has, prefix_at, Fed, Act, Entry, entry_of, Frontend, IsFrom, LogEntry, Sources, filled_act, filled_entry, fills, column, Caller, IsHistory, rows_of, at_place, at_either, at_last, at_before, one_value, Tells, calls_on, HasMade, fed_entries, HasLogged, HaveCalled, IsLoggedIn, in_column, of_column}
+use Rattle.workers.proofs.Imports.{◌≡◌, ◌≢◌, ◌⊎◌, inl, inr, ⊎_elim, ℕ, suc, Bool, true, false, eq-eqb, ne_eqb, ◌+◌, List, [], ◌∷◌, ◌++◌, length, filter, slice_get, Option, Some, None, refl, ap, sym, ◌∙◌, subst, arith, if◌then◌else◌, slice_get_within, dite, some, some-injective, get_elem?, IsPrefix, ℕ_discrete, TableId, View, Has, prefix_at, Fed, Act, Entry, entry_of, Frontend, IsFrom, LogEntry, Sources, filled_act, filled_entry, fills, column, Caller, IsHistory, rows_of, at_place, at_either, at_last, at_before, one_value, Tells, calls_on, AreInOrder, HasMade, fed_entries, HasLogged, HaveCalled, IsLoggedIn, in_column, of_column}
 use Rattle.workers.proofs.Weaves.{AreTold, fed_of, by_feeder}
 use Rattle.workers.proofs.Columns.{some_calls}
 use Rattle.workers.proofs.Feeders.{got, got_back, ups_from, picked, stand_picks, has_own, fed_is, fed_zero, acts_of, behind_of}
@@ -112,8 +112,8 @@ module _ (m : Moment) where
   called c log i e at there = let k = client_of c log at in let s = k.2.logged.steps i e there in (s.0, s.1 ∙ k.2.who)
 
   -- on each node the places of a log rise
-  pub log_rises : (c : ℕ) (log : List LogEntry) → slice_get m.books c ≡ Some log → (i j : ℕ) (e f : LogEntry) → i < j → slice_get log i ≡ Some e → slice_get log j ≡ Some f → e.node ≡ f.node → e.place < f.place
-  log_rises c log at = (client_of c log at).2.logged.rises
+  pub log_rises : (c : ℕ) (log : List LogEntry) → slice_get m.books c ≡ Some log → AreInOrder log
+  log_rises c log at = (client_of c log at).2.logged.in_order
 
   module _ (node : ℕ) (h : List Entry) (is : IsHistory node (passes_on node) h) where
     begins : (k : ℕ) (c : Caller) (p : TableId × View Entry) → slice_get (m.others ++ m.feeder ∷ []) k ≡ Some c → slice_get c.passes node ≡ Some p → IsPrefix p.1.seen h

@@ -1,9 +1,9 @@
 -- Callers of a script, joined at any moment, leave the histories of a run so far.
-use Rattle.workers.proofs.Imports.{◌≡◌, ◌≢◌, ⊎_elim, ℕ, suc, ◌+◌, ◌<◌, ◌≤◌, Bool, true, false, nat_lt, List, [], ◌∷◌, ◌++◌, append-nil, length, map, take, slice_get, Option, Some, None, refl, ap, sym, ◌∙◌, subst, arith, IsSome, IsTrue, AllByRecursion, nat_tests, slice_get_within, TableId, View, Has, has_at, has_left, Fed, DEMUX_NODES, Act, EndAct, Entry, rules_at, IsLegalFor, LogEntry, Sources, filled, feeder_acts, feeder_entry, pass_act, in_place-at, clients_in, Scripted, waits_on, Step, feeding, replies, sources, steps_of, IsGiven, Others, IsPaidBehind, IsFedSoFar, HasDoneSoFar, IsSoFar, Caller, HaveHistories, at_place, one_value, BringFrom, HasCalled, Tiles, batch_of, HasLogged, IsLoggedIn, steps_from}
+use Rattle.workers.proofs.Imports.{◌≡◌, ◌≢◌, ⊎_elim, ℕ, suc, ◌+◌, ◌<◌, ◌≤◌, Bool, true, false, List, [], ◌∷◌, ◌++◌, append-nil, length, map, take, slice_get, Option, Some, None, refl, ap, sym, ◌∙◌, subst, arith, IsSome, IsTrue, AllByRecursion, slice_get_within, TableId, View, Has, has_at, has_left, Fed, DEMUX_NODES, Act, EndAct, Entry, rules_at, IsLegalFor, LogEntry, Sources, filled, feeder_acts, feeder_entry, pass_act, in_place-at, clients_in, Scripted, waits_on, Step, feeding, replies, sources, steps_of, IsGiven, Others, IsPaidBehind, IsFedSoFar, HasDoneSoFar, IsSoFar, Caller, HaveHistories, at_place, one_value, BringFrom, HasCalled, Tiles, batch_of, HasLogged, IsLoggedIn, steps_from, at_has, made_before}
 use Rattle.std.proofs.Common.{All}
 use Rattle.std.specs.Prelude.{reverse}
 use Rattle.dmx_calls.specs.Response.{NoMemory}
-use Rattle.workers.proofs.Members.{all_at, at_has, steps_tile}
+use Rattle.workers.proofs.Members.{all_at, steps_tile}
 use Rattle.workers.proofs.Calls.{has_all}
 use Rattle.workers.proofs.Batches.{sizes, total_is, given}
 use Rattle.workers.proofs.Feeders.{acts_of}
@@ -116,18 +116,9 @@ module _ (script : Scripted) (stream : List (List ℕ)) (most : ℕ) (may : ℕ 
   -- between two calls of a client that follow one another none of its calls stands
   none_between : (c : ℕ) (log : List LogEntry) (i k : ℕ) (e f x : LogEntry) → slice_get m.books c ≡ Some log → slice_get log i ≡ Some e → slice_get log (suc i) ≡ Some f → slice_get log k ≡ Some x
       → f.node ≡ e.node → x.node ≡ e.node → e.place < x.place → x.place < f.place → ⊥
-  none_between c log i k e f x book at next here same on above below = go (nat_lt k i) refl (nat_lt (suc i) k) refl (nat_lt i k) refl where
-    rises : (j l : ℕ) (y z : LogEntry) → j < l → slice_get log j ≡ Some y → slice_get log l ≡ Some z → y.node ≡ z.node → y.place < z.place
-    rises = (client_of c log book).1.logged.rises
-
-    one : (n : ℕ) (y : LogEntry) → k ≡ n → slice_get log n ≡ Some y → x.place ≡ y.place
-    one n y is at_n = ap (λ (z : LogEntry). z.place) (one_value log n x y (subst (λ n. slice_get log n ≡ Some x) is here) at_n)
-
-    go : (u : Bool) → nat_lt k i ≡ u → (v : Bool) → nat_lt (suc i) k ≡ v → (t : Bool) → nat_lt i k ≡ t → ⊥
-    go true yea v any t other = omega (arith, rises k i x e (grind (arith, nat_tests, yea)) here at on, above)
-    go false nay true yea t other = omega (arith, rises (suc i) k f x (grind (arith, nat_tests, yea)) next here (same ∙ sym on), below)
-    go false nay false past true yea = omega (arith, one (suc i) f (grind (arith, nat_tests, yea, past)) next, below)
-    go false nay false past false never = omega (arith, one i e (grind (arith, nat_tests, nay, never)) at, above)
+  none_between c log i k e f x book at next here same on above below =
+      let order = (client_of c log book).1.logged.in_order in
+      omega (arith, made_before log order i k e x at here (sym on) above, made_before log order k (suc i) x f here next (on ∙ sym same) below)
 
   pub paid : (c : ℕ) (log : List LogEntry) (i : ℕ) (e f : LogEntry) → slice_get m.books c ≡ Some log → slice_get log i ≡ Some e → slice_get log (suc i) ≡ Some f → f.node ≡ e.node
       → IsSome (waits_on c script (replies (take (suc i) log))) → IsPaidBehind Others c hs e
@@ -152,9 +143,13 @@ module _ (script : Scripted) (stream : List (List ℕ)) (most : ℕ) (may : ℕ 
       let k = (client_of c log.0 log.1).1 in
       record {
         made = log.0;
-        steps = λ i e at. let p = called m c log.0 i e log.1 at in (p.0, p.1, stands m have low hs w e (c, log.0, i, log.1, at), k.events i e at);
-        only = λ node place h e at here mine. (entry_at node place h e at here).1.logged c log.0 log.1 mine;
-        in_order = k.logged.rises;
+        calls = record {
+          steps = λ i e at. called m c log.0 i e log.1 at;
+          events = k.events;
+          stands = λ i e at. stands m have low hs w e (c, log.0, i, log.1, at);
+          only = λ node place h e at here mine. (entry_at node place h e at here).1.logged c log.0 log.1 mine;
+          in_order = k.logged.in_order;
+        };
         paid = λ i e f at next same waits. paid c log.0 i e f log.1 at next same waits;
       }
 

@@ -10,9 +10,8 @@ use Rattle.dmx_calls.specs.History.{Entry}
 use Rattle.dmx_calls.specs.Log.{IsFrom, LogEntry, act_of}
 use Rattle.dmx_calls.specs.Response.{NoMemory}
 use Rattle.client_script.specs.Script.{Scripted}
-use Rattle.client_core.specs.Commands.{plays_of}
-use Rattle.client_core.specs.Events.{next_event, waits_on}
-use Rattle.script_run.specs.IsRun.{IsEvent, replies, sources}
+use Rattle.client_core.specs.Events.{waits_on}
+use Rattle.script_run.specs.IsRun.{AreAsked, AreInOrder, InTurn, replies, sources}
 use Rattle.script_run.specs.WholeRun.{IsGiven}
 use Rattle.adapter.specs.Callers.{Caller}
 
@@ -35,11 +34,10 @@ calls_on node (e ∷ es) = if nat_eq e.node node then (e.who, e.place) ∷ calls
 -- 0, 1, ..; on each node the places rise.
 pub record IsLogged (c : Caller) (log : List LogEntry) : Type 0 where
   pub mine : (node : ℕ) (p : TableId × View Entry) → slice_get c.passes node ≡ Some p → p.1.number ≡ c.who
-  pub steps : (i : ℕ) (e : LogEntry) → slice_get log i ≡ Some e → (e.step ≡ i) × (e.who ≡ c.who)
+  pub steps : InTurn c.who log
   pub tells : (i : ℕ) (e : LogEntry) → slice_get log i ≡ Some e
       → (p : TableId × View Entry) × (slice_get c.passes e.node ≡ Some p) × TellsIn p.1.seen e
-  pub rises : (i j : ℕ) (e f : LogEntry) → i < j → slice_get log i ≡ Some e → slice_get log j ≡ Some f → e.node ≡ f.node
-      → e.place < f.place
+  pub in_order : AreInOrder log
   pub just : (node : ℕ) (p : TableId × View Entry) → slice_get c.passes node ≡ Some p → p.1.own ≡ calls_on node log
 
 -- the entry at its place brings packets of these, if it brings any
@@ -57,8 +55,7 @@ BringFrom packets c log =
 pub record HasCalled (script : Scripted) (client : ℕ) (may : ℕ → Bool) (c : Caller) (log : List LogEntry) : Type 0 where
   pub who : c.who ≡ client + 1
   pub logged : IsLogged c log
-  pub events : (i : ℕ) (e : LogEntry) → slice_get log i ≡ Some e
-      → IsEvent (plays_of client script) (next_event client script (replies (take i log))) e
+  pub events : AreAsked script client log
   -- packets that it brings are those that the client plays, whatever the stream is
   pub brought : (stream : List (List ℕ)) → BringFrom (sources script stream (suc client)) c log
   pub found : All (λ e. e.response ≢ NoMemory) log
