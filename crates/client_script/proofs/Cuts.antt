@@ -1,5 +1,5 @@
 -- The first piece of a list, and the pieces behind it.
-use Rattle.client_script.proofs.Imports.{◌≡◌, ◌<◌, ◌≤◌, ◌+◌, refl, ap, ◌∙◌, ℕ, Bool, true, false, cond, List, [], ◌∷◌, length, take, drop, arith, nat_tests, All-nil, All-cons, slice_split_first, slice_split-cons_no, length-slice_split, nat_lt, ◌==◌, All, slice_split, onto_first, position, position_or_len, count_by, without_last, whole_lines}
+use Rattle.client_script.proofs.Imports.{◌≡◌, ◌<◌, ◌≤◌, ◌+◌, refl, ap, ◌∙◌, ℕ, Bool, true, false, cond, List, [], ◌∷◌, length, take, drop, arith, nat_tests, All-nil, All-cons, slice_split_first, slice_split-cons_no, length-slice_split, nat_lt, ◌==◌, All, slice_split, onto_first, position, position_or_len, count_by, without_last, whole_lines, words_of}
 use Rattle.std.proofs.Common.{Some, None}
 
 cut_below : (p : ℕ → Bool) (xs : List ℕ) (i : ℕ) (b : Bool) → nat_lt (position_or_len p xs) (length xs) ≡ b → cond b (Some (position_or_len p xs)) None ≡ Some i
@@ -59,6 +59,10 @@ free_nowhere p xs false e h =
 -- where no place passes, no element does
 pub position-None : (p : ℕ → Bool) (xs : List ℕ) → position p xs ≡ None → All (λ y. p y ≡ false) xs
 position-None p xs h = free_nowhere p xs (nat_lt (position_or_len p xs) (length xs)) refl h
+
+-- there is one word more than spaces
+pub length-words_of : (line : List ℕ) → length (words_of line) ≡ count_by (λ byte. byte == 32) line + 1
+length-words_of line = omega (arith, length-slice_split (λ (byte : ℕ). byte == 32) line)
 
 behind_first : (line : List ℕ) (pieces : List (List ℕ)) → 0 < length pieces → without_last (line ∷ pieces) ≡ line ∷ without_last pieces
 behind_first line [] some = absurd (omega arith)

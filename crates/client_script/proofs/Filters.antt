@@ -1,5 +1,5 @@
 -- What the words that are still to come make of a filter.
-use Rattle.client_script.proofs.Imports.{◌≡◌, refl, ℕ, suc, ◌+◌, List, [], ◌∷◌, fold, Some, None, Ok, Err, SectionFilter, Place, with_place, Reading, and_then, mapped, place_named, Bytes}
+use Rattle.client_script.proofs.Imports.{◌≡◌, refl, ℕ, suc, ◌+◌, List, [], ◌∷◌, fold, Some, None, Ok, Err, SectionFilter, Place, with_place, Reading, and_then, mapped, place_named, Bytes, Byte}
 use Rattle.client_script.specs.Places.{places_in}
 
 -- the filter with the places that at most `left` words at the front spell, with numbers from `least` on
@@ -15,7 +15,7 @@ unfolding filter_by places_in
 filter_by-end f left more least words some none = rw (some, none) refl
 
 pub filter_by-fault : (f : SectionFilter) (left more least : ℕ) (all : List (List ℕ)) (word : List ℕ) (words : List (List ℕ)) → left ≡ suc more → all ≡ word ∷ words → place_named least word ≡ None
-    → filter_by f left least all ≡ Err Bytes
+    → filter_by f left least all ≡ Err (record { kind = Bytes; wanted = Byte least }, words)
 unfolding filter_by places_in
 filter_by-fault f left more least all word words some split none = rw (some, split, none) refl
 
@@ -26,4 +26,4 @@ filter_by-place f left more least all word words place some split found = rw (so
   where
     go : (later : Reading (List Place)) → mapped (fold with_place f) (and_then later (λ places words. Ok (place ∷ places, words))) ≡ mapped (fold with_place (with_place f place)) later
     go (Ok read) = refl
-    go (Err kind) = refl
+    go (Err fault) = refl

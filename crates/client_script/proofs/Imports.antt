@@ -1,15 +1,14 @@
 -- The words of others that the proofs of this crate use.
 pub use Rattle.byteorder.specs.Endian.{big_bytes, little_bytes}
 pub use Rattle.byteorder.specs.Numbers.{little_number-reads_back}
-pub use Rattle.client_script.specs.Grammar.{IsInRange, IsPlain, IsPlainVerb, IsTargetInRange, IsVerbInRange, alone, command_in, count_in, dvr_named, is_passed_over, meaning, name_of, number_in, pes_in, pid_in, section_in, some_said, target_of, whole}
+pub use Rattle.client_script.specs.Grammar.{IsInRange, IsPlain, IsPlainVerb, IsTargetInRange, IsVerbInRange, alone, command_in, count_in, dvr_named, in_line, is_passed_over, meaning, name_of, number_in, pes_in, pid_in, section_in, some_said, target_of, whole_in}
 pub use Rattle.client_script.specs.Inside.Part.{FallsInto, HasNoFeed, IsSearched, Passes}
 pub use Rattle.client_script.specs.Places.{filter_in}
 pub use Rattle.client_script.specs.Requests.{request_in, request_number_in, verb_of, want_of}
-pub use Rattle.client_script.specs.Script.{AreNumbered, AreWritten, HasWrite, IsOnDvr, IsScript, Parsed, Scripted, clients_among, grammar, is_stream, most_bytes, named_among, named_by, named_in, no_writes, parted, plain, script_len, whole_lines, with_said, with_write, without_last, writes_of, written_by}
+pub use Rattle.client_script.specs.Script.{AreNumbered, AreWritten, HasWrite, IsOnDvr, IsScript, Parsed, Scripted, clients_among, grammar, is_stream, most_bytes, named_among, named_in, no_writes, parted, plain, script_len, whole_lines, with_said, with_write, without_last, writes_of, written_by}
 pub use Rattle.client_script.specs.Spelling.{number_text, said_again, spelling, with_all}
 pub use Rattle.client_script.specs.Words.{Reading, and_then, mapped, next_as, or_fault, word_in, words_of}
 pub use Rattle.client_script.specs.Writes.{IsWritten, written_named}
-pub use Rattle.client_script.specs.declared.fault.FaultKind.{FaultKind}
 pub use Rattle.client_script.specs.declared.fault.FaultKind.TheVariants.{Bytes, Client, Command as NoCommand, Name, NoStream, Target as NoTarget}
 pub use Rattle.client_script.specs.declared.fault.ScriptFault.{ScriptFault}
 pub use Rattle.client_script.specs.declared.line.Line.{Line}
@@ -24,6 +23,9 @@ pub use Rattle.client_script.specs.declared.names.CommandName.{CommandName}
 pub use Rattle.client_script.specs.declared.names.CommandName.TheVariants.{Add as AddName, Close as CloseName, Drain as DrainName, Ioctl as IoctlName, Open as OpenName, Pes as PesName, Poll as PollName, Read as ReadName, ReadWait as ReadWaitName, Remove as RemoveName, Section as SectionName, Size as SizeName, Start as StartName, Stop as StopName}
 pub use Rattle.client_script.specs.declared.said.Said.{Said}
 pub use Rattle.client_script.specs.declared.said.Said.TheVariants.{Asks, Writes}
+pub use Rattle.client_script.specs.declared.wanted.NumberName.{NumberName}
+pub use Rattle.client_script.specs.declared.wanted.NumberName.TheVariants.{Flags, N, PesType, Pid, Timeout}
+pub use Rattle.client_script.specs.declared.wanted.Wanted.TheVariants.{Byte}
 pub use Rattle.dmx_abi.specs.Written.{argument_of, number_of}
 pub use Rattle.dmx_abi.specs.declared.numbers.TheConstants.{GET_STC}
 pub use Rattle.dmx_abi.specs.declared.request.Request.{Request}

@@ -1,6 +1,7 @@
 -- The lines of a client name its writes in their order, each once.
-use Rattle.client_script.proofs.Imports.{◌≡◌, ◌≢◌, ◌<◌, ◌≤◌, ◌+◌, ◌⊎◌, inl, inr, refl, sym, ap, subst, ◌∙◌, ℕ, Bool, true, false, nat_eq, List, [], ◌∷◌, ◌++◌, length, map, codes, arith, length-append, append-nil, cases_eq, cases_lt, eq-eqb, nat_tests, flat_map-append, map-id, length-set, get_or-set_same, get_or-set_other, get_or_past, get_or-replicate, map-range_with_len_more, Option, Some, None, Result, Ok, Err, if◌then◌else◌, slice_index_or, slice_set, replicate, flat_map, range_with_len, option_map, LARGEST_READ, Request, is_word, client_named, Reading, and_then, mapped, or_fault, next_as, word_in, words_of, want_of, verb_of, request_number_in, request_in, written_named, number_in, pid_in, count_in, target_of, name_of, section_in, pes_in, dvr_named, whole, alone, is_passed_over, some_said, IsPlainVerb, IsPlain, AreNumbered, Parsed, Scripted, plain, no_writes, with_said, with_write, writes_of, named_by, named_in, named_among, whole_lines, is_stream, FaultKind, Client, NoCommand, NoTarget, Name, Bytes, ScriptFault, CommandName, OpenName, CloseName, SectionName, PesName, AddName, RemoveName, StartName, StopName, SizeName, ReadName, ReadWaitName, DrainName, PollName, IoctlName, Said, Asks, Writes, Verb, Once, ReadWait, Drain, GetStc, Write, Want, Add, Remove, Size, Read, Target, Dvr, Line, Feed, Tick, Command}
+use Rattle.client_script.proofs.Imports.{◌≡◌, ◌≢◌, ◌<◌, ◌≤◌, ◌+◌, ◌⊎◌, inl, inr, refl, sym, ap, subst, ◌∙◌, ℕ, Bool, true, false, nat_eq, List, [], ◌∷◌, ◌++◌, length, codes, arith, length-append, append-nil, cases_eq, cases_lt, eq-eqb, nat_tests, flat_map-append, map-id, length-set, get_or-set_same, get_or-set_other, get_or_past, get_or-replicate, map-range_with_len_more, Option, Some, None, Result, Ok, Err, if◌then◌else◌, slice_set, range_with_len, option_map, LARGEST_READ, Request, is_word, client_named, Reading, and_then, mapped, or_fault, next_as, word_in, words_of, want_of, verb_of, request_number_in, request_in, written_named, number_in, pid_in, count_in, target_of, name_of, section_in, pes_in, dvr_named, alone, is_passed_over, some_said, IsPlainVerb, IsPlain, AreNumbered, Parsed, Scripted, plain, no_writes, with_said, with_write, writes_of, named_in, named_among, whole_lines, is_stream, Client, NoCommand, NoTarget, Name, Bytes, ScriptFault, CommandName, OpenName, CloseName, SectionName, PesName, AddName, RemoveName, StartName, StopName, SizeName, ReadName, ReadWaitName, DrainName, PollName, IoctlName, Said, Asks, Writes, Verb, Once, ReadWait, Drain, GetStc, Write, Want, Add, Remove, Size, Read, Target, Dvr, Line, Feed, Tick, Command, in_line, whole_in, N, ◌==◌}
 use Rattle.dmx_abi.specs.declared.request.Request.TheVariants as request
+use Rattle.client_script.specs.declared.wanted.Wanted.TheVariants as wanted
 use Rattle.client_script.specs.Requests.{ioctl_in}
 use Rattle.client_script.specs.Grammar.{verb_in, command_in, write_in, asked_in, line_in, line_of, meaning}
 use Rattle.client_script.specs.Script.{lines_from, grammar}
@@ -10,45 +11,45 @@ use Rattle.client_script.specs.Script.{lines_from, grammar}
 -- what was read is of this kind
 abbrev pub Gives : {A : Type 0} → (A → Type 0) → Reading A → Type 0
 Gives P (Ok r) = P r.0
-Gives P (Err kind) = Unit {0}
+Gives P (Err fault) = Unit {0}
 
 -- what follows from what was read
 then_gives : {A B : Type 0} (P : A → Type 0) (Q : B → Type 0) (r : Reading A) (next : A → List (List ℕ) → Reading B) → Gives P r → ((x : A) (words : List (List ℕ)) → P x → Gives Q (next x words)) → Gives Q (and_then r next)
 then_gives P Q (Ok r) next first each = each r.0 r.1 first
-then_gives P Q (Err kind) next first each = tt
+then_gives P Q (Err fault) next first each = tt
 
 -- whatever that is
 any_gives : {A B : Type 0} (Q : B → Type 0) (r : Reading A) (next : A → List (List ℕ) → Reading B) → ((x : A) (words : List (List ℕ)) → Gives Q (next x words)) → Gives Q (and_then r next)
 any_gives Q (Ok r) next each = each r.0 r.1
-any_gives Q (Err kind) next each = tt
+any_gives Q (Err fault) next each = tt
 
 pub under_a_name : {A B : Type 0} (Q : B → Type 0) (name : A → B) (r : Reading A) → ((x : A) → Q (name x)) → Gives Q (mapped name r)
 under_a_name Q name (Ok r) each = each r.0
-under_a_name Q name (Err kind) each = tt
+under_a_name Q name (Err fault) each = tt
 
 pub if_gives : {A : Type 0} (Q : A → Type 0) (b : Bool) (r s : Reading A) → Gives Q r → Gives Q s → Gives Q (if b then r else s)
 if_gives Q true r s first second = first
 if_gives Q false r s first second = second
 
-once_plain : (want : Option Want) (words : List (List ℕ)) → Gives IsPlainVerb (or_fault Name (option_map Once want) words)
-once_plain (Some want) words = tt
-once_plain None words = tt
+once_plain : (number : ℕ) (want : Option Want) (words : List (List ℕ)) → Gives IsPlainVerb (or_fault Name (wanted.Argument number) (option_map Once want) words)
+once_plain number (Some want) words = tt
+once_plain number None words = tt
 
-asked_plain : (r : Request) (words : List (List ℕ)) → Gives IsPlainVerb (or_fault Name (verb_of r) words)
-asked_plain (request.GetStc num) words = tt
-asked_plain (request.SetFilter pid filter mask mode timeout flags) words = tt
-asked_plain (request.SetPes pid input output pes_type flags) words = once_plain (want_of (request.SetPes pid input output pes_type flags)) words
-asked_plain (request.SetSize size) words = tt
-asked_plain request.Start words = tt
-asked_plain request.Stop words = tt
-asked_plain (request.AddPid pid) words = tt
-asked_plain (request.RemovePid pid) words = tt
+asked_plain : (number : ℕ) (r : Request) (words : List (List ℕ)) → Gives IsPlainVerb (or_fault Name (wanted.Argument number) (verb_of r) words)
+asked_plain number (request.GetStc num) words = tt
+asked_plain number (request.SetFilter pid filter mask mode timeout flags) words = tt
+asked_plain number (request.SetPes pid input output pes_type flags) words = once_plain number (want_of (request.SetPes pid input output pes_type flags)) words
+asked_plain number (request.SetSize size) words = tt
+asked_plain number request.Start words = tt
+asked_plain number request.Stop words = tt
+asked_plain number (request.AddPid pid) words = tt
+asked_plain number (request.RemovePid pid) words = tt
 
 ioctl_plain : (words : List (List ℕ)) → Gives IsPlainVerb (ioctl_in words)
 unfolding ioctl_in
 ioctl_plain words =
-    any_gives {A = ℕ} IsPlainVerb (request_number_in words) (λ number words. and_then (request_in number words) (λ request words. or_fault Name (verb_of request) words)) (λ number words.
-    any_gives {A = Request} IsPlainVerb (request_in number words) (λ request words. or_fault Name (verb_of request) words) (λ request words. asked_plain request words))
+    any_gives {A = ℕ} IsPlainVerb (request_number_in words) (λ number words. and_then (request_in number words) (λ request words. or_fault Name (wanted.Argument number) (verb_of request) words)) (λ number words.
+    any_gives {A = Request} IsPlainVerb (request_in number words) (λ request words. or_fault Name (wanted.Argument number) (verb_of request) words) (λ request words. asked_plain number request words))
 
 verb_plain : (name : CommandName) (words : List (List ℕ)) → Gives IsPlainVerb (verb_in name words)
 unfolding verb_in
@@ -60,10 +61,10 @@ verb_plain AddName words = under_a_name {A = ℕ} IsPlainVerb (λ pid. Once (Add
 verb_plain RemoveName words = under_a_name {A = ℕ} IsPlainVerb (λ pid. Once (Remove pid)) (pid_in words) (λ x. tt)
 verb_plain StartName words = tt
 verb_plain StopName words = tt
-verb_plain SizeName words = under_a_name {A = ℕ} IsPlainVerb (λ n. Once (Size n)) (count_in words) (λ x. tt)
-verb_plain ReadName words = under_a_name {A = ℕ} IsPlainVerb (λ n. Once (Read n)) (number_in 0 LARGEST_READ words) (λ x. tt)
-verb_plain ReadWaitName words = under_a_name {A = ℕ} IsPlainVerb ReadWait (number_in 0 LARGEST_READ words) (λ x. tt)
-verb_plain DrainName words = under_a_name {A = ℕ} IsPlainVerb Drain (number_in 0 LARGEST_READ words) (λ x. tt)
+verb_plain SizeName words = under_a_name {A = ℕ} IsPlainVerb (λ n. Once (Size n)) (count_in N words) (λ x. tt)
+verb_plain ReadName words = under_a_name {A = ℕ} IsPlainVerb (λ n. Once (Read n)) (number_in N 0 LARGEST_READ words) (λ x. tt)
+verb_plain ReadWaitName words = under_a_name {A = ℕ} IsPlainVerb ReadWait (number_in N 0 LARGEST_READ words) (λ x. tt)
+verb_plain DrainName words = under_a_name {A = ℕ} IsPlainVerb Drain (number_in N 0 LARGEST_READ words) (λ x. tt)
 verb_plain PollName words = tt
 verb_plain IoctlName words = ioctl_plain words
 
@@ -72,13 +73,13 @@ module _ (line client : ℕ) where
   with_verb name target words = and_then (verb_in name words) (λ verb words. Ok (Command line client target verb, words))
 
   abbrev with_target : CommandName → List (List ℕ) → Reading Line
-  with_target name words = and_then (next_as NoTarget target_of words) (λ target words. with_verb name target words)
+  with_target name words = and_then (next_as NoTarget wanted.Target target_of words) (λ target words. with_verb name target words)
 
   pub command_plain : (name : Option CommandName) (words : List (List ℕ)) → Gives IsPlain (command_in line client name words)
   unfolding command_in
   command_plain name words =
-      any_gives {A = CommandName} IsPlain (or_fault NoCommand name words) with_target (λ name words.
-      any_gives {A = Target} IsPlain (next_as NoTarget target_of words) (with_verb name) (λ target words.
+      any_gives {A = CommandName} IsPlain (or_fault NoCommand wanted.Command name words) with_target (λ name words.
+      any_gives {A = Target} IsPlain (next_as NoTarget wanted.Target target_of words) (with_verb name) (λ target words.
       then_gives {A = Verb} IsPlainVerb IsPlain (verb_in name words) (λ verb words. Ok (Command line client target verb, words)) (verb_plain name words) (λ verb words is. is)))
 
 -- what a line says asks for a write by no other way
@@ -89,49 +90,55 @@ IsPlainSaid (Writes line client bytes) = Unit {0}
 write_plain : (line client : ℕ) (words : List (List ℕ)) → Gives IsPlainSaid (write_in line client words)
 unfolding write_in
 write_plain line client words =
-    any_gives {A = Target} IsPlainSaid (next_as NoTarget dvr_named words) (λ target words. mapped (Writes line client) (next_as Bytes written_named words)) (λ target words.
-    under_a_name {A = List ℕ} IsPlainSaid (Writes line client) (next_as Bytes written_named words) (λ bytes. tt))
+    any_gives {A = Target} IsPlainSaid (next_as NoTarget wanted.Dvr dvr_named words) (λ target words. mapped (Writes line client) (next_as Bytes wanted.Written written_named words)) (λ target words.
+    under_a_name {A = List ℕ} IsPlainSaid (Writes line client) (next_as Bytes wanted.Written written_named words) (λ bytes. tt))
 
 asked_in-plain : (line client : ℕ) (words : List (List ℕ)) → Gives IsPlainSaid (asked_in line client words)
 unfolding asked_in
 asked_in-plain line client words =
-    any_gives {A = List ℕ} IsPlainSaid (word_in words) (λ word words. if is_word word (codes "write") then write_in line client words else mapped Asks (command_in line client (name_of word) words)) (λ word words.
+    any_gives {A = List ℕ} IsPlainSaid (word_in wanted.Command words) (λ word words. if is_word word (codes "write") then write_in line client words else mapped Asks (command_in line client (name_of word) words)) (λ word words.
     if_gives IsPlainSaid (is_word word (codes "write")) (write_in line client words) (mapped Asks (command_in line client (name_of word) words)) (write_plain line client words)
     (then_gives {A = Line} IsPlain IsPlainSaid (command_in line client (name_of word) words) (λ asked words. Ok (Asks asked, words)) (command_plain line client (name_of word) words) (λ asked words is. is)))
 
 module _ (line : ℕ) where
   abbrev by_a_client : List ℕ → List (List ℕ) → Reading Said
-  by_a_client first words = and_then (or_fault Client (client_named first) words) (λ client words. asked_in line client words)
+  by_a_client first words = and_then (or_fault Client wanted.First (client_named first) words) (λ client words. asked_in line client words)
 
   abbrev by_the_clock : List ℕ → List (List ℕ) → Reading Said
-  by_the_clock first words = if is_word first (codes "tick") then mapped (λ n. Asks (Tick n)) (count_in words) else by_a_client first words
+  by_the_clock first words = if is_word first (codes "tick") then mapped (λ n. Asks (Tick n)) (count_in N words) else by_a_client first words
 
   line_in-plain : (words : List (List ℕ)) → Gives IsPlainSaid (line_in line words)
   unfolding line_in
   line_in-plain words =
-      any_gives {A = List ℕ} IsPlainSaid (word_in words) (λ first words. if is_word first (codes "feed") then mapped (λ n. Asks (Feed n)) (number_in 1 4294967295 words) else by_the_clock first words) (λ first words.
-      if_gives IsPlainSaid (is_word first (codes "feed")) (mapped (λ n. Asks (Feed n)) (number_in 1 4294967295 words)) (by_the_clock first words)
-      (under_a_name {A = ℕ} IsPlainSaid (λ n. Asks (Feed n)) (number_in 1 4294967295 words) (λ n. tt))
-      (if_gives IsPlainSaid (is_word first (codes "tick")) (mapped (λ n. Asks (Tick n)) (count_in words)) (by_a_client first words)
-      (under_a_name {A = ℕ} IsPlainSaid (λ n. Asks (Tick n)) (count_in words) (λ n. tt))
-      (any_gives {A = ℕ} IsPlainSaid (or_fault Client (client_named first) words) (λ client words. asked_in line client words) (λ client words. asked_in-plain line client words))))
+      any_gives {A = List ℕ} IsPlainSaid (word_in wanted.First words) (λ first words. if is_word first (codes "feed") then mapped (λ n. Asks (Feed n)) (number_in N 1 4294967295 words) else by_the_clock first words) (λ first words.
+      if_gives IsPlainSaid (is_word first (codes "feed")) (mapped (λ n. Asks (Feed n)) (number_in N 1 4294967295 words)) (by_the_clock first words)
+      (under_a_name {A = ℕ} IsPlainSaid (λ n. Asks (Feed n)) (number_in N 1 4294967295 words) (λ n. tt))
+      (if_gives IsPlainSaid (is_word first (codes "tick")) (mapped (λ n. Asks (Tick n)) (count_in N words)) (by_a_client first words)
+      (under_a_name {A = ℕ} IsPlainSaid (λ n. Asks (Tick n)) (count_in N words) (λ n. tt))
+      (any_gives {A = ℕ} IsPlainSaid (or_fault Client wanted.First (client_named first) words) (λ client words. asked_in line client words) (λ client words. asked_in-plain line client words))))
 
 -- what a line means asks for a write by no other way
-abbrev IsPlainMeaning : Result (Option Said) FaultKind → Type 0
+abbrev IsPlainMeaning : Result (Option Said) ScriptFault → Type 0
 IsPlainMeaning (Ok (Some said)) = IsPlainSaid said
 IsPlainMeaning _ = Unit {0}
 
-whole_plain : (r : Reading Said) → Gives IsPlainSaid r → IsPlainMeaning (some_said (whole r))
-whole_plain (Ok (said, [])) is = is
-whole_plain (Ok (said, word ∷ words)) is = tt
-whole_plain (Err kind) is = tt
+-- what was read, where no word is left behind it
+pub whole_gives : (P : Said → Type 0) (line : ℕ) (words : List (List ℕ)) → Gives P (line_in line words) → Gives P (whole_in line words)
+whole_gives P line words is = then_gives {A = Said} P P (line_in line words) alone is (λ said words is. if_gives P (length words == 0) (Ok (said, words)) _ is tt)
+
+said_plain : (line count : ℕ) (r : Reading Said) → Gives IsPlainSaid r → IsPlainMeaning (some_said (in_line line count r))
+said_plain line count (Ok r) is = is
+said_plain line count (Err fault) is = tt
 
 meaning_plain : (line : ℕ) (bytes : List ℕ) → IsPlainMeaning (meaning line bytes)
 unfolding meaning line_of
 meaning_plain line bytes = go (is_passed_over bytes) where
-  go : (b : Bool) → IsPlainMeaning (if b then Ok None else some_said (whole (line_in line (words_of bytes))))
+  all : List (List ℕ)
+  all = words_of bytes
+
+  go : (b : Bool) → IsPlainMeaning (if b then Ok None else some_said (in_line line (length all) (whole_in line all)))
   go true = tt
-  go false = whole_plain (line_in line (words_of bytes)) (line_in-plain line (words_of bytes))
+  go false = said_plain line (length all) (whole_in line all) (whole_gives IsPlainSaid line all (line_in-plain line all))
 
 -- ------ one line more
 
@@ -218,15 +225,15 @@ in_order_more (Some (Writes line who bytes)) s only is = record {
 
 -- ------ whole scripts
 
-on_line : (missing : ScriptFault) (line : ℕ) (s t : Scripted) (more : List (List ℕ)) (m : Result (Option Said) FaultKind) → IsPlainMeaning m → InOrder s
+on_line : (missing : ScriptFault) (line : ℕ) (s t : Scripted) (more : List (List ℕ)) (m : Result (Option Said) ScriptFault) → IsPlainMeaning m → InOrder s
     → ((u : Scripted) → InOrder u → lines_from missing (line + 1) u more ≡ Ok t → InOrder t)
-    → ◌≡◌ {A = Parsed} (elim m [ Err kind ↦ Err (record { line = line; kind = kind }) | Ok said ↦ lines_from missing (line + 1) (with_said said s) more ]) (Ok t) → InOrder t
-on_line missing line s t more (Err kind) only is later e = absurd (cc)
+    → ◌≡◌ {A = Parsed} (elim m [ Err fault ↦ Err fault | Ok said ↦ lines_from missing (line + 1) (with_said said s) more ]) (Ok t) → InOrder t
+on_line missing line s t more (Err fault) only is later e = absurd (cc)
 on_line missing line s t more (Ok said) only is later e = later (with_said said s) (in_order_more said s only is) e
 
-by_line : (missing : ScriptFault) (line : ℕ) (s t : Scripted) (more : List (List ℕ)) (m : Result (Option Said) FaultKind) (b : Bool) → IsPlainMeaning m → InOrder s
+by_line : (missing : ScriptFault) (line : ℕ) (s t : Scripted) (more : List (List ℕ)) (m : Result (Option Said) ScriptFault) (b : Bool) → IsPlainMeaning m → InOrder s
     → ((u : Scripted) → InOrder u → lines_from missing (line + 1) u more ≡ Ok t → InOrder t)
-    → ◌≡◌ {A = Parsed} (if b then Ok s else (elim m [ Err kind ↦ Err (record { line = line; kind = kind }) | Ok said ↦ lines_from missing (line + 1) (with_said said s) more ])) (Ok t) → InOrder t
+    → ◌≡◌ {A = Parsed} (if b then Ok s else (elim m [ Err fault ↦ Err fault | Ok said ↦ lines_from missing (line + 1) (with_said said s) more ])) (Ok t) → InOrder t
 by_line missing line s t more m true only is later e =
     let same : s ≡ t = cc in
     subst InOrder same is

@@ -1,5 +1,5 @@
 -- What stands behind a script's line `stream` is never examined.
-use Rattle.client_script.proofs.Imports.{◌≡◌, ◌<◌, ◌≤◌, ◌+◌, refl, sym, ap, ◌∙◌, ℕ, suc, Bool, true, false, List, [], ◌∷◌, ◌++◌, length, take, drop, get_or, arith, add-one, length-append, nat_tests, take-append-drop, get_or-take, length-take, length-take-le, take-take, All-from_get_or, position-Some, slice_split_at, drop-cons, take-append-add, option_map, ◌==◌, Result, Ok, Err, if◌then◌else◌, All, slice_split, position, without_last, whole_lines, is_stream, Parsed, Scripted, plain, with_said, script_len, parted, most_bytes, meaning, FaultKind, ScriptFault, Said}
+use Rattle.client_script.proofs.Imports.{◌≡◌, ◌<◌, ◌≤◌, ◌+◌, refl, sym, ap, ◌∙◌, ℕ, suc, Bool, true, false, List, [], ◌∷◌, ◌++◌, length, take, drop, get_or, arith, add-one, length-append, nat_tests, take-append-drop, get_or-take, length-take, length-take-le, take-take, All-from_get_or, position-Some, slice_split_at, drop-cons, take-append-add, option_map, ◌==◌, Result, Ok, Err, if◌then◌else◌, All, slice_split, position, without_last, whole_lines, is_stream, Parsed, Scripted, plain, with_said, script_len, parted, most_bytes, meaning, ScriptFault, Said}
 use Rattle.std.proofs.Common.{Option, Some, None}
 use Rattle.client_script.specs.Script.{lines_from, grammar, split}
 use Rattle.client_script.proofs.Cuts.{cut-some, cut-none, first-line}
@@ -70,10 +70,10 @@ at_stream xs line more n f is e =
     (omega (arith, long xs line f.behind f.split_so), λ k m m' s. rw (here, is) refl)
 
 -- behind a line, where what follows it is the same
-on_line : (k : ℕ) (m m' : ScriptFault) (s : Scripted) (lines others : List (List ℕ)) → ((t : Scripted) → lines_from m (k + 1) t lines ≡ lines_from m' (k + 1) t others) → (r : Result (Option Said) FaultKind)
-    → ◌≡◌ {A = Parsed} (elim r [ Err kind ↦ Err (record { line = k; kind = kind }) | Ok said ↦ lines_from m (k + 1) (with_said said s) lines ])
-    (elim r [ Err kind ↦ Err (record { line = k; kind = kind }) | Ok said ↦ lines_from m' (k + 1) (with_said said s) others ])
-on_line k m m' s lines others same (Err kind) = refl
+on_line : (k : ℕ) (m m' : ScriptFault) (s : Scripted) (lines others : List (List ℕ)) → ((t : Scripted) → lines_from m (k + 1) t lines ≡ lines_from m' (k + 1) t others) → (r : Result (Option Said) ScriptFault)
+    → ◌≡◌ {A = Parsed} (elim r [ Err fault ↦ Err fault | Ok said ↦ lines_from m (k + 1) (with_said said s) lines ])
+    (elim r [ Err fault ↦ Err fault | Ok said ↦ lines_from m' (k + 1) (with_said said s) others ])
+on_line k m m' s lines others same (Err fault) = refl
 on_line k m m' s lines others same (Ok said) = same (with_said said s)
 
 at_other : (xs line : List ℕ) (more : List (List ℕ)) (n n' : ℕ) → (f : First xs line more) → AreEnough f.behind more n' → is_stream line ≡ false → n ≡ length line + 1 + n' → AreEnough xs (line ∷ more) n

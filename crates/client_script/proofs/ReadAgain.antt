@@ -1,5 +1,5 @@
 -- A line that is spelled is read again.
-use Rattle.client_script.proofs.Imports.{◌≡◌, ◌<◌, ◌≤◌, ◌^◌, ◌+◌, ◌/◌, ◌%◌, ◌⊎◌, inl, inr, refl, ap, ◌∙◌, ℕ, zero, suc, List, [], ◌∷◌, ◌++◌, false, length, codes, arith, append_assoc, append-nil, All-nil, All-cons, All-head, All-tail, slice_split_at, ◌==◌, Option, Some, None, Ok, if◌then◌else◌, cases_lt, get_or_past, All, flat_map, decimal, SectionFilter, Place, input_text, output_text, hex_bytes, hex_text, digit_text, is_word, hex_bytes-hex_text, place_named, filter_places, filter_words, IsFilter, number_between-decimal, client_named-client_text, input_named-input_text, output_named-output_text, places_named-filter_words, filter_with-filter_places, length-filter_words, Reading, mapped, words_of, is_passed_over, IsTargetInRange, IsVerbInRange, IsPlainVerb, IsInRange, IsWritten, spelling, said_again, with_all, Scripted, AreWritten, HasWrite, IsOnDvr, whole_lines, writes_of, written_by, with_said, is_stream, plain, ScriptFault, Asks, Writes, CommandName, OpenName, CloseName, SectionName, PesName, AddName, RemoveName, StartName, StopName, SizeName, ReadName, ReadWaitName, DrainName, PollName, IoctlName, Verb, Once, ReadWait, Drain, GetStc, Write, Open, Close, Section, Pes, Add, Remove, Start, Stop, Size, Read, Poll, Target, Node, Slot, Dvr, Line, Feed, Tick, Command}
+use Rattle.client_script.proofs.Imports.{◌≡◌, ◌<◌, ◌≤◌, ◌^◌, ◌+◌, ◌/◌, ◌%◌, ◌⊎◌, inl, inr, refl, ap, ◌∙◌, ℕ, zero, suc, List, [], ◌∷◌, ◌++◌, false, length, codes, arith, append_assoc, append-nil, All-nil, All-cons, All-head, All-tail, slice_split_at, ◌==◌, Option, Some, None, Ok, if◌then◌else◌, cases_lt, get_or_past, All, flat_map, decimal, SectionFilter, Place, input_text, output_text, hex_bytes, hex_text, digit_text, is_word, hex_bytes-hex_text, place_named, filter_places, filter_words, IsFilter, number_between-decimal, client_named-client_text, input_named-input_text, output_named-output_text, places_named-filter_words, filter_with-filter_places, length-filter_words, Reading, mapped, words_of, is_passed_over, IsTargetInRange, IsVerbInRange, IsPlainVerb, IsInRange, IsWritten, spelling, said_again, with_all, Scripted, AreWritten, HasWrite, IsOnDvr, whole_lines, writes_of, written_by, with_said, is_stream, plain, ScriptFault, Asks, Writes, CommandName, OpenName, CloseName, SectionName, PesName, AddName, RemoveName, StartName, StopName, SizeName, ReadName, ReadWaitName, DrainName, PollName, IoctlName, Verb, Once, ReadWait, Drain, GetStc, Write, Open, Close, Section, Pes, Add, Remove, Start, Stop, Size, Read, Poll, Target, Node, Slot, Dvr, Line, Feed, Tick, Command, NumberName, Pid, Timeout, Flags, PesType, N}
 use Rattle.text_forms.specs.Names.{numbered}
 use Rattle.text_forms.specs.Places.{places_named}
 use Rattle.client_script.specs.Words.{word_in}
@@ -12,9 +12,9 @@ use Rattle.client_script.proofs.Cuts.{first-line}
 use Rattle.client_script.proofs.RequestsAgain.{ioctl_in-words, some_digits}
 use Rattle.client_script.proofs.LineWords.{Written, behind, argument_words, first_word, more_words, line_text-words, words_of-behind, line_feed_nowhere, first-visible, more-visible}
 
-number_in-decimal : (least most n : ℕ) (words : List (List ℕ)) → n < 2 ^ 64 → least ≤ n → n ≤ most → number_in least most (decimal n ∷ words) ≡ Ok (n, words)
+number_in-decimal : (name : NumberName) (least most n : ℕ) (words : List (List ℕ)) → n < 2 ^ 64 → least ≤ n → n ≤ most → number_in name least most (decimal n ∷ words) ≡ Ok (n, words)
 unfolding number_in word_in
-number_in-decimal least most n words small low high = rw (number_between-decimal least most n small low high) refl
+number_in-decimal name least most n words small low high = rw (number_between-decimal least most n small low high) refl
 
 -- ------ filters
 
@@ -90,21 +90,21 @@ target_of-target_text Dvr few = refl
 verb_in-argument_words : (written : Written) (verb : Verb) → IsVerbInRange verb → IsPlainVerb verb → verb_in (command_name verb) (argument_words written verb) ≡ Ok (verb, [])
 unfolding verb_in section_in pes_in word_in
 verb_in-argument_words written (Once (Section p)) few plain =
-    let pid = number_in-decimal 0 65535 p.pid (decimal p.timeout ∷ decimal p.flags ∷ filter_words p.filter) (omega arith) (omega arith) few.0 in
-    let timeout = number_in-decimal 0 4294967295 p.timeout (decimal p.flags ∷ filter_words p.filter) (omega arith) (omega arith) few.1 in
-    let flags = number_in-decimal 0 4294967295 p.flags (filter_words p.filter) (omega arith) (omega arith) few.2 in
+    let pid = number_in-decimal Pid 0 65535 p.pid (decimal p.timeout ∷ decimal p.flags ∷ filter_words p.filter) (omega arith) (omega arith) few.0 in
+    let timeout = number_in-decimal Timeout 0 4294967295 p.timeout (decimal p.flags ∷ filter_words p.filter) (omega arith) (omega arith) few.1 in
+    let flags = number_in-decimal Flags 0 4294967295 p.flags (filter_words p.filter) (omega arith) (omega arith) few.2 in
     rw (pid, timeout, flags, filter_in-filter_words p.filter few.3) refl
 verb_in-argument_words written (Once (Pes p)) few plain =
-    let pid = number_in-decimal 0 65535 p.pid (input_text p.input ∷ output_text p.output ∷ decimal p.pes_type ∷ decimal p.flags ∷ []) (omega arith) (omega arith) few.0 in
-    let pes_type = number_in-decimal 0 4294967295 p.pes_type (decimal p.flags ∷ []) (omega arith) (omega arith) few.1 in
-    let flags = number_in-decimal 0 4294967295 p.flags [] (omega arith) (omega arith) few.2 in
+    let pid = number_in-decimal Pid 0 65535 p.pid (input_text p.input ∷ output_text p.output ∷ decimal p.pes_type ∷ decimal p.flags ∷ []) (omega arith) (omega arith) few.0 in
+    let pes_type = number_in-decimal PesType 0 4294967295 p.pes_type (decimal p.flags ∷ []) (omega arith) (omega arith) few.1 in
+    let flags = number_in-decimal Flags 0 4294967295 p.flags [] (omega arith) (omega arith) few.2 in
     rw (pid, input_named-input_text p.input, output_named-output_text p.output, pes_type, flags) refl
-verb_in-argument_words written (Once (Add pid)) few plain = rw (number_in-decimal 0 65535 pid [] (omega arith) (omega arith) few) refl
-verb_in-argument_words written (Once (Remove pid)) few plain = rw (number_in-decimal 0 65535 pid [] (omega arith) (omega arith) few) refl
-verb_in-argument_words written (Once (Size n)) few plain = rw (number_in-decimal 0 4294967295 n [] (omega arith) (omega arith) few) refl
-verb_in-argument_words written (Once (Read n)) few plain = rw (number_in-decimal 0 65536 n [] (omega arith) (omega arith) few) refl
-verb_in-argument_words written (ReadWait n) few plain = rw (number_in-decimal 0 65536 n [] (omega arith) (omega arith) few) refl
-verb_in-argument_words written (Drain n) few plain = rw (number_in-decimal 0 65536 n [] (omega arith) (omega arith) few) refl
+verb_in-argument_words written (Once (Add pid)) few plain = rw (number_in-decimal Pid 0 65535 pid [] (omega arith) (omega arith) few) refl
+verb_in-argument_words written (Once (Remove pid)) few plain = rw (number_in-decimal Pid 0 65535 pid [] (omega arith) (omega arith) few) refl
+verb_in-argument_words written (Once (Size n)) few plain = rw (number_in-decimal N 0 4294967295 n [] (omega arith) (omega arith) few) refl
+verb_in-argument_words written (Once (Read n)) few plain = rw (number_in-decimal N 0 65536 n [] (omega arith) (omega arith) few) refl
+verb_in-argument_words written (ReadWait n) few plain = rw (number_in-decimal N 0 65536 n [] (omega arith) (omega arith) few) refl
+verb_in-argument_words written (Drain n) few plain = rw (number_in-decimal N 0 65536 n [] (omega arith) (omega arith) few) refl
 verb_in-argument_words written (GetStc num) few plain = ioctl_in-words num few
 verb_in-argument_words written (Write write) few plain = absurd plain
 verb_in-argument_words written _ few plain = refl
@@ -156,8 +156,8 @@ asked_again number client writes target (GetStc num) line all can =
 line_in-words : (number : ℕ) (writes : List (List (List ℕ))) (line : Line) → All AreWritten writes → CanPrint writes line
     → line_in number (first_word line ∷ more_words writes line) ≡ Ok (said_again number writes line, [])
 unfolding line_in word_in
-line_in-words number writes (Feed n) all can = rw (number_in-decimal 1 4294967295 n [] (omega arith) can.range.0 can.range.1) refl
-line_in-words number writes (Tick n) all can = rw (number_in-decimal 0 4294967295 n [] (omega arith) (omega arith) can.range) refl
+line_in-words number writes (Feed n) all can = rw (number_in-decimal N 1 4294967295 n [] (omega arith) can.range.0 can.range.1) refl
+line_in-words number writes (Tick n) all can = rw (number_in-decimal N 0 4294967295 n [] (omega arith) (omega arith) can.range) refl
 line_in-words number writes (Command line client target verb) all can =
     rw (client_named-client_text client can.range.2, asked_again number client writes target verb line all can) refl
 

@@ -1,5 +1,5 @@
 -- The question for a system time counter that is spelled is read again.
-use Rattle.client_script.proofs.Imports.{◌≡◌, ◌<◌, ◌≤◌, ◌/◌, ◌%◌, ◌^◌, refl, ap, ◌∙◌, ℕ, zero, suc, List, [], ◌∷◌, ◌++◌, Bool, true, false, length, codes, arith, nat_tests, All-nil, All-cons, All-append, All-replicate, mod-lt, ◌==◌, Some, None, Ok, if◌then◌else◌, All, byte_at, bytes_low_first, big_bytes, little_bytes, little_number-reads_back, GET_STC, StcRequest, number_of, argument_of, digit_text, hex_text, is_word, hex_bytes-hex_text, GetStc}
+use Rattle.client_script.proofs.Imports.{◌≡◌, ◌<◌, ◌≤◌, ◌/◌, ◌%◌, ◌^◌, refl, ap, ◌∙◌, ℕ, zero, suc, List, [], ◌∷◌, false, length, codes, arith, nat_tests, All-nil, All-cons, All-append, All-replicate, mod-lt, ◌==◌, Some, None, Ok, if◌then◌else◌, All, byte_at, bytes_low_first, big_bytes, little_bytes, little_number-reads_back, GET_STC, StcRequest, number_of, argument_of, digit_text, hex_text, is_word, hex_bytes-hex_text, GetStc}
 use Rattle.std.proofs.Common.{replicate}
 use Rattle.text_forms.specs.Hex.{hex_digit, hex_byte, hex_bytes}
 use Rattle.client_script.specs.Words.{word_in}

@@ -1,5 +1,5 @@
 -- What the lines that were read and the bytes behind them make of a script.
-use Rattle.client_script.proofs.Imports.{◌≡◌, refl, true, false, ℕ, List, [], ◌∷◌, ◌+◌, count_by, ◌==◌, Option, Ok, Err, meaning, Parsed, Scripted, plain, with_said, whole_lines, is_stream, ScriptFault, FaultKind, NoStream, Said}
+use Rattle.client_script.proofs.Imports.{◌≡◌, refl, true, false, ℕ, List, [], ◌∷◌, ◌+◌, count_by, ◌==◌, Option, Ok, Err, meaning, Parsed, Scripted, plain, with_said, whole_lines, is_stream, ScriptFault, NoStream, None, Said}
 use Rattle.client_script.specs.Script.{lines_from, grammar}
 
 -- a script of which this was read; the next line has this number
@@ -8,7 +8,7 @@ script_by missing s number bytes = lines_from missing number s (whole_lines byte
 
 -- the fault of a script without a line `stream`
 abbrev pub missing_in : List ℕ → ScriptFault
-missing_in bytes = record { line = 1 + count_by (λ byte. byte == 10) bytes; kind = NoStream }
+missing_in bytes = record { line = 1 + count_by (λ byte. byte == 10) bytes; kind = NoStream; word = None }
 
 pub script_by-start : (bytes : List ℕ) → grammar bytes ≡ script_by (missing_in bytes) (plain []) 1 bytes
 unfolding script_by grammar
@@ -22,10 +22,10 @@ pub script_by-stream : (missing : ScriptFault) (s : Scripted) (number : ℕ) (by
 unfolding script_by lines_from
 script_by-stream missing s number bytes line more some same = rw (some, same) refl
 
-pub script_by-fault : (missing : ScriptFault) (s : Scripted) (number : ℕ) (bytes line : List ℕ) (more : List (List ℕ)) (kind : FaultKind) → whole_lines bytes ≡ line ∷ more → is_stream line ≡ false → meaning number line ≡ Err kind
-    → script_by missing s number bytes ≡ Err (record { line = number; kind = kind })
+pub script_by-fault : (missing : ScriptFault) (s : Scripted) (number : ℕ) (bytes line : List ℕ) (more : List (List ℕ)) (fault : ScriptFault) → whole_lines bytes ≡ line ∷ more → is_stream line ≡ false → meaning number line ≡ Err fault
+    → script_by missing s number bytes ≡ Err fault
 unfolding script_by lines_from
-script_by-fault missing s number bytes line more kind some other means = rw (some, other, means) refl
+script_by-fault missing s number bytes line more fault some other means = rw (some, other, means) refl
 
 pub script_by-line : (missing : ScriptFault) (s : Scripted) (number : ℕ) (bytes line behind : List ℕ) (said : Option Said) → whole_lines bytes ≡ line ∷ whole_lines behind → is_stream line ≡ false → meaning number line ≡ Ok said
     → script_by missing s number bytes ≡ script_by missing (with_said said s) (number + 1) behind

@@ -1,9 +1,10 @@
 -- All writes of a script have no more bytes than the script.
-use Rattle.client_script.proofs.Imports.{◌≡◌, ◌≤◌, ◌+◌, refl, ap, ◌∙◌, subst, ℕ, zero, suc, Bool, true, false, List, [], ◌∷◌, ◌++◌, length, map, codes, arith, length-append, slice_split-cons_yes, slice_split-cons_no, sum_by-cons, ◌==◌, Option, Some, None, Result, Ok, Err, if◌then◌else◌, slice_index_or, slice_set, sum, slice_split, onto_first, is_word, client_named, Reading, and_then, mapped, or_fault, next_as, words_of, written_named, number_in, count_in, name_of, command_in, dvr_named, whole, is_passed_over, some_said, Parsed, Scripted, plain, with_said, writes_of, whole_lines, without_last, is_stream, FaultKind, Client, NoTarget, Bytes, ScriptFault, Said, Asks, Writes, Target, Line, Feed, Tick}
+use Rattle.client_script.proofs.Imports.{◌≡◌, ◌≤◌, ◌+◌, refl, ap, subst, ℕ, zero, suc, Bool, true, false, List, [], ◌∷◌, ◌++◌, length, map, codes, arith, slice_split-cons_yes, slice_split-cons_no, sum_by-cons, ◌==◌, Option, Some, None, Result, Ok, Err, if◌then◌else◌, slice_index_or, slice_set, sum, slice_split, onto_first, is_word, client_named, Reading, and_then, mapped, or_fault, next_as, words_of, written_named, number_in, count_in, name_of, command_in, dvr_named, is_passed_over, some_said, Parsed, Scripted, plain, with_said, writes_of, whole_lines, without_last, is_stream, Client, NoTarget, Bytes, ScriptFault, Said, Asks, Writes, Target, Line, Feed, Tick, in_line, whole_in, N}
 use Rattle.client_script.specs.Words.{word_in}
 use Rattle.client_script.specs.Grammar.{write_in, asked_in, line_in, line_of, meaning}
 use Rattle.client_script.specs.Script.{lines_from, grammar}
-use Rattle.client_script.proofs.Numbering.{Gives, if_gives, under_a_name}
+use Rattle.client_script.specs.declared.wanted.Wanted.TheVariants as wanted
+use Rattle.client_script.proofs.Numbering.{Gives, if_gives, under_a_name, whole_gives}
 use Rattle.client_script.proofs.Writing.{named_short}
 
 -- ------ the pieces of a list
@@ -40,17 +41,17 @@ IsShort most (Asks line) = Unit {0}
 IsShort most (Writes line client bytes) = length bytes ≤ most
 
 module _ (most : ℕ) where
-  from_named : (line client : ℕ) (o : Option (List ℕ)) (words : List (List ℕ)) → ((bytes : List ℕ) → o ≡ Some bytes → length bytes ≤ most) → Gives (IsShort most) (mapped (Writes line client) (or_fault Bytes o words))
+  from_named : (line client : ℕ) (o : Option (List ℕ)) (words : List (List ℕ)) → ((bytes : List ℕ) → o ≡ Some bytes → length bytes ≤ most) → Gives (IsShort most) (mapped (Writes line client) (or_fault Bytes wanted.Written o words))
   from_named line client None words each = tt
   from_named line client (Some bytes) words each = each bytes refl
 
-  hex_in : (line client : ℕ) (words : List (List ℕ)) → lens words ≤ most → Gives (IsShort most) (mapped (Writes line client) (next_as Bytes written_named words))
+  hex_in : (line client : ℕ) (words : List (List ℕ)) → lens words ≤ most → Gives (IsShort most) (mapped (Writes line client) (next_as Bytes wanted.Written written_named words))
   unfolding word_in
   hex_in line client [] few = tt
   hex_in line client (word ∷ words) few = from_named line client (written_named word) words (λ bytes is. omega (arith, named_short word bytes is, few))
 
   target_in : (line client : ℕ) (o : Option Target) (words : List (List ℕ)) → lens words ≤ most
-      → Gives (IsShort most) (and_then (or_fault NoTarget o words) (λ target words. mapped (Writes line client) (next_as Bytes written_named words)))
+      → Gives (IsShort most) (and_then (or_fault NoTarget wanted.Dvr o words) (λ target words. mapped (Writes line client) (next_as Bytes wanted.Written written_named words)))
   target_in line client None words few = tt
   target_in line client (Some target) words few = hex_in line client words few
 
@@ -66,7 +67,7 @@ module _ (most : ℕ) where
       if_gives (IsShort most) (is_word word (codes "write")) (write_in line client words) (mapped Asks (command_in line client (name_of word) words)) (write_short line client words (omega (arith, few)))
       (under_a_name {A = Line} (IsShort most) Asks (command_in line client (name_of word) words) (λ x. tt))
 
-  client_short : (line : ℕ) (o : Option ℕ) (words : List (List ℕ)) → lens words ≤ most → Gives (IsShort most) (and_then (or_fault Client o words) (λ client words. asked_in line client words))
+  client_short : (line : ℕ) (o : Option ℕ) (words : List (List ℕ)) → lens words ≤ most → Gives (IsShort most) (and_then (or_fault Client wanted.First o words) (λ client words. asked_in line client words))
   client_short line None words few = tt
   client_short line (Some client) words few = asked_short line client words few
 
@@ -74,29 +75,33 @@ module _ (most : ℕ) where
   unfolding line_in word_in
   line_short line [] few = tt
   line_short line (word ∷ words) few =
-      if_gives (IsShort most) (is_word word (codes "feed")) (mapped (λ n. Asks (Feed n)) (number_in 1 4294967295 words))
-      (if is_word word (codes "tick") then mapped (λ n. Asks (Tick n)) (count_in words) else and_then (or_fault Client (client_named word) words) (λ client words. asked_in line client words))
-      (under_a_name {A = ℕ} (IsShort most) (λ n. Asks (Feed n)) (number_in 1 4294967295 words) (λ n. tt))
-      (if_gives (IsShort most) (is_word word (codes "tick")) (mapped (λ n. Asks (Tick n)) (count_in words)) (and_then (or_fault Client (client_named word) words) (λ client words. asked_in line client words))
-      (under_a_name {A = ℕ} (IsShort most) (λ n. Asks (Tick n)) (count_in words) (λ n. tt))
+      if_gives (IsShort most) (is_word word (codes "feed")) (mapped (λ n. Asks (Feed n)) (number_in N 1 4294967295 words))
+      (if is_word word (codes "tick") then mapped (λ n. Asks (Tick n)) (count_in N words) else and_then (or_fault Client wanted.First (client_named word) words) (λ client words. asked_in line client words))
+      (under_a_name {A = ℕ} (IsShort most) (λ n. Asks (Feed n)) (number_in N 1 4294967295 words) (λ n. tt))
+      (if_gives (IsShort most) (is_word word (codes "tick")) (mapped (λ n. Asks (Tick n)) (count_in N words)) (and_then (or_fault Client wanted.First (client_named word) words) (λ client words. asked_in line client words))
+      (under_a_name {A = ℕ} (IsShort most) (λ n. Asks (Tick n)) (count_in N words) (λ n. tt))
       (client_short line (client_named word) words (omega (arith, few))))
 
   -- what a line means
-  abbrev IsShortMeaning : Result (Option Said) FaultKind → Type 0
+  abbrev IsShortMeaning : Result (Option Said) ScriptFault → Type 0
   IsShortMeaning (Ok (Some said)) = IsShort most said
   IsShortMeaning _ = Unit {0}
 
-  whole_short : (r : Reading Said) → Gives (IsShort most) r → IsShortMeaning (some_said (whole r))
-  whole_short (Ok (said, [])) is = is
-  whole_short (Ok (said, word ∷ words)) is = tt
-  whole_short (Err kind) is = tt
+  said_short : (line count : ℕ) (r : Reading Said) → Gives (IsShort most) r → IsShortMeaning (some_said (in_line line count r))
+  said_short line count (Ok r) is = is
+  said_short line count (Err fault) is = tt
 
 meaning_short : (line : ℕ) (bytes : List ℕ) → IsShortMeaning (length bytes) (meaning line bytes)
 unfolding meaning line_of
 meaning_short line bytes = go (is_passed_over bytes) where
-  go : (b : Bool) → IsShortMeaning (length bytes) (if b then Ok None else some_said (whole (line_in line (words_of bytes))))
+  all : List (List ℕ)
+  all = words_of bytes
+
+  go : (b : Bool) → IsShortMeaning (length bytes) (if b then Ok None else some_said (in_line line (length all) (whole_in line all)))
   go true = tt
-  go false = whole_short (length bytes) (line_in line (words_of bytes)) (line_short (length bytes) line (words_of bytes) (pieces_long (λ byte. byte == 32) bytes))
+  go false =
+      said_short (length bytes) line (length all) (whole_in line all)
+      (whole_gives (IsShort (length bytes)) line all (line_short (length bytes) line all (pieces_long (λ byte. byte == 32) bytes)))
 
 -- ------ how many bytes are written
 
@@ -137,15 +142,15 @@ said_more most (Some (Writes line client bytes)) s is =
 
 -- ------ whole scripts
 
-on_line : (missing : ScriptFault) (line : ℕ) (s t : Scripted) (more : List (List ℕ)) (most : ℕ) (m : Result (Option Said) FaultKind) → IsShortMeaning most m
+on_line : (missing : ScriptFault) (line : ℕ) (s t : Scripted) (more : List (List ℕ)) (most : ℕ) (m : Result (Option Said) ScriptFault) → IsShortMeaning most m
     → ((u : Scripted) → lines_from missing (line + 1) u more ≡ Ok t → written_in t ≤ written_in u + lens more)
-    → ◌≡◌ {A = Parsed} (elim m [ Err kind ↦ Err (record { line = line; kind = kind }) | Ok said ↦ lines_from missing (line + 1) (with_said said s) more ]) (Ok t) → written_in t ≤ written_in s + (most + lens more)
-on_line missing line s t more most (Err kind) is later e = absurd (cc)
+    → ◌≡◌ {A = Parsed} (elim m [ Err fault ↦ Err fault | Ok said ↦ lines_from missing (line + 1) (with_said said s) more ]) (Ok t) → written_in t ≤ written_in s + (most + lens more)
+on_line missing line s t more most (Err fault) is later e = absurd (cc)
 on_line missing line s t more most (Ok said) is later e = omega (arith, said_more most said s is, later (with_said said s) e)
 
-by_line : (missing : ScriptFault) (line : ℕ) (s t : Scripted) (more : List (List ℕ)) (most : ℕ) (m : Result (Option Said) FaultKind) (b : Bool) → IsShortMeaning most m
+by_line : (missing : ScriptFault) (line : ℕ) (s t : Scripted) (more : List (List ℕ)) (most : ℕ) (m : Result (Option Said) ScriptFault) (b : Bool) → IsShortMeaning most m
     → ((u : Scripted) → lines_from missing (line + 1) u more ≡ Ok t → written_in t ≤ written_in u + lens more)
-    → ◌≡◌ {A = Parsed} (if b then Ok s else (elim m [ Err kind ↦ Err (record { line = line; kind = kind }) | Ok said ↦ lines_from missing (line + 1) (with_said said s) more ])) (Ok t)
+    → ◌≡◌ {A = Parsed} (if b then Ok s else (elim m [ Err fault ↦ Err fault | Ok said ↦ lines_from missing (line + 1) (with_said said s) more ])) (Ok t)
     → written_in t ≤ written_in s + (most + lens more)
 by_line missing line s t more most m true is later e =
     let same : s ≡ t = cc in

@@ -1,6 +1,7 @@
 -- Worked examples: what the grammar gives for lines and scripts that were worked out by hand from the rules.
 use Rattle.std.specs.Prelude.{◌≡◌, ℕ, List, [], ◌∷◌, ◌++◌, map, replicate, Option, Some, None, Result, Ok, Err, codes}
 use Rattle.std.specs.List.{flat_map}
+use Rattle.std.specs.Option.{option_map}
 use Rattle.dmx_calls.specs.declared.params.Input.TheVariants.{Frontend}
 use Rattle.dmx_calls.specs.declared.params.Output.TheVariants.{TsTap, TsdemuxTap}
 use Rattle.text_forms.specs.Numbers.{number_between}
@@ -11,7 +12,10 @@ use Rattle.client_script.specs.declared.said.Said.{Said}
 use Rattle.client_script.specs.declared.said.Said.TheVariants.{Asks, Writes}
 use Rattle.client_script.specs.Spelling.{spelling}
 use Rattle.client_script.specs.declared.fault.FaultKind.{FaultKind}
+use Rattle.client_script.specs.declared.fault.ScriptFault.{ScriptFault}
 use Rattle.client_script.specs.declared.fault.FaultKind.TheVariants.{Client, Command as NoCommand, Target as NoTarget, Number, Name, Bytes, Count, NoStream}
+use Rattle.client_script.specs.declared.wanted.NumberName.TheVariants.{Pid, N}
+use Rattle.client_script.specs.declared.wanted.Wanted.TheVariants as wanted
 use Rattle.client_script.specs.declared.line.Line.{Line}
 use Rattle.client_script.specs.declared.line.Line.TheVariants.{Feed, Tick, Command}
 use Rattle.client_script.specs.declared.line.Target.TheVariants.{Node, Slot, Dvr}
@@ -19,16 +23,21 @@ use Rattle.client_script.specs.declared.line.Verb.TheVariants.{Once, Drain, Read
 use Rattle.client_script.specs.declared.line.Want.TheVariants.{Open, Close, Section, Pes, Add, Start, Size}
 
 -- the meanings of these lines, each as the fifth of its script
-abbrev pub meanings : List (List ℕ) → List (Result (Option Said) FaultKind)
+abbrev pub meanings : List (List ℕ) → List (Result (Option Said) ScriptFault)
 meanings lines = map (meaning 5) lines
 
 -- a line that asks for something
 abbrev pub asks : Line → Option Said
 asks line = Some (Asks line)
 
--- each of these lines has a fault of this kind
-abbrev pub HaveFault : FaultKind → List (List ℕ) → Type 0
-HaveFault kind lines = meanings lines ≡ map (λ line. Err kind) lines
+-- the kind of a fault, and the number of its word
+abbrev pub told : Result (Option Said) ScriptFault → Option (FaultKind × Option ℕ)
+told (Ok said) = None
+told (Err fault) = Some (fault.kind, option_map (λ word. word.number) fault.word)
+
+-- each of these lines has a fault of this kind at the word of the number in front of it
+abbrev pub HaveFault : FaultKind → List (ℕ × List ℕ) → Type 0
+HaveFault kind lines = map (λ row. told (meaning 5 row.1)) lines ≡ map (λ row. Some (kind, Some row.0)) lines
 
 -- lines with their line feeds
 abbrev pub text : List (List ℕ) → List ℕ
@@ -39,9 +48,10 @@ text lines = flat_map (λ line. line ++ 10 ∷ []) lines
 -- a number from 1 to 9, in front of another word; where another word stands; and where none is left
 abbrev pub OneWord : Type 0
 OneWord =
-    (next_as Number (number_between 1 9) (codes "7" ∷ codes "x" ∷ []) ≡ Ok (7, codes "x" ∷ []))
-    × (next_as Number (number_between 1 9) (codes "x" ∷ []) ≡ Err Number)
-    × (next_as Number (number_between 1 9) [] ≡ Err Count)
+    (next_as Number (wanted.Number N 1 9) (number_between 1 9) (codes "7" ∷ codes "x" ∷ []) ≡ Ok (7, codes "x" ∷ []))
+    × (next_as Number (wanted.Number N 1 9) (number_between 1 9) (codes "x" ∷ codes "7" ∷ [])
+    ≡ Err (record { kind = Number; wanted = wanted.Number N 1 9 }, codes "7" ∷ []))
+    × (next_as Number (wanted.Number N 1 9) (number_between 1 9) [] ≡ Err (record { kind = Count; wanted = wanted.Number N 1 9 }, []))
 
 -- ------ lines
 
@@ -91,34 +101,43 @@ Requests =
 
 -- ------ kinds of faults
 
+-- what the places of faults ask for: the fourth word is a number, and in a filter a byte from 4 on; one is missing; one is too many
+abbrev pub FaultPlaces : Type 0
+FaultPlaces =
+    meanings (codes "c0 add n0 0x10" ∷ codes "c0 section n0 1 0 0 3=00/ff/00 3=00/ff/00" ∷ codes "c0 ioctl n0 00006f29" ∷ codes "tick 1 1" ∷ [])
+    ≡ Err (record { line = 5; kind = Number; word = Some (record { number = 4; wanted = wanted.Number Pid 0 65535 }) })
+    ∷ Err (record { line = 5; kind = Bytes; word = Some (record { number = 8; wanted = wanted.Byte 4 }) })
+    ∷ Err (record { line = 5; kind = Count; word = Some (record { number = 5; wanted = wanted.Argument 28457 }) })
+    ∷ Err (record { line = 5; kind = Count; word = Some (record { number = 3; wanted = wanted.End }) }) ∷ []
+
 abbrev pub ClientFaults : Type 0
-ClientFaults = HaveFault Client (codes "c8 open n0" ∷ codes " feed 1" ∷ codes "stream " ∷ codes "c8 strat n32" ∷ [])
+ClientFaults = HaveFault Client ((1, codes "c8 open n0") ∷ (1, codes " feed 1") ∷ (1, codes "stream ") ∷ (1, codes "streams") ∷ (1, codes "c8 strat n32") ∷ [])
 
 abbrev pub CommandFaults : Type 0
-CommandFaults = HaveFault NoCommand (codes "c0  open n0" ∷ codes "c0 strat" ∷ codes "c0 strat n32 x" ∷ [])
+CommandFaults = HaveFault NoCommand ((2, codes "c0  open n0") ∷ (2, codes "c0 strat") ∷ (2, codes "c0 strat n32 x") ∷ [])
 
 abbrev pub TargetFaults : Type 0
 TargetFaults =
-    HaveFault NoTarget (codes "c0 open n32" ∷ codes "c0 open h32" ∷ codes "c0 open n00" ∷ codes "c0 read n32 65537"
+    HaveFault NoTarget ((3, codes "c0 open n32") ∷ (3, codes "c0 open h32") ∷ (3, codes "c0 open n00") ∷ (3, codes "c0 read n32 65537")
     ∷ [])
 
 abbrev pub NumberFaults : Type 0
 NumberFaults =
-    HaveFault Number (codes "feed 0" ∷ codes "feed 4294967296" ∷ codes "tick 00" ∷ codes "c0 read n0 65537"
-    ∷ codes "c0 add n0 65536 x" ∷ [])
+    HaveFault Number ((2, codes "feed 0") ∷ (2, codes "feed 4294967296") ∷ (2, codes "tick 00") ∷ (4, codes "c0 read n0 65537")
+    ∷ (4, codes "c0 add n0 65536 x") ∷ [])
 
 abbrev pub NameFaults : Type 0
-NameFaults = HaveFault Name (codes "c0 pes n0 0 tap tap 0 0" ∷ codes "c0 pes n0 0 dvr dvr x" ∷ [])
+NameFaults = HaveFault Name ((5, codes "c0 pes n0 0 tap tap 0 0") ∷ (6, codes "c0 pes n0 0 dvr dvr x") ∷ [])
 
 abbrev pub BytesFaults : Type 0
 BytesFaults =
-    HaveFault Bytes (codes "c0 section n0 1 0 0 3=00/ff/00 3=00/ff/00" ∷ codes "c0 section n0 1 0 0 16=00/ff/00"
-    ∷ codes "c0 section n0 1 0 0 3=00/FF/00" ∷ codes "c0 section n0 1 0 0 " ∷ [])
+    HaveFault Bytes ((8, codes "c0 section n0 1 0 0 3=00/ff/00 3=00/ff/00") ∷ (7, codes "c0 section n0 1 0 0 16=00/ff/00")
+    ∷ (7, codes "c0 section n0 1 0 0 3=00/FF/00") ∷ (7, codes "c0 section n0 1 0 0 ") ∷ [])
 
 abbrev pub CountFaults : Type 0
 CountFaults =
-    HaveFault Count (codes "feed" ∷ codes "feed 1 1" ∷ codes "c0 start" ∷ codes "c0 start n0 "
-    ∷ codes "c0 section n0 1 0" ∷ [])
+    HaveFault Count ((2, codes "feed") ∷ (3, codes "feed 1 1") ∷ (3, codes "c0 start") ∷ (4, codes "c0 start n0 ")
+    ∷ (6, codes "c0 section n0 1 0") ∷ [])
 
 -- Of a request the number is looked at before its argument, and whether it is one of the table before the argument's
 -- form: a number of four digits, with an upper-case digit, with one too many, with `0x`; numbers that no request has,
@@ -127,17 +146,17 @@ CountFaults =
 -- missing.
 abbrev pub RequestFaults : Type 0
 RequestFaults =
-    HaveFault Number (codes "c0 ioctl n0 6f29 -" ∷ codes "c0 ioctl n0 00006F29 -" ∷ codes "c0 ioctl n0 000006f29 -"
-    ∷ codes "c0 ioctl n0 0x006f29 -" ∷ codes "c0 ioctl n0 " ∷ [])
-    × HaveFault Name (codes "c0 ioctl n0 00006f30 -" ∷ codes "c0 ioctl n0 00006f30" ∷ codes "c0 ioctl n0 800a6f2f x"
-    ∷ codes "c0 ioctl n0 403b6f2b 0" ∷ [])
-    × HaveFault Bytes (codes "c0 ioctl n0 00006f29 00" ∷ codes "c0 ioctl n0 40026f33 0001ff"
-    ∷ codes "c0 ioctl n0 40026f33 -" ∷ codes "c0 ioctl n0 40026f33 000" ∷ codes "c0 ioctl n0 40026f33 00FF"
-    ∷ codes "c0 ioctl n0 00006f29 " ∷ (codes "c0 ioctl n0 403c6f2b " ++ replicate 122 48) ∷ [])
-    × HaveFault Name (codes "c0 ioctl n0 40146f2c 0001000002000000030000001400000000000000"
-    ∷ codes "c0 ioctl n0 40146f2c 0001000000000000040000001400000000000000 x" ∷ [])
-    × HaveFault Count (codes "c0 ioctl n0 00006f29 - x" ∷ codes "c0 ioctl n0 00006f29" ∷ codes "c0 ioctl n0" ∷ [])
-    × HaveFault NoTarget (codes "c0 ioctl n32 6f29" ∷ [])
+    HaveFault Number ((4, codes "c0 ioctl n0 6f29 -") ∷ (4, codes "c0 ioctl n0 00006F29 -") ∷ (4, codes "c0 ioctl n0 000006f29 -")
+    ∷ (4, codes "c0 ioctl n0 0x006f29 -") ∷ (4, codes "c0 ioctl n0 ") ∷ [])
+    × HaveFault Name ((4, codes "c0 ioctl n0 00006f30 -") ∷ (4, codes "c0 ioctl n0 00006f30") ∷ (4, codes "c0 ioctl n0 800a6f2f x")
+    ∷ (4, codes "c0 ioctl n0 403b6f2b 0") ∷ [])
+    × HaveFault Bytes ((5, codes "c0 ioctl n0 00006f29 00") ∷ (5, codes "c0 ioctl n0 40026f33 0001ff")
+    ∷ (5, codes "c0 ioctl n0 40026f33 -") ∷ (5, codes "c0 ioctl n0 40026f33 000") ∷ (5, codes "c0 ioctl n0 40026f33 00FF")
+    ∷ (5, codes "c0 ioctl n0 00006f29 ") ∷ (5, codes "c0 ioctl n0 403c6f2b " ++ replicate 122 48) ∷ [])
+    × HaveFault Name ((5, codes "c0 ioctl n0 40146f2c 0001000002000000030000001400000000000000")
+    ∷ (5, codes "c0 ioctl n0 40146f2c 0001000000000000040000001400000000000000 x") ∷ [])
+    × HaveFault Count ((6, codes "c0 ioctl n0 00006f29 - x") ∷ (5, codes "c0 ioctl n0 00006f29") ∷ (4, codes "c0 ioctl n0") ∷ [])
+    × HaveFault NoTarget ((3, codes "c0 ioctl n32 6f29") ∷ [])
 
 abbrev pub Writing : Type 0
 Writing = meaning 5 (codes "c7 write dvr 00ff47") ≡ Ok (Some (Writes 5 7 (0 ∷ 255 ∷ 71 ∷ [])))
@@ -146,17 +165,17 @@ Writing = meaning 5 (codes "c7 write dvr 00ff47") ≡ Ok (Some (Writes 5 7 (0 �
 -- or missing
 abbrev pub WriteFaults : Type 0
 WriteFaults =
-    HaveFault NoTarget (codes "c0 write n0 00" ∷ codes "c0 write h0 x" ∷ codes "c0 write n32 00" ∷ codes "c0 write " ∷ [])
-    × HaveFault Bytes (codes "c0 write dvr 0" ∷ codes "c0 write dvr 0A" ∷ codes "c0 write dvr " ∷ codes "c0 write dvr g0 x"
+    HaveFault NoTarget ((3, codes "c0 write n0 00") ∷ (3, codes "c0 write h0 x") ∷ (3, codes "c0 write n32 00") ∷ (3, codes "c0 write ") ∷ [])
+    × HaveFault Bytes ((4, codes "c0 write dvr 0") ∷ (4, codes "c0 write dvr 0A") ∷ (4, codes "c0 write dvr ") ∷ (4, codes "c0 write dvr g0 x")
     ∷ [])
-    × HaveFault Count (codes "c0 write dvr 00 00" ∷ codes "c0 write dvr" ∷ codes "c0 write" ∷ [])
+    × HaveFault Count ((5, codes "c0 write dvr 00 00") ∷ (4, codes "c0 write dvr") ∷ (3, codes "c0 write") ∷ [])
 
 -- ------ scripts
 
 abbrev pub ThirdLine : Type 0
 ThirdLine =
     grammar (text (codes "c0 open n0" ∷ codes "c0 close n0" ∷ codes "c0 strat n0" ∷ codes "stream" ∷ []))
-    ≡ Err (record { line = 3; kind = NoCommand })
+    ≡ Err (record { line = 3; kind = NoCommand; word = Some (record { number = 2; wanted = wanted.Command }) })
 
 abbrev pub LinesBehindTheStream : Type 0
 LinesBehindTheStream =
@@ -173,14 +192,15 @@ TwoWriters =
     })
 
 abbrev pub NoBytes : Type 0
-NoBytes = grammar [] ≡ Err (record { line = 1; kind = NoStream })
+NoBytes = grammar [] ≡ Err (record { line = 1; kind = NoStream; word = None })
 
 abbrev pub LineWithoutItsEnd : Type 0
 LineWithoutItsEnd =
-    grammar (text (codes "feed 1" ∷ [] ∷ []) ++ codes "stream") ≡ Err (record { line = 3; kind = NoStream })
+    grammar (text (codes "feed 1" ∷ [] ∷ []) ++ codes "stream") ≡ Err (record { line = 3; kind = NoStream; word = None })
 
 abbrev pub FaultBeforeTheEnd : Type 0
-FaultBeforeTheEnd = grammar (text (codes "feed 1" ∷ codes "feed" ∷ [])) ≡ Err (record { line = 2; kind = Count })
+FaultBeforeTheEnd = grammar (text (codes "feed 1" ∷ codes "feed" ∷ []))
+    ≡ Err (record { line = 2; kind = Count; word = Some (record { number = 2; wanted = wanted.Number N 1 4294967295 }) })
 
 -- ------ inputs
 

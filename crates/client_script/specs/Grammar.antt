@@ -1,5 +1,5 @@
 -- What the lines of a script ask for, word by word (this project's own).
-use Rattle.std.specs.Prelude.{ℕ, ◌≤◌, ◌==◌, Bool, true, List, [], ◌∷◌, Option, Some, None, Result, Ok, Err, if◌then◌else◌, codes}
+use Rattle.std.specs.Prelude.{ℕ, ◌+◌, ◌-◌, ◌≤◌, ◌==◌, Bool, true, List, [], ◌∷◌, length, Option, Some, None, Result, Ok, Err, if◌then◌else◌, codes}
 use Rattle.std.specs.Option.{option_map, option_or}
 use Rattle.dmx_calls.specs.declared.limits.TheConstants.{LARGEST_READ}
 use Rattle.text_forms.specs.Numbers.{number_between}
@@ -11,6 +11,11 @@ use Rattle.client_script.specs.Places.{filter_in}
 use Rattle.client_script.specs.Requests.{ioctl_in}
 use Rattle.client_script.specs.declared.fault.FaultKind.{FaultKind}
 use Rattle.client_script.specs.declared.fault.FaultKind.TheVariants.{Client, Command as NoCommand, Target as NoTarget, Number, Name, Bytes, Count}
+use Rattle.client_script.specs.declared.fault.ScriptFault.{ScriptFault}
+use Rattle.client_script.specs.declared.wanted.WordFault.{WordFault}
+use Rattle.client_script.specs.declared.wanted.NumberName.{NumberName}
+use Rattle.client_script.specs.declared.wanted.NumberName.TheVariants.{Pid, Timeout, Flags, PesType, N}
+use Rattle.client_script.specs.declared.wanted.Wanted.TheVariants as wanted
 use Rattle.client_script.specs.declared.names.CommandName.{CommandName}
 use Rattle.client_script.specs.declared.names.CommandName.TheVariants.{Open as OpenName, Close as CloseName, Section as SectionName, Pes as PesName, Add as AddName, Remove as RemoveName, Start as StartName, Stop as StopName, Size as SizeName, Read as ReadName, ReadWait as ReadWaitName, Drain as DrainName, Poll as PollName, Ioctl as IoctlName}
 use Rattle.client_script.specs.Writes.{written_named, IsWritten}
@@ -27,17 +32,17 @@ use Rattle.client_script.specs.declared.line.Line.TheVariants.{Feed, Tick, Comma
 
 -- ------ one word
 
--- N: a number in a range
-unfoldable pub number_in : (least most : ℕ) → List (List ℕ) → Reading ℕ
-number_in least most words = next_as Number (number_between least most) words
+-- a number of this name in a range
+unfoldable pub number_in : NumberName → (least most : ℕ) → List (List ℕ) → Reading ℕ
+number_in name least most words = next_as Number (wanted.Number name least most) (number_between least most) words
 
 -- PID: a number of 16 bits
 abbrev pub pid_in : List (List ℕ) → Reading ℕ
-pid_in words = number_in 0 65535 words
+pid_in words = number_in Pid 0 65535 words
 
 -- TIMEOUT, TYPE, FLAGS and most N: a number of 32 bits
-abbrev pub count_in : List (List ℕ) → Reading ℕ
-count_in words = number_in 0 4294967295 words
+abbrev pub count_in : NumberName → List (List ℕ) → Reading ℕ
+count_in name words = number_in name 0 4294967295 words
 
 -- the node of a word `n0` to `n31`, or else the slot of a word `h0` to `h31`
 unfoldable pub numbered_target : List ℕ → Option Target
@@ -71,8 +76,8 @@ name_of word =
 unfoldable pub section_in : List (List ℕ) → Reading Want
 section_in words =
     and_then (pid_in words) (λ pid words.
-    and_then (count_in words) (λ timeout words.
-    and_then (count_in words) (λ flags words.
+    and_then (count_in Timeout words) (λ timeout words.
+    and_then (count_in Flags words) (λ flags words.
     and_then (filter_in words) (λ filter words.
     Ok (Section (record { pid = pid; filter = filter; timeout = timeout; flags = flags }), words)))))
 
@@ -80,10 +85,10 @@ section_in words =
 unfoldable pub pes_in : List (List ℕ) → Reading Want
 pes_in words =
     and_then (pid_in words) (λ pid words.
-    and_then (next_as Name input_named words) (λ input words.
-    and_then (next_as Name output_named words) (λ output words.
-    and_then (count_in words) (λ pes_type words.
-    and_then (count_in words) (λ flags words.
+    and_then (next_as Name wanted.Input input_named words) (λ input words.
+    and_then (next_as Name wanted.Output output_named words) (λ output words.
+    and_then (count_in PesType words) (λ pes_type words.
+    and_then (count_in Flags words) (λ flags words.
     Ok (Pes (record { pid = pid; input = input; output = output; pes_type = pes_type; flags = flags }), words))))))
 
 -- what each command wants behind its target
@@ -96,10 +101,10 @@ verb_in AddName words = mapped (λ pid. Once (Add pid)) (pid_in words)
 verb_in RemoveName words = mapped (λ pid. Once (Remove pid)) (pid_in words)
 verb_in StartName words = Ok (Once Start, words)
 verb_in StopName words = Ok (Once Stop, words)
-verb_in SizeName words = mapped (λ n. Once (Size n)) (count_in words)
-verb_in ReadName words = mapped (λ n. Once (Read n)) (number_in 0 LARGEST_READ words)
-verb_in ReadWaitName words = mapped ReadWait (number_in 0 LARGEST_READ words)
-verb_in DrainName words = mapped Drain (number_in 0 LARGEST_READ words)
+verb_in SizeName words = mapped (λ n. Once (Size n)) (count_in N words)
+verb_in ReadName words = mapped (λ n. Once (Read n)) (number_in N 0 LARGEST_READ words)
+verb_in ReadWaitName words = mapped ReadWait (number_in N 0 LARGEST_READ words)
+verb_in DrainName words = mapped Drain (number_in N 0 LARGEST_READ words)
 verb_in PollName words = Ok (Once Poll, words)
 verb_in IoctlName words = ioctl_in words
 
@@ -108,8 +113,8 @@ verb_in IoctlName words = ioctl_in words
 -- what stands behind the word of any command but `write`: its target, and what it wants
 unfoldable pub command_in : (line client : ℕ) → (name : Option CommandName) → List (List ℕ) → Reading Line
 command_in line client name words =
-    and_then (or_fault NoCommand name words) (λ name words.
-    and_then (next_as NoTarget target_of words) (λ target words.
+    and_then (or_fault NoCommand wanted.Command name words) (λ name words.
+    and_then (next_as NoTarget wanted.Target target_of words) (λ target words.
     and_then (verb_in name words) (λ verb words.
     Ok (Command line client target verb, words))))
 
@@ -120,36 +125,51 @@ dvr_named word = if is_word word (codes "dvr") then Some Dvr else None
 -- `dvr HEX`
 unfoldable pub write_in : (line client : ℕ) → List (List ℕ) → Reading Said
 write_in line client words =
-    and_then (next_as NoTarget dvr_named words) (λ target words.
-    mapped (Writes line client) (next_as Bytes written_named words))
+    and_then (next_as NoTarget wanted.Dvr dvr_named words) (λ target words.
+    mapped (Writes line client) (next_as Bytes wanted.Written written_named words))
 
 -- what stands behind the client
 unfoldable pub asked_in : (line client : ℕ) → List (List ℕ) → Reading Said
 asked_in line client words =
-    and_then (word_in words) (λ word words.
+    and_then (word_in wanted.Command words) (λ word words.
     if is_word word (codes "write") then write_in line client words
     else mapped Asks (command_in line client (name_of word) words))
 
 -- `feed N`, `tick N`, or a client's command
 unfoldable pub line_in : (line : ℕ) → List (List ℕ) → Reading Said
 line_in line words =
-    and_then (word_in words) (λ first words.
-    if is_word first (codes "feed") then mapped (λ n. Asks (Feed n)) (number_in 1 4294967295 words)
-    else (if is_word first (codes "tick") then mapped (λ n. Asks (Tick n)) (count_in words)
-    else and_then (or_fault Client (client_named first) words) (λ client words. asked_in line client words)))
+    and_then (word_in wanted.First words) (λ first words.
+    if is_word first (codes "feed") then mapped (λ n. Asks (Feed n)) (number_in N 1 4294967295 words)
+    else (if is_word first (codes "tick") then mapped (λ n. Asks (Tick n)) (count_in N words)
+    else and_then (or_fault Client wanted.First (client_named first) words) (λ client words. asked_in line client words)))
 
 -- a value behind which no word is left; a word too many is a fault of the count
-abbrev pub alone : {A : Type 0} → A → List (List ℕ) → Result A FaultKind
-alone value [] = Ok value
-alone value (word ∷ words) = Err Count
+abbrev pub alone : {A : Type 0} → A → List (List ℕ) → Reading A
+alone value words = if length words == 0 then Ok (value, words) else Err (record { kind = Count; wanted = wanted.End }, words)
 
-abbrev pub whole : {A : Type 0} → Reading A → Result A FaultKind
-whole (Ok read) = alone read.0 read.1
-whole (Err kind) = Err kind
+-- The number in its line, from 1 on, of the word at a fault of this kind up to which so many words were read: that of the last
+-- one; or where a word is missing or too many, that of the place behind them.
+abbrev pub number_at : FaultKind → (read : ℕ) → ℕ
+number_at Count read = read + 1
+number_at _ read = read
 
--- what a whole line says: no word is left behind it
-unfoldable pub line_of : (line : ℕ) → List ℕ → Result Said FaultKind
-line_of line bytes = whole (line_in line (words_of bytes))
+-- a fault in the line of this number, of which so many words were read
+abbrev pub fault_in : (line read : ℕ) → WordFault → ScriptFault
+fault_in line read fault =
+    record { line = line; kind = fault.kind; word = Some (record { number = number_at fault.kind read; wanted = fault.wanted }) }
+
+-- what so many words say, which are all of the line of this number
+abbrev pub in_line : {A : Type 0} → (line count : ℕ) → Reading A → Result A ScriptFault
+in_line line count (Ok read) = Ok read.0
+in_line line count (Err fault) = Err (fault_in line (count - length fault.1) fault.0)
+
+-- what the words at the front say, where no word is left behind them
+abbrev pub whole_in : (line : ℕ) → List (List ℕ) → Reading Said
+whole_in line words = and_then (line_in line words) alone
+
+-- what a whole line says
+unfoldable pub line_of : (line : ℕ) → List ℕ → Result Said ScriptFault
+line_of line bytes = in_line line (length (words_of bytes)) (whole_in line (words_of bytes))
 
 -- a line that is passed over: it is empty or a comment, whose first byte is `#`
 abbrev pub is_passed_over : List ℕ → Bool
@@ -157,12 +177,12 @@ is_passed_over [] = true
 is_passed_over (byte ∷ bytes) = byte == 35
 
 -- what a line says, if anything
-abbrev pub some_said : Result Said FaultKind → Result (Option Said) FaultKind
+abbrev pub some_said : Result Said ScriptFault → Result (Option Said) ScriptFault
 some_said (Ok said) = Ok (Some said)
-some_said (Err kind) = Err kind
+some_said (Err fault) = Err fault
 
--- What the line of this number means: nothing, what it says, or the kind of its fault.
-unfoldable pub meaning : (line : ℕ) → List ℕ → Result (Option Said) FaultKind
+-- What the line of this number means: nothing, what it says, or its fault.
+unfoldable pub meaning : (line : ℕ) → List ℕ → Result (Option Said) ScriptFault
 meaning line bytes = if is_passed_over bytes then Ok None else some_said (line_of line bytes)
 
 -- ------ ranges

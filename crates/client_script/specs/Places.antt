@@ -6,6 +6,7 @@ use Rattle.filter_match.specs.Places.{filter_with}
 use Rattle.text_forms.specs.Places.{place_named}
 use Rattle.client_script.specs.Words.{Reading, and_then, mapped, or_fault}
 use Rattle.client_script.specs.declared.fault.FaultKind.TheVariants.{Bytes}
+use Rattle.client_script.specs.declared.wanted.Wanted.TheVariants.{Byte}
 
 -- The places that the words at the front spell, of at most `left` words. Each has a greater number than the one
 -- before, and the first has `least` or more.
@@ -13,7 +14,7 @@ unfoldable pub places_in : (left least : ℕ) → List (List ℕ) → Reading (L
 places_in zero least words = Ok ([], words)
 places_in (suc left) least [] = Ok ([], [])
 places_in (suc left) least (word ∷ words) =
-    and_then (or_fault Bytes (place_named least word) words) (λ place words.
+    and_then (or_fault Bytes (Byte least) (place_named least word) words) (λ place words.
     and_then (places_in left (place.number + 1) words) (λ places words.
     Ok (place ∷ places, words)))
 

@@ -17,6 +17,7 @@ use Rattle.text_forms.specs.Hex.{hex_bytes}
 use Rattle.text_forms.specs.Words.{is_word}
 use Rattle.client_script.specs.Words.{Reading, and_then, or_fault, next_as}
 use Rattle.client_script.specs.declared.fault.FaultKind.TheVariants.{Number, Name, Bytes}
+use Rattle.client_script.specs.declared.wanted.Wanted.TheVariants.{Request as RequestNumber, Argument}
 use Rattle.client_script.specs.declared.line.Verb.{Verb}
 use Rattle.client_script.specs.declared.line.Verb.TheVariants.{Once, GetStc}
 use Rattle.client_script.specs.declared.line.Want.{Want}
@@ -84,17 +85,18 @@ known_number number = option_map (λ len. number) (argument_len number)
 -- the number of a request; one that no request has is a fault of the name
 unfoldable pub request_number_in : List (List ℕ) → Reading ℕ
 request_number_in words =
-    and_then (next_as Number request_number words) (λ number words. or_fault Name (known_number number) words)
+    and_then (next_as Number RequestNumber request_number words) (λ number words.
+    or_fault Name RequestNumber (known_number number) words)
 
 -- the request of this number with the argument in the next word
 unfoldable pub request_in : (number : ℕ) → List (List ℕ) → Reading Request
 request_in number words =
-    and_then (next_as Bytes argument_named words) (λ argument words.
-    or_fault Bytes (result_ok (decoded number argument)) words)
+    and_then (next_as Bytes (Argument number) argument_named words) (λ argument words.
+    or_fault Bytes (Argument number) (result_ok (decoded number argument)) words)
 
 -- `REQ ARG`
 unfoldable pub ioctl_in : List (List ℕ) → Reading Verb
 ioctl_in words =
     and_then (request_number_in words) (λ number words.
     and_then (request_in number words) (λ request words.
-    or_fault Name (verb_of request) words))
+    or_fault Name (Argument number) (verb_of request) words))

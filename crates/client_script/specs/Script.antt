@@ -10,7 +10,6 @@ use Rattle.client_script.specs.declared.said.Said.TheVariants.{Asks, Writes}
 use Rattle.client_script.specs.declared.line.Target.TheVariants.{Dvr}
 use Rattle.client_script.specs.declared.line.Verb.{Verb}
 use Rattle.client_script.specs.declared.line.Verb.TheVariants.{Write}
-use Rattle.client_script.specs.declared.fault.FaultKind.{FaultKind}
 use Rattle.client_script.specs.declared.fault.FaultKind.TheVariants.{NoStream}
 use Rattle.client_script.specs.declared.fault.ScriptFault.{ScriptFault}
 use Rattle.client_script.specs.declared.fault.ScriptError.{ScriptError}
@@ -85,7 +84,7 @@ lines_from missing line s [] = Err missing
 lines_from missing line s (bytes ∷ more) =
     if is_stream bytes then Ok s
     else (elim (meaning line bytes) [
-      | Err kind ↦ Err (record { line = line; kind = kind })
+      | Err fault ↦ Err fault
       | Ok said ↦ lines_from missing (line + 1) (with_said said s) more
     ])
 
@@ -93,7 +92,7 @@ lines_from missing line s (bytes ∷ more) =
 -- `stream`, and none has a fault, the fault is in the line 1 plus the number of line feeds.
 unfoldable pub grammar : List ℕ → Parsed
 grammar bytes =
-    let missing : ScriptFault = record { line = 1 + count_by (λ byte. byte == 10) bytes; kind = NoStream } in
+    let missing : ScriptFault = record { line = 1 + count_by (λ byte. byte == 10) bytes; kind = NoStream; word = None } in
     lines_from missing 1 (plain []) (whole_lines bytes)
 
 -- ------ what is known of a script

@@ -1,5 +1,5 @@
 -- The bytes that a client writes to the dvr device by one line (this project's own).
-use Rattle.std.specs.Prelude.{ℕ, ◌≤◌, ◌<◌, ◌==◌, List, length, Option, Some, None, if◌then◌else◌}
+use Rattle.std.specs.Prelude.{ℕ, ◌≤◌, ◌<◌, ◌==◌, List, length, Option, None, if◌then◌else◌}
 use Rattle.std.specs.List.{All}
 use Rattle.text_forms.specs.Hex.{hex_bytes}
 

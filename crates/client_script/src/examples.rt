@@ -1,7 +1,7 @@
 // Worked examples: what the grammar gives for lines and scripts that were worked out by hand from the rules. Each is a
 // clause of a function that does nothing, so the check computes it.
 
-ghost use Rattle.client_script.specs.Examples.{OneWord, PassedOver, FeedsAndTicks, Commands, PesFilter, SectionFilter, Requests, ClientFaults, CommandFaults, TargetFaults, NumberFaults, NameFaults, BytesFaults, CountFaults, RequestFaults, Writing, WriteFaults, ThirdLine, LinesBehindTheStream, TwoWriters, NoBytes, LineWithoutItsEnd, FaultBeforeTheEnd, InputWithAStream, InputWithoutAStream, Spellings, SectionSpelling, PesSpelling, StcSpelling, WriteSpelling};
+ghost use Rattle.client_script.specs.Examples.{OneWord, PassedOver, FeedsAndTicks, Commands, PesFilter, SectionFilter, Requests, FaultPlaces, ClientFaults, CommandFaults, TargetFaults, NumberFaults, NameFaults, BytesFaults, CountFaults, RequestFaults, Writing, WriteFaults, ThirdLine, LinesBehindTheStream, TwoWriters, NoBytes, LineWithoutItsEnd, FaultBeforeTheEnd, InputWithAStream, InputWithoutAStream, Spellings, SectionSpelling, PesSpelling, StcSpelling, WriteSpelling};
 
 /// What words spell, and what lines ask for.
 pub fn lines()
@@ -15,8 +15,9 @@ pub fn lines()
     ensures writing { Writing }
 {}
 
-/// The kinds of faults.
+/// The kinds of faults, and their words.
 pub fn kinds()
+    ensures places { FaultPlaces }
     ensures client { ClientFaults }
     ensures command { CommandFaults }
     ensures target { TargetFaults }

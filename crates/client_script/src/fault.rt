@@ -2,6 +2,7 @@
 ghost use Rattle.std.specs.Prelude.{◌≡◌};
 ghost use Rattle.client_script.specs.declared.fault.ScriptError.TheVariants.{NoMemory as WantOfMemory};
 
+use crate::wanted::Wanted;
 use std::alloc::{AllocError, AllocFailed};
 use thiserror::Error;
 
@@ -35,7 +36,16 @@ pub enum FaultKind {
     NoStream,
 }
 
-/// A script's first fault, and the number of its line.
+/// The word at a fault of a line.
+#[derive(Clone, Copy, Debug, PartialEq, Eq, Drop)]
+pub struct FaultyWord {
+    /// Its number in the line, from 1 on; where a word is missing, the number that it would have.
+    pub number: usize,
+    /// What its place asks for.
+    pub wanted: Wanted,
+}
+
+/// A script's first fault, the number of its line, and the word.
 #[derive(Clone, Copy, Debug, PartialEq, Eq, Drop, Error)]
 #[error("script line {line}: {kind}")]
 pub struct ScriptFault {
@@ -43,6 +53,8 @@ pub struct ScriptFault {
     pub line: u32,
     /// What is wrong.
     pub kind: FaultKind,
+    /// The word; None for `NoStream`, which is the fault of no line.
+    pub word: Option<FaultyWord>,
 }
 
 /// Why a script isn't read.

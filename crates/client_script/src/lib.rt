@@ -7,13 +7,13 @@
 //! comments (`#`) are passed over.
 //!
 //! What a contract sees: a `Script` as what it says, a `Scripted`: the list of its lines, each a `Line` of the code, and for each
-//! client the bytes of its writes, in the order of their lines, by whose numbers the lines name them; and a fault as its line
-//! and kind.
+//! client the bytes of its writes, in the order of their lines, by whose numbers the lines name them; and a fault as its line,
+//! its kind, the number of its word and what the word's place asks for.
 //! The grammar is `grammar` of `specs/Script.antt`: from bytes to what they say or to the first fault. It stands on `meaning`
 //! of one line (`specs/Grammar.antt`), where each word is asked for by its place (`specs/Words.antt`, `specs/Places.antt`,
 //! `specs/Requests.antt`, `specs/Writes.antt`).
-//! The first word that isn't what its place asks names the kind of the fault; a missing word and a word too many are
-//! `Count`. A line has one `spelling` (`specs/Spelling.antt`): a request that asks for a call is spelled as the command of that
+//! The first word that isn't what its place asks is the word of the fault, and names its kind; a missing word and a word too many
+//! are `Count`. A line has one `spelling` (`specs/Spelling.antt`): a request that asks for a call is spelled as the command of that
 //! call. `split` says how a session's input falls into its script
 //! part and its stream. The spellings of numbers, names and filter bytes are those of `text_forms`.
 //!
@@ -23,8 +23,8 @@
 //! has 1 to 12,032 bytes. `Script::written` gives the bytes of a client's write, and `Script::writes` how many there are.
 //! `Script::clients` is 1 plus the highest client that a line names, or 0. `print` appends the spelling of a line, a write with
 //! its bytes, and where memory is refused the bytes are as they were. A `ScriptPart` is the bytes that were added to it, and its
-//! `end` tells where the first whole line `stream` ends. `want_of` and `verb_of` are what a request asks, and `request_number`,
-//! `argument_named` and `written_named` what words spell. A want's and a verb's `name` is its text in
+//! `end` tells where the first whole line `stream` ends. `want_of` is what a request asks, and `request_number` and
+//! `argument_named` are what words spell. A want's and a verb's `name` is its text in
 //! `specs/Spelling.antt`. What the grammar gives for lines and scripts worked out by hand are the
 //! clauses of `examples`, computed by the check.
 //!
@@ -57,17 +57,18 @@ mod said;
 mod script;
 mod spelling;
 mod verbs;
+mod wanted;
 mod words;
 mod writes;
 
-pub use fault::{FaultKind, ScriptError, ScriptFault};
+pub use fault::{FaultKind, FaultyWord, ScriptError, ScriptFault};
 pub use laws::{
     each_write_has_its_line, nothing_behind_the_stream_is_examined, printed_lines_are_read_again,
     the_script_part_ends_with_its_line_stream, without_a_line_stream_all_bytes_are_the_script_part,
 };
 pub use line::{Line, Target, Verb, Want};
 pub use part::ScriptPart;
-pub use requests::{Argument, argument_named, request_number, verb_of, want_of};
-pub use said::{MOST_WRITTEN, Written, written_named};
+pub use requests::{Argument, argument_named, request_number, want_of};
 pub use script::{MOST_BYTES, Script};
 pub use spelling::print;
+pub use wanted::{NumberName, Wanted};

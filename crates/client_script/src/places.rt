@@ -5,6 +5,7 @@ ghost use Rattle.client_script.specs.Places.{filter_in};
 ghost use Rattle.client_script.specs.Words.{Reads};
 
 use crate::fault::FaultKind;
+use crate::wanted::{Wanted, WordFault};
 use crate::words::Words;
 use filter_match::SectionFilter;
 use text_forms::place_named;
@@ -14,7 +15,7 @@ const PLACES: u32 = 16;
 
 /// The filter that the words at the front spell.
 #[tactic(auto, unfolding(crate::specs::Places::filter_in))]
-pub fn read_filter(words: &mut Words<'_>) -> Result<SectionFilter, FaultKind>
+pub fn read_filter(words: &mut Words<'_>) -> Result<SectionFilter, WordFault>
     ensures value { Reads result words.new (filter_in words.old) }
     ensures range { IfOk result IsFilter }
 {
@@ -25,7 +26,7 @@ pub fn read_filter(words: &mut Words<'_>) -> Result<SectionFilter, FaultKind>
             return Ok(filter);
         };
         let Some(place) = place_named(least, word) else {
-            return Err(FaultKind::Bytes);
+            return Err(Wanted::Byte(least).fault(FaultKind::Bytes));
         };
         filter.set(place);
         least = place.number + 1;

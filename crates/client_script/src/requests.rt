@@ -8,6 +8,7 @@ ghost use Rattle.client_script.specs.Requests.{input_of as input_by, output_of a
 
 use crate::fault::FaultKind;
 use crate::line::{Verb, Want};
+use crate::wanted::{Wanted, WordFault};
 use crate::words::Words;
 use arrayvec::ArrayVec;
 use byteorder::{BigEndian, ByteOrder};
@@ -160,34 +161,38 @@ pub fn argument_named(word: &[u8]) -> Option<Argument>
 
 // The number of a request.
 #[tactic(auto, unfolding(crate::specs::Requests::request_number_in))]
-fn read_number(words: &mut Words<'_>) -> Result<u32, FaultKind>
+fn read_number(words: &mut Words<'_>) -> Result<u32, WordFault>
     ensures { Reads result words.new (request_number_in words.old) }
 {
-    let word = words.word()?;
-    let number = request_number(word).ok_or(FaultKind::Number)?;
+    let wanted = Wanted::Request;
+    let word = words.word(wanted)?;
+    let number = request_number(word).ok_or(wanted.fault(FaultKind::Number))?;
     if argument_len(number).is_none() {
-        return Err(FaultKind::Name);
+        return Err(wanted.fault(FaultKind::Name));
     }
     Ok(number)
 }
 
 // The request of this number with the argument in the next word.
 #[tactic(auto, unfolding(crate::specs::Requests::request_in))]
-fn read_request(number: u32, words: &mut Words<'_>) -> Result<Request, FaultKind>
+fn read_request(number: u32, words: &mut Words<'_>) -> Result<Request, WordFault>
     ensures { Reads result words.new (request_in number words.old) }
 {
-    let word = words.word()?;
-    let argument = argument_named(word).ok_or(FaultKind::Bytes)?;
-    decode(number, &argument).ok().ok_or(FaultKind::Bytes)
+    let wanted = Wanted::Argument(number);
+    let word = words.word(wanted)?;
+    let argument = argument_named(word).ok_or(wanted.fault(FaultKind::Bytes))?;
+    decode(number, &argument)
+        .ok()
+        .ok_or(wanted.fault(FaultKind::Bytes))
 }
 
 /// What the words of a request ask for.
 #[tactic(auto, unfolding(crate::specs::Requests::ioctl_in))]
-pub fn read_ioctl(words: &mut Words<'_>) -> Result<Verb, FaultKind>
+pub fn read_ioctl(words: &mut Words<'_>) -> Result<Verb, WordFault>
     ensures value { Reads result words.new (ioctl_in words.old) }
     ensures range { IfOk result IsVerbInRange }
 {
     let number = read_number(words)?;
     let request = read_request(number, words)?;
-    verb_of(request).ok_or(FaultKind::Name)
+    verb_of(request).ok_or(Wanted::Argument(number).fault(FaultKind::Name))
 }

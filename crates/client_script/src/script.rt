@@ -1,7 +1,8 @@
 // The lines of a whole script.
 ghost use Rattle.std.specs.Prelude.{◌≡◌, ◌+◌, ◌<◌, ◌≤◌, ◌∷◌, ◌++◌, [], length, IfOk, IfErr, IfSome, OnOk, MatchOption};
 ghost use Rattle.std.specs.List.{All};
-ghost use Rattle.client_script.specs.Grammar.{line_of as line_by_grammar, meaning as meaning_of, is_passed_over, IsInRange, IsPlain, IsSaidInRange};
+ghost use Rattle.client_script.specs.Words.{Reads};
+ghost use Rattle.client_script.specs.Grammar.{whole_in, line_of as line_by_grammar, meaning as meaning_of, is_passed_over, IsInRange, IsPlain, IsSaidInRange};
 ghost use Rattle.client_script.specs.Writes.{IsWritten};
 ghost use Rattle.client_script.specs.Script.{whole_lines, grammar, most_bytes, clients_of, clients_in, plain, writes_of, written_by, with_said, with_write, IsScript, IsRead};
 
@@ -10,6 +11,7 @@ use crate::line::{Line, Target, Verb};
 use crate::pieces::cut_at;
 use crate::said::Said;
 use crate::verbs::read_words;
+use crate::wanted::{Wanted, WordFault};
 use crate::words::Words;
 use crate::writes::ClientWrites;
 use std::alloc::Global;
@@ -46,24 +48,40 @@ fn passes_over(line: &[u8]) -> bool
     }
 }
 
+// What all words of a line say.
+fn read_whole<'a>(number: u32, words: &mut Words<'a>) -> Result<Said<'a>, WordFault>
+    requires { (1 ≤ number) × (number ≤ 1048576) }
+    ensures value { Reads result words.new (whole_in number words.old) }
+    ensures range { IfOk result IsSaidInRange }
+{
+    let said = read_words(number, words)?;
+    if words.count() == 0 {
+        Ok(said)
+    } else {
+        Err(Wanted::End.fault(FaultKind::Count))
+    }
+}
+
 // What a line says.
 #[tactic(auto, unfolding(crate::specs::Grammar::line_of))]
-fn read_line(number: u32, line: &[u8]) -> Result<Said<'_>, FaultKind>
+fn read_line(number: u32, line: &[u8]) -> Result<Said<'_>, ScriptFault>
     requires { (1 ≤ number) × (number ≤ 1048576) }
     ensures value { result ≡ line_by_grammar number line.now }
     ensures range { IfOk result IsSaidInRange }
 {
     let mut words = Words::of(line);
-    let said = read_words(number, &mut words)?;
-    match words.next() {
-        None => Ok(said),
-        Some(_) => Err(FaultKind::Count),
+    match read_whole(number, &mut words) {
+        Ok(said) => Ok(said),
+        Err(fault) => {
+            let read = Words::of(line).count().saturating_sub(words.count());
+            Err(fault.in_line(number, read))
+        }
     }
 }
 
 // What a line means: nothing, or what it says.
 #[tactic(auto, unfolding(crate::specs::Grammar::meaning))]
-fn meaning(number: u32, line: &[u8]) -> Result<Option<Said<'_>>, FaultKind>
+fn meaning(number: u32, line: &[u8]) -> Result<Option<Said<'_>>, ScriptFault>
     requires { (1 ≤ number) × (number ≤ 1048576) }
     ensures value { result ≡ meaning_of number line.now }
     ensures range { IfOk result (λ said. IfSome said IsSaidInRange) }
@@ -82,13 +100,6 @@ fn next_line(bytes: &[u8]) -> Option<(&[u8], &[u8])>
 {
     let (line, behind) = cut_at(b'\n', bytes);
     Some((line, behind?))
-}
-
-// The fault of this kind in this line.
-fn fault(line: u32, kind: FaultKind) -> ScriptError
-    ensures { result ≡ ScriptError.Fault (record { line = line; kind = kind }) }
-{
-    ScriptError::Fault(ScriptFault { line, kind })
 }
 
 // How many clients there are up to the one that a line names.
@@ -190,7 +201,7 @@ impl Script {
     ///
     /// # Errors
     ///
-    /// `Fault` exactly where the grammar names that line and kind, and `NoMemory`.
+    /// `Fault` exactly where the grammar names that fault, and `NoMemory`.
     pub fn read(alloc: Global, bytes: &[u8]) -> Result<Script, ScriptError>
         requires { length bytes.now ≤ most_bytes }
         ensures { IsRead result (grammar bytes.now) }
@@ -204,12 +215,16 @@ impl Script {
             }
             match meaning(number, line) {
                 Ok(said) => script.add(alloc, said)?,
-                Err(kind) => return Err(fault(number, kind)),
+                Err(fault) => return Err(ScriptError::Fault(fault)),
             }
             number += 1;
             rest = behind;
         }
-        Err(fault(number, FaultKind::NoStream))
+        Err(ScriptError::Fault(ScriptFault {
+            line: number,
+            kind: FaultKind::NoStream,
+            word: None,
+        }))
     }
 
     /// How many writes a client makes.

@@ -4,6 +4,9 @@ ghost use Rattle.text_forms.specs.Words.{input_named as input_of_word, output_na
 ghost use Rattle.client_script.specs.Words.{Reads, next_as};
 ghost use Rattle.client_script.specs.Grammar.{number_in, pid_in, count_in, target_of, name_of, section_in, pes_in, verb_in, command_in, dvr_named, write_in, asked_in, line_in, IsWantInRange, IsVerbInRange, IsTargetInRange, IsInRange, IsSaidInRange};
 ghost use Rattle.client_script.specs.declared.fault.FaultKind.TheVariants.{Name as NoName, Target as NoTarget, Command as NoCommand};
+ghost use Rattle.dmx_calls.specs.declared.limits.TheConstants.{LARGEST_READ as MOST_READ};
+ghost use Rattle.client_script.specs.declared.wanted.NumberName.TheVariants.{N as CountName};
+ghost use Rattle.client_script.specs.declared.wanted.Wanted.TheVariants.{Input as InputWanted, Output as OutputWanted, Target as TargetWanted, Dvr as DvrWanted};
 
 use crate::fault::FaultKind;
 use crate::line::{Line, Target, Verb, Want};
@@ -11,73 +14,88 @@ use crate::names::{CommandName, command_named, target_named};
 use crate::places::read_filter;
 use crate::requests::read_ioctl;
 use crate::said::{Said, written_named};
+use crate::wanted::{NumberName, Wanted, WordFault};
 use crate::words::Words;
 use dmx_calls::limits::LARGEST_READ;
 use dmx_calls::{Input, Output, PesParams, SectionParams};
 use text_forms::{client_named, input_named, is_word, number_between, output_named};
 
-// A number from `least` to `most`.
+// A number of this name from `least` to `most`.
 #[tactic(auto, unfolding(crate::specs::Grammar::number_in))]
-fn read_number(least: u32, most: u32, words: &mut Words<'_>) -> Result<u32, FaultKind>
-    ensures value { Reads result words.new (number_in least most words.old) }
+fn read_number(
+    name: NumberName,
+    least: u32,
+    most: u32,
+    words: &mut Words<'_>,
+) -> Result<u32, WordFault>
+    ensures value { Reads result words.new (number_in name least most words.old) }
     ensures bound { IfOk result (λ n. (least ≤ n) × (n ≤ most)) }
 {
-    let word = words.word()?;
-    let n = number_between(least as u64, most as u64, word).ok_or(FaultKind::Number)?;
+    let wanted = Wanted::Number { name, least, most };
+    let word = words.word(wanted)?;
+    let n = number_between(least as u64, most as u64, word).ok_or(wanted.fault(FaultKind::Number))?;
     Ok(n as u32)
 }
 
 // A PID.
-fn read_pid(words: &mut Words<'_>) -> Result<u16, FaultKind>
+fn read_pid(words: &mut Words<'_>) -> Result<u16, WordFault>
     ensures value { Reads result words.new (pid_in words.old) }
     ensures bound { IfOk result (λ pid. pid ≤ 65535) }
 {
-    let pid = read_number(0, u16::MAX as u32, words)?;
+    let pid = read_number(NumberName::Pid, 0, u16::MAX as u32, words)?;
     Ok(pid as u16)
 }
 
-// A number of 32 bits.
-fn read_count(words: &mut Words<'_>) -> Result<u32, FaultKind>
-    ensures value { Reads result words.new (count_in words.old) }
+// A number of this name, of 32 bits.
+fn read_count(name: NumberName, words: &mut Words<'_>) -> Result<u32, WordFault>
+    ensures value { Reads result words.new (count_in name words.old) }
     ensures bound { IfOk result (λ n. n ≤ 4294967295) }
 {
-    read_number(0, u32::MAX, words)
+    read_number(name, 0, u32::MAX, words)
+}
+
+// How many bytes a read asks for.
+fn read_length(words: &mut Words<'_>) -> Result<u32, WordFault>
+    ensures value { Reads result words.new (number_in CountName 0 MOST_READ words.old) }
+    ensures bound { IfOk result (λ n. n ≤ MOST_READ) }
+{
+    read_number(NumberName::N, 0, LARGEST_READ, words)
 }
 
 // Where a filter's packets come from.
-fn read_input(words: &mut Words<'_>) -> Result<Input, FaultKind>
-    ensures { Reads result words.new (next_as NoName input_of_word words.old) }
+fn read_input(words: &mut Words<'_>) -> Result<Input, WordFault>
+    ensures { Reads result words.new (next_as NoName InputWanted input_of_word words.old) }
 {
-    let word = words.word()?;
-    input_named(word).ok_or(FaultKind::Name)
+    let word = words.word(Wanted::Input)?;
+    input_named(word).ok_or(Wanted::Input.fault(FaultKind::Name))
 }
 
 // Where a filter's items go.
-fn read_output(words: &mut Words<'_>) -> Result<Output, FaultKind>
-    ensures { Reads result words.new (next_as NoName output_of_word words.old) }
+fn read_output(words: &mut Words<'_>) -> Result<Output, WordFault>
+    ensures { Reads result words.new (next_as NoName OutputWanted output_of_word words.old) }
 {
-    let word = words.word()?;
-    output_named(word).ok_or(FaultKind::Name)
+    let word = words.word(Wanted::Output)?;
+    output_named(word).ok_or(Wanted::Output.fault(FaultKind::Name))
 }
 
 // The target of a command.
-fn read_target(words: &mut Words<'_>) -> Result<Target, FaultKind>
-    ensures value { Reads result words.new (next_as NoTarget target_of words.old) }
+fn read_target(words: &mut Words<'_>) -> Result<Target, WordFault>
+    ensures value { Reads result words.new (next_as NoTarget TargetWanted target_of words.old) }
     ensures range { IfOk result IsTargetInRange }
 {
-    let word = words.word()?;
-    target_named(word).ok_or(FaultKind::Target)
+    let word = words.word(Wanted::Target)?;
+    target_named(word).ok_or(Wanted::Target.fault(FaultKind::Target))
 }
 
 // The call that sets a section filter.
 #[tactic(auto, unfolding(crate::specs::Grammar::section_in))]
-fn read_section(words: &mut Words<'_>) -> Result<Want, FaultKind>
+fn read_section(words: &mut Words<'_>) -> Result<Want, WordFault>
     ensures value { Reads result words.new (section_in words.old) }
     ensures range { IfOk result IsWantInRange }
 {
     let pid = read_pid(words)?;
-    let timeout = read_count(words)?;
-    let flags = read_count(words)?;
+    let timeout = read_count(NumberName::Timeout, words)?;
+    let flags = read_count(NumberName::Flags, words)?;
     let filter = read_filter(words)?;
     Ok(Want::Section(SectionParams {
         pid,
@@ -89,15 +107,15 @@ fn read_section(words: &mut Words<'_>) -> Result<Want, FaultKind>
 
 // The call that sets a PES filter.
 #[tactic(auto, unfolding(crate::specs::Grammar::pes_in))]
-fn read_pes(words: &mut Words<'_>) -> Result<Want, FaultKind>
+fn read_pes(words: &mut Words<'_>) -> Result<Want, WordFault>
     ensures value { Reads result words.new (pes_in words.old) }
     ensures range { IfOk result IsWantInRange }
 {
     let pid = read_pid(words)?;
     let input = read_input(words)?;
     let output = read_output(words)?;
-    let pes_type = read_count(words)?;
-    let flags = read_count(words)?;
+    let pes_type = read_count(NumberName::PesType, words)?;
+    let flags = read_count(NumberName::Flags, words)?;
     Ok(Want::Pes(PesParams {
         pid,
         input,
@@ -109,7 +127,7 @@ fn read_pes(words: &mut Words<'_>) -> Result<Want, FaultKind>
 
 // What a command of this name asks for.
 #[tactic(auto, unfolding(crate::specs::Grammar::verb_in))]
-fn read_verb(name: CommandName, words: &mut Words<'_>) -> Result<Verb, FaultKind>
+fn read_verb(name: CommandName, words: &mut Words<'_>) -> Result<Verb, WordFault>
     ensures value { Reads result words.new (verb_in name words.old) }
     ensures range { IfOk result IsVerbInRange }
 {
@@ -122,10 +140,10 @@ fn read_verb(name: CommandName, words: &mut Words<'_>) -> Result<Verb, FaultKind
         CommandName::Remove => Ok(Verb::Once(Want::Remove(read_pid(words)?))),
         CommandName::Start => Ok(Verb::Once(Want::Start)),
         CommandName::Stop => Ok(Verb::Once(Want::Stop)),
-        CommandName::Size => Ok(Verb::Once(Want::Size(read_count(words)?))),
-        CommandName::Read => Ok(Verb::Once(Want::Read(read_number(0, LARGEST_READ, words)?))),
-        CommandName::ReadWait => Ok(Verb::ReadWait(read_number(0, LARGEST_READ, words)?)),
-        CommandName::Drain => Ok(Verb::Drain(read_number(0, LARGEST_READ, words)?)),
+        CommandName::Size => Ok(Verb::Once(Want::Size(read_count(NumberName::N, words)?))),
+        CommandName::Read => Ok(Verb::Once(Want::Read(read_length(words)?))),
+        CommandName::ReadWait => Ok(Verb::ReadWait(read_length(words)?)),
+        CommandName::Drain => Ok(Verb::Drain(read_length(words)?)),
         CommandName::Poll => Ok(Verb::Once(Want::Poll)),
         CommandName::Ioctl => read_ioctl(words),
     }
@@ -133,28 +151,28 @@ fn read_verb(name: CommandName, words: &mut Words<'_>) -> Result<Verb, FaultKind
 
 // The target of a write.
 #[tactic(auto, unfolding(crate::specs::Grammar::dvr_named))]
-fn read_dvr(words: &mut Words<'_>) -> Result<Target, FaultKind>
-    ensures { Reads result words.new (next_as NoTarget dvr_named words.old) }
+fn read_dvr(words: &mut Words<'_>) -> Result<Target, WordFault>
+    ensures { Reads result words.new (next_as NoTarget DvrWanted dvr_named words.old) }
 {
-    let word = words.word()?;
+    let word = words.word(Wanted::Dvr)?;
     if is_word(word, "dvr") {
         Ok(Target::Dvr)
     } else {
-        Err(FaultKind::Target)
+        Err(Wanted::Dvr.fault(FaultKind::Target))
     }
 }
 
 // What a client writes.
 #[tactic(auto, unfolding(crate::specs::Grammar::write_in))]
-fn read_write<'a>(line: u32, client: u32, words: &mut Words<'a>) -> Result<Said<'a>, FaultKind>
+fn read_write<'a>(line: u32, client: u32, words: &mut Words<'a>) -> Result<Said<'a>, WordFault>
     requires number { (1 ≤ line) × (line ≤ 1048576) }
     requires client { client ≤ 7 }
     ensures value { Reads result words.new (write_in line client words.old) }
     ensures range { IfOk result IsSaidInRange }
 {
     read_dvr(words)?;
-    let word = words.word()?;
-    let bytes = written_named(word).ok_or(FaultKind::Bytes)?;
+    let word = words.word(Wanted::Written)?;
+    let bytes = written_named(word).ok_or(Wanted::Written.fault(FaultKind::Bytes))?;
     Ok(Said::Writes {
         line,
         client,
@@ -169,13 +187,13 @@ fn read_command(
     client: u32,
     name: Option<CommandName>,
     words: &mut Words<'_>,
-) -> Result<Line, FaultKind>
+) -> Result<Line, WordFault>
     requires number { (1 ≤ line) × (line ≤ 1048576) }
     requires client { client ≤ 7 }
     ensures value { Reads result words.new (command_in line client name words.old) }
     ensures range { IfOk result IsInRange }
 {
-    let name = name.ok_or(FaultKind::Command)?;
+    let name = name.ok_or(Wanted::Command.fault(FaultKind::Command))?;
     let target = read_target(words)?;
     let verb = read_verb(name, words)?;
     Ok(Line::Command {
@@ -188,13 +206,13 @@ fn read_command(
 
 // What stands behind the client.
 #[tactic(auto, unfolding(crate::specs::Grammar::asked_in))]
-fn read_asked<'a>(line: u32, client: u32, words: &mut Words<'a>) -> Result<Said<'a>, FaultKind>
+fn read_asked<'a>(line: u32, client: u32, words: &mut Words<'a>) -> Result<Said<'a>, WordFault>
     requires number { (1 ≤ line) × (line ≤ 1048576) }
     requires client { client ≤ 7 }
     ensures value { Reads result words.new (asked_in line client words.old) }
     ensures range { IfOk result IsSaidInRange }
 {
-    let word = words.word()?;
+    let word = words.word(Wanted::Command)?;
     if is_word(word, "write") {
         return read_write(line, client, words);
     }
@@ -204,18 +222,18 @@ fn read_asked<'a>(line: u32, client: u32, words: &mut Words<'a>) -> Result<Said<
 
 /// What the words at the front say.
 #[tactic(auto, unfolding(crate::specs::Grammar::line_in))]
-pub fn read_words<'a>(line: u32, words: &mut Words<'a>) -> Result<Said<'a>, FaultKind>
+pub fn read_words<'a>(line: u32, words: &mut Words<'a>) -> Result<Said<'a>, WordFault>
     requires { (1 ≤ line) × (line ≤ 1048576) }
     ensures value { Reads result words.new (line_in line words.old) }
     ensures range { IfOk result IsSaidInRange }
 {
-    let first = words.word()?;
+    let first = words.word(Wanted::First)?;
     if is_word(first, "feed") {
-        return Ok(Said::Asks(Line::Feed(read_number(1, u32::MAX, words)?)));
+        return Ok(Said::Asks(Line::Feed(read_number(NumberName::N, 1, u32::MAX, words)?)));
     }
     if is_word(first, "tick") {
-        return Ok(Said::Asks(Line::Tick(read_count(words)?)));
+        return Ok(Said::Asks(Line::Tick(read_count(NumberName::N, words)?)));
     }
-    let client = client_named(first).ok_or(FaultKind::Client)?;
+    let client = client_named(first).ok_or(Wanted::First.fault(FaultKind::Client))?;
     read_asked(line, client, words)
 }

@@ -1,10 +1,19 @@
 // The words of a line, one after another.
-ghost use Rattle.std.specs.Prelude.{◌≡◌, [], ◌∷◌, MatchOption, MatchResult};
+ghost use Rattle.std.specs.Prelude.{◌≡◌, ◌<◌, ◌-◌, ◌^◌, ◌==◌, [], ◌∷◌, length, count_by, MatchOption, MatchResult};
 ghost use Rattle.client_script.specs.Words.{words_of, word_in};
 
 use crate::fault::FaultKind;
 use crate::pieces::cut_at;
+use crate::wanted::{Wanted, WordFault};
 use std::marker::Model;
+
+// How many spaces there are.
+fn spaces(bytes: &[u8]) -> usize
+    ensures count { result ≡ count_by (λ byte. byte == 32) bytes.now }
+    ensures bound { result < 2 ^ 64 - 2 }
+{
+    bytes.iter().filter(|byte| **byte == b' ').count()
+}
 
 /// The words of a line that are still to be read.
 #[derive(Drop)]
@@ -40,11 +49,22 @@ impl<'a> Words<'a> {
         Some(word)
     }
 
-    /// The word in the next place.
+    /// The word in the next place, which asks for this.
     #[tactic(auto, unfolding(crate::specs::Words::word_in))]
-    pub fn word(&mut self) -> Result<&'a [u8], FaultKind>
-        ensures { MatchResult result (λ word. word_in self.old ≡ Ok (word.now, self.new)) (λ kind. word_in self.old ≡ Err kind) }
+    pub fn word(&mut self, wanted: Wanted) -> Result<&'a [u8], WordFault>
+        ensures { MatchResult result (λ word. word_in wanted self.old ≡ Ok (word.now, self.new)) (λ fault. word_in wanted self.old ≡ Err (fault, self.new)) }
     {
-        self.next().ok_or(FaultKind::Count)
+        self.next().ok_or(wanted.fault(FaultKind::Count))
+    }
+
+    /// How many words are left.
+    pub fn count(&self) -> usize
+        ensures count { result ≡ length self.now }
+        ensures bound { result < 2 ^ 64 - 1 }
+    {
+        match self.rest {
+            None => 0,
+            Some(rest) => spaces(rest) + 1,
+        }
     }
 }

@@ -77,8 +77,7 @@ fn lines(rt: &HostRuntime, status: Status, script: Option<&[u8]>) {
     let name = status.name();
     match status {
         Status::Ok => {}
-        Status::Script { line, kind } => {
-            let fault = ScriptFault { line, kind };
+        Status::Script(fault) => {
             let _ = eprintln!(rt; "dvbemu: {fault}");
             explain(rt, script, fault);
         }

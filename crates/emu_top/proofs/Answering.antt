@@ -10,7 +10,7 @@ keeps (Some xs) = refl
 
 pub says_refused : (out : Output) (x y : SourceEnd) (w : SinkEnd) (status : Status) → Refuses x y status → Says out (outside x w) (outside y w) status
 says_refused out x y w Usage r = r
-says_refused out x y w (Script line kind) r = (r, (keeps w.written, refl))
+says_refused out x y w (Script fault) r = (r, (keeps w.written, refl))
 says_refused out x y w (TooLong turns) r = (r, (keeps w.written, refl))
 says_refused out x y w ReadFault r = (refl, inr (r, keeps w.written))
 says_refused out x y w WriteFault r = absurd r
@@ -23,7 +23,7 @@ says_refused out x y w (Wrong fault) r = absurd r
 pub says_written : (out : Output) (x y : SourceEnd) (w v : SinkEnd) (failed : Bool) (text : List ℕ) (status : Status)
     → Makes out x y failed text → HasWritten failed text w v status → Says out (outside x w) (outside y v) status
 says_written out x y w v failed text Usage m h = absurd h
-says_written out x y w v failed text (Script line kind) m h = absurd h
+says_written out x y w v failed text (Script fault) m h = absurd h
 says_written out x y w v failed text (TooLong turns) m h = absurd h
 says_written out x y w v failed text ReadFault m (is, written, steady) = (steady, inl (text, subst (λ b. Makes out x y b text) is m, written))
 says_written out x y w v failed text WriteFault m (count, part, written, rose) =
@@ -55,7 +55,7 @@ module _ (left : Left) (became : List (List Outcome)) (same : became ≡ map (λ
 says_reported : (out : Output) (x y : SourceEnd) (w v : SinkEnd) (left : Left) (status : Status)
     → Makes out x y left.head.read_fault (report_over left) → HasReported left w v status → Says out (outside x w) (outside y v) status
 says_reported out x y w v left Usage m h = absurd h
-says_reported out x y w v left (Script line kind) m h = absurd h
+says_reported out x y w v left (Script fault) m h = absurd h
 says_reported out x y w v left (TooLong turns) m h = absurd h
 says_reported out x y w v left ReadFault m h = says_written out x y w v left.head.read_fault (report_over left) ReadFault m h
 says_reported out x y w v left WriteFault m h = says_written out x y w v left.head.read_fault (report_over left) WriteFault m h
@@ -139,9 +139,9 @@ by_taken input (Some rest) bytes con = (rest, con)
 determined : (out : Output) (input : List ℕ) (x y : SourceEnd) (w v : SinkEnd) (status : Status) → x.left ≡ Some input → x.faults < 2 ^ 64 - 1 → w.faults < 2 ^ 64 - 1
     → y.faults ≡ x.faults → v.faults ≡ w.faults → Says out (outside x w) (outside y v) status → (status ≡ NoMemory) ⊎ Determines (grammar (split input).script) input status
 determined out input x y w v Usage has fr fw nr nw says = absurd says
-determined out input x y w v (Script line kind) has fr fw nr nw says =
-    let fault : grammar (split input).script ≡ Err (record { line = line; kind = kind }) = subst (λ c. IfSome c (λ whole. grammar (split whole).script ≡ Err (record { line = line; kind = kind }))) has says.0.1 in
-    inr (rw fault refl)
+determined out input x y w v (Script fault) has fr fw nr nw says =
+    let told : grammar (split input).script ≡ Err fault = subst (λ c. IfSome c (λ whole. grammar (split whole).script ≡ Err fault)) has says.0.1 in
+    inr (rw told refl)
 determined out input x y w v (TooLong turns) has fr fw nr nw says =
     let g = says.0 in
     let t = by_taken input y.left g.bytes (subst (λ c. Consumes c y.left g.bytes) has g.taken) in
@@ -184,7 +184,7 @@ never_usage_told IsText before after status says is = subst (λ s. Tells IsText 
 settled_told : (IsText : List ℕ → Type 0) (before after : Outside) (status : Status) → before.sink.faults < 2 ^ 64 - 1 → Tells IsText before after status
     → NoWriteFails before after → (status ≡ NoMemory) ⊎ (status ≡ Done)
 settled_told IsText before after Usage fw says nw = absurd says
-settled_told IsText before after (Script line kind) fw says nw = absurd says
+settled_told IsText before after (Script fault) fw says nw = absurd says
 settled_told IsText before after (TooLong turns) fw says nw = absurd says
 settled_told IsText before after ReadFault fw says nw = absurd says
 settled_told IsText before after WriteFault fw (text, is, front) nw = absurd (steady before.sink.faults fw (subst (λ n. Rose before.sink.faults n) nw front.rose))
@@ -203,7 +203,7 @@ gives IsText x w v status fw says = record {
 -- one text for another that is equal to it
 pub told_as : (IsText : List ℕ → Type 0) (text : List ℕ) (before after : Outside) (status : Status) → IsText text → Tells (λ whole. whole ≡ text) before after status → Tells IsText before after status
 told_as IsText text before after Usage is says = absurd says
-told_as IsText text before after (Script line kind) is says = absurd says
+told_as IsText text before after (Script fault) is says = absurd says
 told_as IsText text before after (TooLong turns) is says = absurd says
 told_as IsText text before after ReadFault is says = absurd says
 told_as IsText text before after WriteFault is (whole, e, front) = (whole, subst IsText (sym e) is, front)

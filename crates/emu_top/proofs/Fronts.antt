@@ -1,5 +1,5 @@
 -- The first bytes of an input, up to and with the line `stream`.
-use Rattle.emu_top.proofs.Imports.{◌≡◌, ◌<◌, ◌≤◌, ◌+◌, ◌-◌, refl, sym, ap, ◌∙◌, ℕ, Bool, true, false, List, [], ◌∷◌, ◌++◌, length, take, drop, arith, length-append, take_all, length-drop, Option, Some, None, IfSome, Result, Ok, Err, unwrap_or, if◌then◌else◌, option_map, meaning, whole_lines, is_stream, script_len, plain, with_said, Parsed, most_bytes, IsScript, Scripted, Said, FaultKind, ScriptFault, stream_ends_later, front_of, split-found, PacketSize, Pulling, Pulls, ScriptError, Fault, IsRead, Holds, IsFaultIn, status_of_error}
+use Rattle.emu_top.proofs.Imports.{◌≡◌, ◌<◌, ◌≤◌, ◌+◌, ◌-◌, refl, sym, ap, ◌∙◌, ℕ, Bool, true, false, List, [], ◌∷◌, ◌++◌, length, take, drop, arith, length-append, take_all, length-drop, Option, Some, None, IfSome, Result, Ok, Err, unwrap_or, if◌then◌else◌, option_map, meaning, whole_lines, is_stream, script_len, plain, with_said, Parsed, most_bytes, IsScript, Scripted, Said, ScriptFault, stream_ends_later, front_of, split-found, PacketSize, Pulling, Pulls, ScriptError, Fault, IsRead, Holds, IsFaultIn, status_of_error}
 use Rattle.client_script.specs.Script.{grammar, lines_from}
 use Rattle.client_script.specs.declared.fault.ScriptError.TheVariants.{NoMemory}
 
@@ -23,9 +23,9 @@ parted_by line more true r is e none = absurd (cc)
 parted_by line more false None is e none = (is, e)
 parted_by line more false (Some m) is e none = absurd (cc)
 
-faulty_by : (k : ℕ) (missing : ScriptFault) (s asked : Scripted) (more : List (List ℕ)) (m : Result (Option Said) FaultKind) → ((t : Scripted) → lines_from missing (k + 1) t more ≡ Ok asked → ⊥)
-    → ◌≡◌ {A = Parsed} (elim m [ Err kind ↦ Err (record { line = k; kind = kind }) | Ok said ↦ lines_from missing (k + 1) (with_said said s) more ]) (Ok asked) → ⊥
-faulty_by k missing s asked more (Err kind) none e = absurd (cc)
+faulty_by : (k : ℕ) (missing : ScriptFault) (s asked : Scripted) (more : List (List ℕ)) (m : Result (Option Said) ScriptFault) → ((t : Scripted) → lines_from missing (k + 1) t more ≡ Ok asked → ⊥)
+    → ◌≡◌ {A = Parsed} (elim m [ Err fault ↦ Err fault | Ok said ↦ lines_from missing (k + 1) (with_said said s) more ]) (Ok asked) → ⊥
+faulty_by k missing s asked more (Err fault) none e = absurd (cc)
 faulty_by k missing s asked more (Ok said) none e = none (with_said said s) e
 
 faulty : (lines : List (List ℕ)) (missing : ScriptFault) (k : ℕ) (s asked : Scripted) → script_len lines ≡ None → lines_from missing k s lines ≡ Ok asked → ⊥
@@ -33,7 +33,7 @@ unfolding lines_from
 faulty [] missing k s asked none e = absurd (cc)
 faulty (line ∷ more) missing k s asked none e =
     let o = parted_by line more (is_stream line) (script_len more) refl refl none in
-    let here : ◌≡◌ {A = Parsed} (elim (meaning k line) [ Err kind ↦ Err (record { line = k; kind = kind }) | Ok said ↦ lines_from missing (k + 1) (with_said said s) more ]) (Ok asked) = rw o.0 at e in
+    let here : ◌≡◌ {A = Parsed} (elim (meaning k line) [ Err fault ↦ Err fault | Ok said ↦ lines_from missing (k + 1) (with_said said s) more ]) (Ok asked) = rw o.0 at e in
     faulty_by k missing s asked more (meaning k line) (λ t is. faulty more missing (k + 1) t asked o.1 is) here
 
 no_script : (bytes : List ℕ) (script : Scripted) → script_len (whole_lines bytes) ≡ None → grammar bytes ≡ Ok script → ⊥

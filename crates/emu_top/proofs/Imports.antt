@@ -10,7 +10,6 @@ pub use Rattle.client_script.proofs.Splitting.{split-found, split-missing}
 pub use Rattle.client_script.specs.Grammar.{IsInRange as IsLineInRange, meaning}
 pub use Rattle.client_script.specs.Inside.Part.{HasNoFeed}
 pub use Rattle.client_script.specs.Script.{IsRead, IsScript, Parsed, Scripted, clients_in, grammar, is_stream, most_bytes, parted, plain, script_len, split, whole_lines, with_said}
-pub use Rattle.client_script.specs.declared.fault.FaultKind.{FaultKind}
 pub use Rattle.client_script.specs.declared.fault.FaultKind.TheVariants.{NoStream, Number}
 pub use Rattle.client_script.specs.declared.fault.ScriptError.{ScriptError}
 pub use Rattle.client_script.specs.declared.fault.ScriptError.TheVariants.{Fault}

@@ -1,5 +1,5 @@
 -- The answer to what an input asks, and that the input determines it.
-use Rattle.emu_top.proofs.Imports.{◌≡◌, ◌<◌, ◌≤◌, ◌-◌, ◌^◌, ◌⊎◌, refl, sym, ap, subst, ◌∙◌, ℕ, Bool, true, false, List, ◌++◌, length, codes, inl, inr, arith, length-append, Consumes-trans, Option, Some, None, IfSome, MatchOption, Result, Ok, Err, IfErr, IsErrAnd, Consumes, Rose, SourceEnd, SinkEnd, cut, PacketSize, IsPacket, told_head, ScriptFault, split, grammar, Scripted, Pulling, OfStream, are_packets, IsRightReport, right_are_of_runs, IsSession, Holds, Takes, Refuses, ReadsTo, Asks, IsAnswer, Judges, Declines, SettlesAnswer, asked, script_asked, Begins, IsCutOff, IsWholeOf, wrong_as, Answers, Checks, Tells, WritesFront, WritesWhole, outside, Stream, Status, Usage, Script, TooLong, ReadFault, WriteFault, NoMemory, Done, Wrong}
+use Rattle.emu_top.proofs.Imports.{◌≡◌, ◌<◌, ◌≤◌, ◌-◌, ◌^◌, ◌⊎◌, refl, sym, ap, subst, ◌∙◌, ℕ, Bool, true, false, List, ◌++◌, length, codes, inl, inr, arith, length-append, Consumes-trans, Option, Some, None, IfSome, MatchOption, Result, Ok, Err, IfErr, IsErrAnd, Consumes, Rose, SourceEnd, SinkEnd, cut, PacketSize, IsPacket, told_head, split, grammar, Scripted, Pulling, OfStream, are_packets, IsRightReport, right_are_of_runs, IsSession, Holds, Takes, Refuses, ReadsTo, Asks, IsAnswer, Judges, Declines, SettlesAnswer, asked, script_asked, Begins, IsCutOff, IsWholeOf, wrong_as, Answers, Checks, Tells, WritesFront, WritesWhole, outside, Stream, Status, Usage, Script, TooLong, ReadFault, WriteFault, NoMemory, Done, Wrong}
 use Rattle.std.specs.Prelude.{All}
 use Rattle.ts_watch.specs.Head.{head_of}
 use Rattle.report_check.specs.declared.fault.Fault.{Fault}
@@ -30,8 +30,7 @@ taken_all report first taken x y z w b t con = Consumes-trans _ _ _ _ _ b.taken 
 
 pub declined_by_session : (report : List ℕ) (x y z : SourceEnd) (status : Status) → Begins report x y → Refuses y z status → ((turns : ℕ) → status ≡ TooLong turns → ⊥) → Declines x z status
 declined_by_session report x y z Usage b r few = absurd r
-declined_by_session report x y z (Script line kind) b r few =
-    let fault : ScriptFault = record { line = line; kind = kind } in
+declined_by_session report x y z (Script fault) b r few =
     (r.0 ∙ b.steady, of_input x.left y.left b.bytes fault b.taken (λ rest is. ap script_asked (b.parts rest) ∙ subst (λ c. IfSome c (λ input. grammar (split input).script ≡ Err fault)) is r.1))
 declined_by_session report x y z (TooLong turns) b r few = absurd (few turns refl)
 declined_by_session report x y z ReadFault b f few = record {
@@ -48,7 +47,7 @@ declined_by_session report x y z (Wrong fault) b r few = absurd r
 pub declined_by_stream : (report first : List ℕ) (x y z w : SourceEnd) (size : PacketSize) (script : Scripted) (puller : Pulling) (status : Status)
     → Begins report x y → Takes y z first → Holds first size script puller → IsCutOff z w puller status → Declines x w status
 declined_by_stream report first x y z w size script puller Usage b t h c = absurd c
-declined_by_stream report first x y z w size script puller (Script line kind) b t h c = absurd c
+declined_by_stream report first x y z w size script puller (Script fault) b t h c = absurd c
 declined_by_stream report first x y z w size script puller (TooLong turns) b t h (most, of) =
     let taken = of.0 in
     let few = of.2 h.ahead h.pulls in
@@ -138,7 +137,7 @@ judged report first x y z w size script puller stream (Some fault) b t h of read
 
 pub answers_none : (size : PacketSize) (x y : SourceEnd) (w : SinkEnd) (status : Status) → Declines x y status → Answers size (outside x w) (outside y w) status
 answers_none size x y w Usage d = absurd d
-answers_none size x y w (Script line kind) d = (d, (keeps w.written, refl))
+answers_none size x y w (Script fault) d = (d, (keeps w.written, refl))
 answers_none size x y w (TooLong turns) d = (d, (keeps w.written, refl))
 answers_none size x y w ReadFault d = (d, (keeps w.written, refl))
 answers_none size x y w WriteFault d = absurd d
@@ -157,7 +156,7 @@ pub answers_yes : (size : PacketSize) (s x y : SourceEnd) (w v : SinkEnd) (text 
     → Answers size (outside x w) (outside y v) status
 unfolding answer_text
 answers_yes size s x y w v text Usage is judged says = absurd says
-answers_yes size s x y w v text (Script line kind) is judged says = absurd says
+answers_yes size s x y w v text (Script fault) is judged says = absurd says
 answers_yes size s x y w v text (TooLong turns) is judged says = absurd says
 answers_yes size s x y w v text ReadFault is judged says = absurd says
 answers_yes size s x y w v text WriteFault is judged (whole, e, front) = record { right = true; judged = judged; front = part_of s x y w v _ (rw (← is, ← e) front) }
@@ -169,7 +168,7 @@ pub answers_no : (size : PacketSize) (s x y : SourceEnd) (w v : SinkEnd) (text :
     → Answers size (outside x w) (outside y v) (wrong_as fault status)
 unfolding answer_text
 answers_no size s x y w v text fault Usage is judged says = absurd says
-answers_no size s x y w v text fault (Script line kind) is judged says = absurd says
+answers_no size s x y w v text fault (Script odd) is judged says = absurd says
 answers_no size s x y w v text fault (TooLong turns) is judged says = absurd says
 answers_no size s x y w v text fault ReadFault is judged says = absurd says
 answers_no size s x y w v text fault WriteFault is judged (whole, e, front) = record { right = false; judged = judged; front = part_of s x y w v _ (rw (← is, ← e) front) }
@@ -193,9 +192,9 @@ says_in input x y bytes report script stream has con a =
 determined : (size : PacketSize) (input : List ℕ) (x y : SourceEnd) (w v : SinkEnd) (status : Status) → x.left ≡ Some input → x.faults < 2 ^ 64 - 1 → w.faults < 2 ^ 64 - 1
     → y.faults ≡ x.faults → v.faults ≡ w.faults → Answers size (outside x w) (outside y v) status → (status ≡ NoMemory) ⊎ SettlesAnswer (script_asked (asked input)) input status
 determined size input x y w v Usage has fr fw nr nw says = absurd says.0
-determined size input x y w v (Script line kind) has fr fw nr nw says =
-    let fault : script_asked (asked input) ≡ Err (record { line = line; kind = kind }) = subst (λ c. IfSome c (λ whole. script_asked (asked whole) ≡ Err (record { line = line; kind = kind }))) has says.0.1 in
-    inr (rw fault refl)
+determined size input x y w v (Script fault) has fr fw nr nw says =
+    let told : script_asked (asked input) ≡ Err fault = subst (λ c. IfSome c (λ whole. script_asked (asked whole) ≡ Err fault)) has says.0.1 in
+    inr (rw told refl)
 determined size input x y w v (TooLong turns) has fr fw nr nw says =
     let g = says.0 in
     let ok = says_in input x y g.bytes g.report g.script g.stream has g.taken g.asks in

@@ -94,7 +94,7 @@ unfailed left = record { left = left; faults = 0 }
 -- nothing but want of memory is told in place of its run
 pub refused : (number : ℕ) (left : Option (List ℕ)) (status : Status) → Refuses (unfailed (Some (made number))) (unfailed left) status → status ≡ NoMemory
 refused number left Usage r = absurd r
-refused number left (Script line kind) r = absurd (let e : Ok (says_of number).0 ≡ Err (record { line = line; kind = kind }) = sym (says_of number).1 ∙ r.1 in cc)
+refused number left (Script fault) r = absurd (let e : Ok (says_of number).0 ≡ Err fault = sym (says_of number).1 ∙ r.1 in cc)
 refused number left (TooLong turns) g =
     let t = by_taken (made number) left g.bytes g.taken in
     let parts = (split_more g.bytes t.0 g.stream g.session.behind).1 in

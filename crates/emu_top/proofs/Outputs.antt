@@ -139,7 +139,7 @@ has_fault (Some input) (Some rest) part fault few con end e =
 
 pub refused_by : (x y : SourceEnd) (part : List ℕ) (status : Status) → length part ≤ most_bytes → Takes x y part
     → (script_len (whole_lines part) ≡ None → (length part ≡ most_bytes) ⊎ IsAtEnd y.left) → IsFaultIn part status → Refuses x y status
-refused_by x y part (Script line kind) few takes end e = (takes.steady, has_fault x.left y.left part (record { line = line; kind = kind }) few takes.taken end e)
+refused_by x y part (Script fault) few takes end e = (takes.steady, has_fault x.left y.left part fault few takes.taken end e)
 refused_by x y part NoMemory few takes end e = tt
 refused_by x y part Usage few takes end e = absurd e
 refused_by x y part (TooLong turns) few takes end e = absurd e

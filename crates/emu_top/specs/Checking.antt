@@ -30,7 +30,7 @@ pub record Asked : Type 0 where
 
 -- what is wrong in front of the session, which is in none of its lines
 abbrev pub in_front : FaultKind → ScriptFault
-in_front kind = record { line = 0; kind = kind }
+in_front kind = record { line = 0; kind = kind; word = None }
 
 -- a report of so many bytes at the front of these, and the session behind it
 abbrev pub asked_in : (bytes : List ℕ) → (size : Option ℕ) → Result Asked ScriptFault
@@ -128,7 +128,7 @@ pub record FailsToRead (before after : SourceEnd) : Type 0 where
 
 -- why there is no answer
 abbrev pub Declines : (before after : SourceEnd) → Status → Type 0
-Declines before after (Script line kind) = HasFirstFault (record { line = line; kind = kind }) before after
+Declines before after (Script fault) = HasFirstFault fault before after
 Declines before after (TooLong turns) = ReadsTooOften before after turns
 Declines before after ReadFault = FailsToRead before after
 Declines before after NoMemory = ⊤
@@ -145,5 +145,5 @@ TellsAnswer _ = ⊥
 -- The status that an input determines where no read and no write fails: its first fault, or for less than 4,294,967,296
 -- bytes an answer.
 abbrev pub SettlesAnswer : Parsed → (input : List ℕ) → Status → Type 0
-SettlesAnswer (Err fault) input status = status ≡ Script fault.line fault.kind
+SettlesAnswer (Err fault) input status = status ≡ Script fault
 SettlesAnswer (Ok script) input status = length input < 4294967296 → TellsAnswer status

@@ -92,8 +92,8 @@ pub record HasWriteFault (output : Output) (before after : Outside) : Type 0 whe
 -- what a status says of a session that has this output
 abbrev pub Says : Output → Outside → Outside → Status → Type 0
 Says output before after Usage = ⊥
-Says output before after (Script line kind) =
-    HasFault (record { line = line; kind = kind }) before.source after.source × WritesNothing before after
+Says output before after (Script fault) =
+    HasFault fault before.source after.source × WritesNothing before after
 Says output before after (TooLong turns) = GivesUp before.source after.source turns × WritesNothing before after
 Says output before after ReadFault = HasReadFault output before after
 Says output before after WriteFault = HasWriteFault output before after
@@ -104,7 +104,7 @@ Says output before after (Wrong fault) = ⊥
 -- The answer that an input determines where no read and no write fails: its script's fault, or for less than
 -- 4,294,967,296 bytes that all is well.
 abbrev pub Determines : Parsed → (input : List ℕ) → Status → Type 0
-Determines (Err fault) input status = status ≡ Script fault.line fault.kind
+Determines (Err fault) input status = status ≡ Script fault
 Determines (Ok script) input status = length input < 4294967296 → status ≡ Done
 
 -- What the program does with a session that has this output: the status says what was read and written. Where no read

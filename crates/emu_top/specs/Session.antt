@@ -160,7 +160,7 @@ pub record FailsEarly (before after : SourceEnd) : Type 0 where
 
 -- why there is no output
 abbrev pub Refuses : (before after : SourceEnd) → Status → Type 0
-Refuses before after (Script line kind) = HasFault (record { line = line; kind = kind }) before after
+Refuses before after (Script fault) = HasFault fault before after
 Refuses before after (TooLong turns) = GivesUp before after turns
 Refuses before after ReadFault = FailsEarly before after
 Refuses before after NoMemory = ⊤
@@ -169,7 +169,7 @@ Refuses before after _ = ⊥
 -- ------ the parts
 
 abbrev pub status_of_error : ScriptError → Status
-status_of_error (Fault fault) = Script fault.line fault.kind
+status_of_error (Fault fault) = Script fault
 status_of_error NoMemoryToRead = NoMemory
 
 abbrev pub status_of_stop : Stop → Status
@@ -190,6 +190,6 @@ pub record Holds (first : List ℕ) (size : PacketSize) (script : Scripted) (pul
 
 -- these first bytes of an input have no script without a fault, or memory was refused
 abbrev pub IsFaultIn : (first : List ℕ) → Status → Type 0
-IsFaultIn first (Script line kind) = grammar first ≡ Err (record { line = line; kind = kind })
+IsFaultIn first (Script fault) = grammar first ≡ Err fault
 IsFaultIn first NoMemory = ⊤
 IsFaultIn first _ = ⊥

@@ -6,7 +6,7 @@ use Rattle.emu_top.specs.declared.status.Status.TheVariants.{Ok, Usage, Script, 
 abbrev pub exit_status : Status → ℕ
 exit_status Ok = 0
 exit_status Usage = 2
-exit_status (Script line kind) = 3
+exit_status (Script fault) = 3
 exit_status (TooLong turns) = 4
 exit_status ReadFault = 5
 exit_status WriteFault = 6
@@ -17,7 +17,7 @@ exit_status (Wrong fault) = 0
 unfoldable pub status_text : Status → List ℕ
 status_text Ok = codes "ok"
 status_text Usage = codes "usage"
-status_text (Script line kind) = codes "script"
+status_text (Script fault) = codes "script"
 status_text (TooLong turns) = codes "too long"
 status_text ReadFault = codes "read failed"
 status_text WriteFault = codes "write failed"

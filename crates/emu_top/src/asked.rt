@@ -8,7 +8,7 @@ ghost use Rattle.emu_top.specs.Inside.Part.{HasReadCause};
 
 use crate::Status;
 use crate::part::PartError;
-use client_script::FaultKind;
+use client_script::{FaultKind, ScriptFault};
 use emu_io::Source;
 use std::alloc::Global;
 use text_forms::{is_word, number_between};
@@ -88,9 +88,13 @@ fn read_bytes<S: Source>(alloc: Global, source: &mut S, size: u32) -> Result<Vec
 
 // The status of a fault in front of the session.
 fn in_no_line(kind: FaultKind) -> Status
-    ensures { result ≡ Status.Script 0 kind }
+    ensures { result ≡ Status.Script (in_front kind) }
 {
-    Status::Script { line: 0, kind }
+    Status::Script(ScriptFault {
+        line: 0,
+        kind,
+        word: None,
+    })
 }
 
 /// Reads the report in front of a session: the line `report N`, and N bytes. Nothing behind them is taken.

@@ -28,10 +28,7 @@ fn status_of_script(error: ScriptError) -> Status
     ensures { result ≡ status_of_error error }
 {
     match error {
-        ScriptError::Fault(fault) => Status::Script {
-            line: fault.line,
-            kind: fault.kind,
-        },
+        ScriptError::Fault(fault) => Status::Script(fault),
         ScriptError::NoMemory => Status::NoMemory,
     }
 }

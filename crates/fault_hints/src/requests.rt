@@ -1,6 +1,6 @@
 // Requests of programs: what words spell of them, and their names.
 use crate::shown::add_number;
-use client_script::{FaultKind, argument_named, request_number, verb_of};
+use client_script::{argument_named, request_number};
 use dmx_abi::numbers::{
     ADD_PID, GET_STC, REMOVE_PID, SET_BUFFER_SIZE, SET_FILTER, SET_PES_FILTER, START, STOP,
 };
@@ -39,44 +39,6 @@ fn request_name(number: u32) -> Option<&'static str> {
         QBUF => Some("DMX_QBUF"),
         DQBUF => Some("DMX_DQBUF"),
         _ => None,
-    }
-}
-
-/// Whether a word is the number of a request.
-pub fn is_known(word: &[u8]) -> bool {
-    match request_number(word) {
-        Some(number) => argument_len(number).is_some(),
-        None => false,
-    }
-}
-
-/// The kind of fault of a word that is the number of no request.
-pub fn number_kind(word: &[u8]) -> FaultKind {
-    match request_number(word) {
-        Some(_) => FaultKind::Name,
-        None => FaultKind::Number,
-    }
-}
-
-// What the request of this number asks with the argument that a word spells.
-fn request_with(number: u32, word: &[u8]) -> Option<Request> {
-    let argument = argument_named(word)?;
-    decode(number, &argument).ok()
-}
-
-/// Whether a word is an argument of the request with this number.
-pub fn is_argument(number: u32, word: &[u8]) -> bool {
-    match request_with(number, word) {
-        Some(request) => verb_of(request).is_some(),
-        None => false,
-    }
-}
-
-/// The kind of fault of a word that is no argument of the request with this number.
-pub fn argument_kind(number: u32, word: &[u8]) -> FaultKind {
-    match request_with(number, word) {
-        Some(_) => FaultKind::Name,
-        None => FaultKind::Bytes,
     }
 }
 

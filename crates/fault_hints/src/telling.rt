@@ -1,9 +1,7 @@
 // The second line, for each kind of fault.
-use crate::finding::{Found, cut_at, first_fault};
-use crate::places::Place;
 use crate::requests::{add_argument, add_request_name};
 use crate::shown::{add_characters, add_eight_digits, add_number, add_word};
-use client_script::{FaultKind, MOST_BYTES, ScriptFault};
+use client_script::{FaultyWord, MOST_BYTES, NumberName, ScriptFault, Wanted};
 use std::alloc::{AllocError as NoMemory, Global};
 use text_forms::{is_word, place_named};
 
@@ -17,23 +15,57 @@ fn begins_with_packet(bytes: &[u8]) -> bool {
     bytes.len() >= PACKET && bytes[0] == SYNC && (bytes.len() == PACKET || bytes[PACKET] == SYNC)
 }
 
+// What stands behind each command in its line.
+static FORMS: [(&str, &str); 15] = [
+    ("open", "T"),
+    ("close", "T"),
+    (
+        "section",
+        "T PID TIMEOUT FLAGS, and up to 16 words I=FF/MM/DD",
+    ),
+    ("pes", "T PID INPUT OUTPUT TYPE FLAGS"),
+    ("add", "T PID"),
+    ("remove", "T PID"),
+    ("start", "T"),
+    ("stop", "T"),
+    ("size", "T N"),
+    ("read", "T N"),
+    ("readw", "T N"),
+    ("drain", "T N"),
+    ("poll", "T"),
+    ("ioctl", "T REQ ARG"),
+    ("write", "dvr HEX"),
+];
+
+// What a number is called in these forms.
+fn name_of(name: NumberName) -> &'static str {
+    match name {
+        NumberName::Pid => "PID",
+        NumberName::Timeout => "TIMEOUT",
+        NumberName::Flags => "FLAGS",
+        NumberName::PesType => "TYPE",
+        NumberName::N => "N",
+    }
+}
+
 // What a place asks for; of a number its name.
-fn asked(place: Place) -> &'static str {
-    match place {
-        Place::First => "feed, tick, a client c0 to c7, or the line stream",
-        Place::Command => {
+fn asked(wanted: Wanted) -> &'static str {
+    match wanted {
+        Wanted::First => "feed, tick, a client c0 to c7, or the line stream",
+        Wanted::Command => {
             "a command: open, close, section, pes, add, remove, start, stop, size, read, readw, drain, poll, ioctl or write"
         }
-        Place::Target => "a target: n0 to n31, h0 to h31, or dvr",
-        Place::Dvr => "dvr, to which a client writes",
-        Place::Written => "HEX: 1 to 12,032 bytes, two hexadecimal digits each, in lower case",
-        Place::Number { name, .. } => name,
-        Place::Input => "INPUT: frontend or dvr",
-        Place::Output => "OUTPUT: decoder, tap, ts_tap or tsdemux_tap",
-        Place::Byte(_) => "I=FF/MM/DD, two hexadecimal digits each, places rising",
-        Place::Request => "REQ: the number of a request in eight hexadecimal digits, in lower case",
-        Place::Argument(_) => "ARG",
-        Place::End => "the end of the line",
+        Wanted::Target => "a target: n0 to n31, h0 to h31, or dvr",
+        Wanted::Dvr => "dvr, to which a client writes",
+        Wanted::Written => "HEX: 1 to 12,032 bytes, two hexadecimal digits each, in lower case",
+        Wanted::Number { name, .. } => name_of(name),
+        Wanted::Input => "INPUT: frontend or dvr",
+        Wanted::Output => "OUTPUT: decoder, tap, ts_tap or tsdemux_tap",
+        Wanted::Byte(_) => "I=FF/MM/DD, two hexadecimal digits each, places rising",
+        Wanted::Request =>
+            "REQ: the number of a request in eight hexadecimal digits, in lower case",
+        Wanted::Argument(_) => "ARG",
+        Wanted::End => "the end of the line",
     }
 }
 
@@ -104,26 +136,27 @@ fn add_request(text: &mut String, word: &[u8]) -> Result<(), NoMemory> {
 }
 
 // Appends what a place asks for, and what is said of the word that stands there, if one does.
-fn add_asked(text: &mut String, place: Place, word: Option<&[u8]>) -> Result<(), NoMemory> {
+fn add_asked(text: &mut String, wanted: Wanted, word: Option<&[u8]>) -> Result<(), NoMemory> {
     text.push_str("; expected ")?;
-    text.push_str(asked(place))?;
+    text.push_str(asked(wanted))?;
     let shown = word.unwrap_or(&[]);
-    match place {
-        Place::Number { least, most, .. } => add_range(text, least, most, shown),
-        Place::Byte(least) => add_spelling(text, least, shown),
-        Place::Request => add_request(text, shown),
-        Place::Argument(request) => add_argument(text, request, word),
+    match wanted {
+        Wanted::Number { least, most, .. } => add_range(text, least, most, shown),
+        Wanted::Byte(least) => add_spelling(text, least, shown),
+        Wanted::Request => add_request(text, shown),
+        Wanted::Argument(request) => add_argument(text, request, word),
         _ => Ok(()),
     }
 }
 
-// Appends the form of a command's line.
-fn add_form(text: &mut String, found: &Found<'_>) -> Result<(), NoMemory> {
-    let Some(behind) = found.form.behind_command() else {
+// Appends the form of a command's line, where its second word is a command.
+fn add_form(text: &mut String, line: &[u8]) -> Result<(), NoMemory> {
+    let command = word_of(line, 2).unwrap_or(&[]);
+    let Some((_, behind)) = FORMS.iter().find(|form| is_word(command, form.0)) else {
         return Ok(());
     };
     text.push_str("; the line is cK ")?;
-    add_characters(text, found.command)?;
+    add_characters(text, command)?;
     text.push(' ')?;
     text.push_str(behind)
 }
@@ -137,34 +170,53 @@ fn add_remark(text: &mut String, word: &[u8]) -> Result<(), NoMemory> {
     }
 }
 
-// Appends where a word is missing, or what stands in its place, and what was expected.
-fn add_found(text: &mut String, found: &Found<'_>) -> Result<(), NoMemory> {
-    let number = found.number as u64;
-    let Some(word) = found.word else {
+// Appends where a word is missing in a line, or what stands in its place, and what was expected.
+fn add_found(text: &mut String, line: &[u8], faulty: FaultyWord) -> Result<(), NoMemory> {
+    let FaultyWord { number, wanted } = faulty;
+    let Some(word) = word_of(line, number) else {
         text.push_str("the line ends in front of word ")?;
-        add_number(text, number)?;
-        add_asked(text, found.place, None)?;
-        return add_form(text, found);
+        add_number(text, number as u64)?;
+        add_asked(text, wanted, None)?;
+        return add_form(text, line);
     };
     text.push_str("word ")?;
-    add_number(text, number)?;
+    add_number(text, number as u64)?;
     text.push_str(" is ")?;
     add_word(text, word)?;
-    add_asked(text, found.place, Some(word))?;
-    if found.place == Place::End {
-        add_form(text, found)?;
+    add_asked(text, wanted, Some(word))?;
+    if wanted == Wanted::End {
+        add_form(text, line)?;
     }
     add_remark(text, word)
 }
 
-// The line of this number, from 1 on, without its line feed; None where there are fewer whole lines.
-fn line_of(bytes: &[u8], number: u32) -> Option<&[u8]> {
+// The piece of this number, from 1 on, between the bytes that part them, and what stands behind it; None where there are fewer.
+fn piece_of(mark: u8, bytes: &[u8], number: usize) -> Option<(&[u8], Option<&[u8]>)> {
     let mut rest = bytes;
-    'lines: for _line in 1..number {
-        let (_, behind) = cut_at(b'\n', rest);
+    'pieces: for _piece in 1..number {
+        let (_, behind) = cut_at(mark, rest);
         rest = behind?;
     }
-    match cut_at(b'\n', rest) {
+    Some(cut_at(mark, rest))
+}
+
+// The bytes in front of the first `mark`, and those behind it; None where there is no `mark`.
+fn cut_at(mark: u8, bytes: &[u8]) -> (&[u8], Option<&[u8]>) {
+    match bytes.iter().position(|byte| *byte == mark) {
+        Some(place) => (&bytes[..place], Some(&bytes[place + 1..])),
+        None => (bytes, None),
+    }
+}
+
+// The word of this number, from 1 on; None where a line has fewer.
+fn word_of(line: &[u8], number: usize) -> Option<&[u8]> {
+    let (word, _) = piece_of(b' ', line, number)?;
+    Some(word)
+}
+
+// The line of this number, from 1 on, without its line feed; None where there are fewer whole lines.
+fn line_of(bytes: &[u8], number: u32) -> Option<&[u8]> {
+    match piece_of(b'\n', bytes, number as usize)? {
         (line, Some(_)) => Some(line),
         (_, None) => None,
     }
@@ -192,8 +244,7 @@ fn no_stream(script: &[u8]) -> &'static str {
 }
 
 /// The text of the line behind that of a script's fault, without a line feed: what stands there and what was expected. The bytes
-/// are those that were searched for the script, or more. None where no word of that line is at fault by this kind, so that there
-/// is nothing to say.
+/// are those that were searched for the script, or more. None where they don't hold that line, so that there is nothing to say.
 pub fn hint(alloc: Global, script: &[u8], fault: ScriptFault) -> Result<Option<String>, NoMemory> {
     let mut text = String::from_str(alloc, "  ")?;
     if begins_with_packet(script) {
@@ -201,19 +252,13 @@ pub fn hint(alloc: Global, script: &[u8], fault: ScriptFault) -> Result<Option<S
         text.push_str("cat SCRIPT STREAM | dvbemu steps")?;
         return Ok(Some(text));
     }
-    if fault.kind == FaultKind::NoStream {
+    let Some(faulty) = fault.word else {
         text.push_str(no_stream(script))?;
         return Ok(Some(text));
-    }
+    };
     let Some(line) = line_of(script, fault.line) else {
         return Ok(None);
     };
-    let Some(found) = first_fault(line) else {
-        return Ok(None);
-    };
-    if found.kind() != fault.kind {
-        return Ok(None);
-    }
-    add_found(&mut text, &found)?;
+    add_found(&mut text, line, faulty)?;
     Ok(Some(text))
 }

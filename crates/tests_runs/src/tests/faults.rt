@@ -2,7 +2,7 @@
 //! statuses.
 use super::ends::{Ends, FIRST, Part, input_of, told};
 use super::report_lines::text_of;
-use client_script::FaultKind;
+use client_script::{FaultKind, FaultyWord, ScriptFault, Wanted};
 use emu_io::{FixedClock, NoGate};
 use emu_top::Status;
 use std::alloc::AllocError as NoMemory;
@@ -103,10 +103,14 @@ const SCRIPT_FAULT: Session = Session {
         &[1],
         &[],
         ROOM,
-        Status::Script {
+        Status::Script(ScriptFault {
             line: 1,
             kind: FaultKind::Count,
-        },
+            word: Some(FaultyWord {
+                number: 3,
+                wanted: Wanted::Target,
+            }),
+        }),
         "",
     )],
 };

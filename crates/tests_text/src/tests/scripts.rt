@@ -2,43 +2,63 @@
 // script, worked out by hand from the rules.
 
 use super::NoMemory;
-use client_script::{FaultKind, MOST_BYTES, Script, ScriptError, ScriptFault, ScriptPart, print};
+use client_script::{
+    FaultKind, FaultyWord, MOST_BYTES, NumberName, Script, ScriptError, ScriptFault, ScriptPart,
+    Wanted, print,
+};
 use emu_io::{Failed, MemSource, Source};
-use fault_hints::{Keeping, kind_in};
+use fault_hints::Keeping;
 use std::alloc::Global;
 
-// Whole scripts with a fault, its line and its kind.
-static FAULTS: [(&[u8], u32, FaultKind); 15] = [
-    (b"c0  open n0\nstream\n", 1, FaultKind::Command),
+// Scripts with a fault: its line and its kind, and the number of its word and what the word's place asks.
+static FAULTS: [(&[u8], u32, FaultKind, usize, Wanted); 4] = [
     (
         b"c0 open n0\nc0 close n0\nc0 strat n0\nstream\n",
         3,
         FaultKind::Command,
+        2,
+        Wanted::Command,
     ),
-    (b"feed 0\nc9 open n0\nstream\n", 1, FaultKind::Number),
-    (b"feed 1\n#\n\nfeed\nstream\n", 4, FaultKind::Count),
-    (b"feed 1\nfeed 0\n", 2, FaultKind::Number),
-    (b"stream \nstream\n", 1, FaultKind::Client),
-    (b"\n #\nstream\n", 2, FaultKind::Client),
-    (b"feed 1\r\nstream\n", 1, FaultKind::Number),
-    (b"", 1, FaultKind::NoStream),
-    (b"stream", 1, FaultKind::NoStream),
-    (b"c9", 1, FaultKind::NoStream),
-    (b"# stream\n", 2, FaultKind::NoStream),
-    (b"feed 1\nstream", 2, FaultKind::NoStream),
-    (b"feed 1\n\n#\nc9 open n0", 4, FaultKind::NoStream),
-    (b"\n\n\n", 4, FaultKind::NoStream),
+    (
+        b"feed 1\n#\n\nfeed\nstream\n",
+        4,
+        FaultKind::Count,
+        2,
+        Wanted::Number {
+            name: NumberName::N,
+            least: 1,
+            most: 4_294_967_295,
+        },
+    ),
+    (
+        b"c0 section n0 1 0 0 3=00/ff/00 3=01/ff/00 x\nstream\n",
+        1,
+        FaultKind::Bytes,
+        8,
+        Wanted::Byte(4),
+    ),
+    (
+        b"feed 1\nc1 ioctl h0 00006f29 - \nstream\n",
+        2,
+        FaultKind::Count,
+        6,
+        Wanted::End,
+    ),
 ];
 
 // The first of these scripts, by its number, that hasn't its fault.
 fn odd_fault(alloc: Global) -> Option<usize> {
-    for (number, (bytes, line, kind)) in FAULTS.iter().enumerate() {
+    for (place, (bytes, line, kind, number, wanted)) in FAULTS.iter().enumerate() {
         let want = ScriptFault {
             line: *line,
             kind: *kind,
+            word: Some(FaultyWord {
+                number: *number,
+                wanted: *wanted,
+            }),
         };
         if !has_fault(alloc, bytes, want) {
-            return Some(number);
+            return Some(place);
         }
     }
     None
@@ -56,165 +76,9 @@ fn is_no_script(alloc: Global, byte: u8, line_feeds: u32) -> Result<bool, NoMemo
     let want = ScriptFault {
         line: line_feeds.saturating_add(1),
         kind: FaultKind::NoStream,
+        word: None,
     };
     Ok(has_fault(alloc, &bytes, want))
-}
-
-// Lines, each with the kind of its fault, if it has one.
-static LINES: [(&[u8], Option<FaultKind>); 130] = [
-    (b" ", Some(FaultKind::Client)),
-    (b"c8 open n0", Some(FaultKind::Client)),
-    (b"c open n0", Some(FaultKind::Client)),
-    (b"c00 open n0", Some(FaultKind::Client)),
-    (b"C0 open n0", Some(FaultKind::Client)),
-    (b"d0 open n0", Some(FaultKind::Client)),
-    (b"feeds 1", Some(FaultKind::Client)),
-    (b" feed 1", Some(FaultKind::Client)),
-    (b" # feed 1", Some(FaultKind::Client)),
-    (b"stream ", Some(FaultKind::Client)),
-    (b"streams", Some(FaultKind::Client)),
-    (b"c8 strat n32", Some(FaultKind::Client)),
-    (b"c0  open n0", Some(FaultKind::Command)),
-    (b"c0 strat n0", Some(FaultKind::Command)),
-    (b"c0 Open n0", Some(FaultKind::Command)),
-    (b"c0 ", Some(FaultKind::Command)),
-    (b"c0 feed 1", Some(FaultKind::Command)),
-    (b"c0 strat", Some(FaultKind::Command)),
-    (b"c0 strat n32 x", Some(FaultKind::Command)),
-    (b"c0 open n32", Some(FaultKind::Target)),
-    (b"c0 open h32", Some(FaultKind::Target)),
-    (b"c0 open n", Some(FaultKind::Target)),
-    (b"c0 open n00", Some(FaultKind::Target)),
-    (b"c0 open N0", Some(FaultKind::Target)),
-    (b"c0 open dvr0", Some(FaultKind::Target)),
-    (b"c0 open  n0", Some(FaultKind::Target)),
-    (b"c0 read m0 65537", Some(FaultKind::Target)),
-    (b"c0 open n32 x", Some(FaultKind::Target)),
-    (b"c0 ioctl n32 6f29", Some(FaultKind::Target)),
-    (b"c0 write n0 00", Some(FaultKind::Target)),
-    (b"c0 write h0", Some(FaultKind::Target)),
-    (b"c0 write dvr0 0", Some(FaultKind::Target)),
-    (b"c0 write  00", Some(FaultKind::Target)),
-    (b"feed 0", Some(FaultKind::Number)),
-    (b"feed 4294967296", Some(FaultKind::Number)),
-    (b"feed 01", Some(FaultKind::Number)),
-    (b"feed +1", Some(FaultKind::Number)),
-    (b"feed ", Some(FaultKind::Number)),
-    (b"feed 0 1", Some(FaultKind::Number)),
-    (b"tick 4294967296", Some(FaultKind::Number)),
-    (b"tick 0x1", Some(FaultKind::Number)),
-    (b"c0 read n0 65537", Some(FaultKind::Number)),
-    (b"c0 readw n0 65537", Some(FaultKind::Number)),
-    (b"c0 drain n0 65537", Some(FaultKind::Number)),
-    (b"c0 add n0 65536", Some(FaultKind::Number)),
-    (b"c0 remove n0 65536", Some(FaultKind::Number)),
-    (b"c0 size n0 4294967296", Some(FaultKind::Number)),
-    (b"c0 section n0 65536 0 0", Some(FaultKind::Number)),
-    (b"c0 section n0 0 4294967296 0", Some(FaultKind::Number)),
-    (b"c0 section n0 0 0 00", Some(FaultKind::Number)),
-    (b"c0 pes n0 65536 front tap 0 0", Some(FaultKind::Number)),
-    (b"c0 pes n0 0 dvr tap 4294967296 0", Some(FaultKind::Number)),
-    (b"c0 pes n0 0 dvr tap 0 -1", Some(FaultKind::Number)),
-    (b"c0 read n0 18446744073709551616", Some(FaultKind::Number)),
-    (b"c0 ioctl n0 6f29 -", Some(FaultKind::Number)),
-    (b"c0 ioctl n0 0x006f29 -", Some(FaultKind::Number)),
-    (b"c0 ioctl n0 403C6f2b -", Some(FaultKind::Number)),
-    (b"c0 ioctl n0 000006f29 -", Some(FaultKind::Number)),
-    (b"c0 ioctl n0  -", Some(FaultKind::Number)),
-    (b"c0 pes n0 1 front tap 0 0", Some(FaultKind::Name)),
-    (b"c0 pes n0 1 dvr taps 0 0", Some(FaultKind::Name)),
-    (b"c0 pes n0 1 tap dvr 0 0", Some(FaultKind::Name)),
-    (b"c0 pes n0 1 frontend  0 0", Some(FaultKind::Name)),
-    (b"c0 pes n0 1 Dvr tap x", Some(FaultKind::Name)),
-    (b"c0 ioctl n0 00006f30 -", Some(FaultKind::Name)),
-    (b"c0 ioctl n0 00006f30", Some(FaultKind::Name)),
-    (b"c0 ioctl n0 800a6f2f x", Some(FaultKind::Name)),
-    (b"c0 ioctl n0 40146f2d 0", Some(FaultKind::Name)),
-    (
-        b"c0 ioctl n0 40146f2c 0001000002000000030000001400000000000000",
-        Some(FaultKind::Name),
-    ),
-    (
-        b"c0 ioctl n0 40146f2c 0001000000000000040000001400000000000000 x",
-        Some(FaultKind::Name),
-    ),
-    (
-        b"c0 section n0 1 0 0 3=00/ff/00 3=00/ff/00",
-        Some(FaultKind::Bytes),
-    ),
-    (
-        b"c0 section n0 1 0 0 4=00/ff/00 3=00/ff/00",
-        Some(FaultKind::Bytes),
-    ),
-    (b"c0 section n0 1 0 0 16=00/ff/00", Some(FaultKind::Bytes)),
-    (b"c0 section n0 1 0 0 03=00/ff/00", Some(FaultKind::Bytes)),
-    (b"c0 section n0 1 0 0 3=0/ff/00", Some(FaultKind::Bytes)),
-    (b"c0 section n0 1 0 0 3=00/FF/00", Some(FaultKind::Bytes)),
-    (b"c0 section n0 1 0 0 3=00/ff/0g", Some(FaultKind::Bytes)),
-    (b"c0 section n0 1 0 0 3-00/ff/00", Some(FaultKind::Bytes)),
-    (b"c0 section n0 1 0 0 =00/ff/00", Some(FaultKind::Bytes)),
-    (b"c0 section n0 1 0 0 3=00/ff/000", Some(FaultKind::Bytes)),
-    (b"c0 section n0 1 0 0 ", Some(FaultKind::Bytes)),
-    (b"c0 section n0 1 0 0 3=00/ff/00 ", Some(FaultKind::Bytes)),
-    (b"c0 section n0 1 0 0 15=00/ff/00 x", Some(FaultKind::Bytes)),
-    (b"c0 ioctl n0 00006f29 00", Some(FaultKind::Bytes)),
-    (b"c0 ioctl n0 00006f29 ", Some(FaultKind::Bytes)),
-    (b"c0 ioctl n0 00006f29 -- x", Some(FaultKind::Bytes)),
-    (b"c0 ioctl n0 40026f33 -", Some(FaultKind::Bytes)),
-    (b"c0 ioctl n0 40026f33 ff1", Some(FaultKind::Bytes)),
-    (b"c0 ioctl n0 40026f33 FF1f", Some(FaultKind::Bytes)),
-    (b"c0 ioctl n0 40026f33 ff1f00", Some(FaultKind::Bytes)),
-    (
-        b"c0 ioctl n0 403c6f2b 00000000000000000000000000000000000000000000000000000000000000000000000000000000000000000000000000000000000000000000000000",
-        Some(FaultKind::Bytes),
-    ),
-    (b"c0 write dvr 0", Some(FaultKind::Bytes)),
-    (b"c0 write dvr 000", Some(FaultKind::Bytes)),
-    (b"c0 write dvr 0A", Some(FaultKind::Bytes)),
-    (b"c0 write dvr ", Some(FaultKind::Bytes)),
-    (b"c0 write dvr 0x00 x", Some(FaultKind::Bytes)),
-    (b"feed", Some(FaultKind::Count)),
-    (b"tick", Some(FaultKind::Count)),
-    (b"feed 1 1", Some(FaultKind::Count)),
-    (b"feed 1 ", Some(FaultKind::Count)),
-    (b"tick 0 x", Some(FaultKind::Count)),
-    (b"c0", Some(FaultKind::Count)),
-    (b"c0 open", Some(FaultKind::Count)),
-    (b"c0 start", Some(FaultKind::Count)),
-    (b"c0 open n0 n0", Some(FaultKind::Count)),
-    (b"c0 open n0 ", Some(FaultKind::Count)),
-    (b"c0 close dvr x", Some(FaultKind::Count)),
-    (b"c0 read n0", Some(FaultKind::Count)),
-    (b"c0 read n0 1 1", Some(FaultKind::Count)),
-    (b"c0 add n0", Some(FaultKind::Count)),
-    (b"c0 section n0", Some(FaultKind::Count)),
-    (b"c0 section n0 1", Some(FaultKind::Count)),
-    (b"c0 section n0 1 0", Some(FaultKind::Count)),
-    (b"c0 pes n0", Some(FaultKind::Count)),
-    (b"c0 pes n0 1", Some(FaultKind::Count)),
-    (b"c0 pes n0 1 frontend", Some(FaultKind::Count)),
-    (b"c0 pes n0 1 frontend tap", Some(FaultKind::Count)),
-    (b"c0 pes n0 1 frontend tap 1", Some(FaultKind::Count)),
-    (b"c0 pes n0 1 frontend tap 1 0 0", Some(FaultKind::Count)),
-    (b"c0 ioctl", Some(FaultKind::Count)),
-    (b"c0 ioctl n0", Some(FaultKind::Count)),
-    (b"c0 ioctl n0 00006f29", Some(FaultKind::Count)),
-    (b"c0 ioctl n0 00006f29 - x", Some(FaultKind::Count)),
-    (
-        b"c0 ioctl n0 c0106f32 00000000000000000000000000000000 ",
-        Some(FaultKind::Count),
-    ),
-    (b"c0 write", Some(FaultKind::Count)),
-    (b"c0 write dvr", Some(FaultKind::Count)),
-    (b"c0 write dvr 00 00", Some(FaultKind::Count)),
-    (b"c0 write dvr 00 ", Some(FaultKind::Count)),
-    (b"c0 readw h1 65536", None),
-    (b"c0 ioctl n0 00006f29 -", None),
-];
-
-// The number of the first of these lines in which another word is found.
-fn odd_kind() -> Option<usize> {
-    LINES.iter().position(|row| kind_in(row.0) != row.1)
 }
 
 #[test]
@@ -222,7 +86,6 @@ fn the_first_fault_is_named_with_its_line(rt: HostRuntime) {
     assert_eq!(rt; odd_fault(rt.alloc()), None);
     assert_eq!(rt; is_no_script(rt.alloc(), b'#', 0), Ok(true));
     assert_eq!(rt; is_no_script(rt.alloc(), b'\n', 1_048_576), Ok(true));
-    assert_eq!(rt; odd_kind(), None);
 }
 
 // Scripts but for the line `stream`, and what their lines are printed as: lines that are spelled as they are printed; and lines of

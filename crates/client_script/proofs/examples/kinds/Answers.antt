@@ -13,6 +13,10 @@ use Rattle.client_script.specs.Writes.{written_named}
 use Rattle.client_script.specs.Script.{lines_from, grammar, split}
 use Rattle.client_script.proofs.examples.kinds.Goals as goal
 
+pub returns-clause-places : goal.returns-clause-places
+unfolding value_after hex_digit hex_byte hex_bytes word_in place_with place_named places_in with_place filter_in number_in request_number argument_named request_number_in request_in ioctl_in numbered numbered_target target_of name_of section_in verb_in command_in asked_in line_in line_of meaning
+returns-clause-places c = refl
+
 pub returns-clause-client : goal.returns-clause-client
 unfolding value_after hex_digit hex_byte word_in place_with place_named places_in with_place filter_in number_in input_named output_named numbered numbered_target target_of name_of section_in pes_in verb_in command_in asked_in write_in dvr_named written_named line_in line_of meaning lines_from grammar split
 returns-clause-client c = refl

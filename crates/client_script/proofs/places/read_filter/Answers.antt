@@ -14,8 +14,8 @@ returns-in_default-clause-value c =
 
 pub returns-in_default-place_named-clause-value : goal.returns-in_default-place_named-clause-value
 returns-in_default-place_named-clause-value c =
-    c.places.invariant.read
-    ∙ filter_by-fault c.places.filter _ (16 - (c.places._place + 1)) c.places.least c.places.words c.in-Some.word.now c.next.new.self (omega arith) (search rules) (search rules)
+    rw c.fault.ensures (c.places.invariant.read
+    ∙ filter_by-fault c.places.filter _ (16 - (c.places._place + 1)) c.places.least c.places.words c.in-Some.word.now c.next.new.self (omega arith) (search rules) (search rules))
 
 pub places-preserved : goal.places-preserved
 places-preserved c =

@@ -1,7 +1,7 @@
 use Rattle.client_script.proofs.Imports.{◌≡◌, ◌∷◌, [], length, true, false, ap, ◌∙◌, rules, arith, Ok, Err, meaning, whole_lines, is_stream, with_said}
 use Rattle.client_script.proofs.Cuts.{length-whole_lines}
 use Rattle.client_script.proofs.Scripts.{missing_in, script_by-start, script_by-end, script_by-stream, script_by-fault, script_by-line}
-use Rattle.client_script.proofs.Taking.{lines_more, writes_more, writes_below, no_writes_below}
+use Rattle.client_script.proofs.Taking.{lines_more, writes_more, no_writes_below}
 use Rattle.client_script.proofs.script.Script.read.Goals as goal
 
 pub lines-init : goal.lines-init
@@ -17,8 +17,8 @@ pub returns-in-Err : goal.returns-in-Err
 returns-in-Err c =
     let some : whole_lines c.lines.rest.now ≡ c.in-Some.line.now ∷ whole_lines c.in-Some.behind.now = search rules in
     let other : is_stream c.in-Some.line.now ≡ false = search rules in
-    let means : meaning c.lines.number c.in-Some.line.now ≡ Err c.in-Err.kind = search rules in
-    rw c.fault.ensures (c.lines.invariant.script ∙ script_by-fault (missing_in c.args.bytes.now) c.lines.script c.lines.number c.lines.rest.now c.in-Some.line.now _ c.in-Err.kind some other means)
+    let means : meaning c.lines.number c.in-Some.line.now ≡ Err c.in-Err.fault = search rules in
+    c.lines.invariant.script ∙ script_by-fault (missing_in c.args.bytes.now) c.lines.script c.lines.number c.lines.rest.now c.in-Some.line.now _ c.in-Err.fault some other means
 
 pub lines-preserved : goal.lines-preserved
 lines-preserved c =
@@ -39,4 +39,4 @@ returns c =
     let none : whole_lines c.lines.rest.now ≡ [] = search rules in
     let n : length (whole_lines c.lines.rest.now) ≡ 0 = ap length none in
     let last : (missing_in c.args.bytes.now).line ≡ c.lines.number = omega arith in
-    rw (c.fault-2.ensures, ← last) (c.lines.invariant.script ∙ script_by-end (missing_in c.args.bytes.now) c.lines.script c.lines.number c.lines.rest.now none)
+    rw (← last) (c.lines.invariant.script ∙ script_by-end (missing_in c.args.bytes.now) c.lines.script c.lines.number c.lines.rest.now none)
