@@ -255,11 +255,21 @@ impl Model for SharedReply {
 }
 
 impl SharedReply {
-    /// Keeps this reply: shared with the one of this entry, where that is the same, and else in memory of its own.
+    /// Keeps this reply of a node: shared with the one of this entry, where that is the same, and else in memory of its own.
     pub fn of(alloc: Global, last: Option<&Entry>, reply: Reply) -> Result<SharedReply, NoMemory>
         ensures { IfOk result (λ kept. response_of kept ≡ response_of reply) }
     {
-        let reply = log_reply(alloc, reply)?;
+        SharedReply::of_log(alloc, last, log_reply(alloc, reply)?)
+    }
+
+    /// The same of a reply that is told as a log tells it.
+    pub fn of_log(
+        alloc: Global,
+        last: Option<&Entry>,
+        reply: LogReply,
+    ) -> Result<SharedReply, NoMemory>
+        ensures { IfOk result (λ kept. response_of kept ≡ response_of reply) }
+    {
         if let Some(entry) = last {
             if are_same(&entry.reply.reply, &reply) {
                 return entry.reply.shared();
