@@ -18,8 +18,8 @@
 //!
 //! Sources: the Linux media API, chapter Digital TV demux, for calls, filters, states and errors; ISO/IEC 13818-1 for
 //! packets and sections; what these leave open is this project's rule, as are the numbers of `limits` but the flags other than
-//! KEEP, the PIDs and the PES types. `ByteBuf::new`, `ByteBuf::fitted`, `KeptAct::of` and the two ways to a
-//! `SharedReply` alone take memory.
+//! KEEP, the PIDs and the PES types. `ByteBuf::new`, `ByteBuf::fitted`, `KeptAct::of`, `SharedReply::of` and
+//! `SharedReply::unshared` alone take memory.
 #![tactic(auto)]
 
 mod byte_buf;
