@@ -1,18 +1,19 @@
 -- A filter that doesn't take several PIDs has one at most.
-use Rattle.node_core.proofs.Imports.{ℕ, ◌≡◌, ◌≤◌, Bool, true, false, List, [], ◌∷◌, length, None, arith, filter, not, nat_eq, nat_lt, nat_tests, with_pid, without_pid, TsTap, TsdemuxTap, Tap, Decoder, Output, Params, Empty, Section, Pes, PesParams, Facts, add_refusal, refl}
+use Rattle.node_core.proofs.Imports.{ℕ, ◌≡◌, ◌≤◌, Bool, true, false, List, [], ◌∷◌, length, None, arith, not, nat_eq, nat_lt, nat_tests, TsTap, TsdemuxTap, Tap, Decoder, Output, Params, Empty, Section, Pes, PesParams, Facts, add_refusal, is_allocated, is_pes, state_of, refl, sym, subst, ◌||◌, if◌then◌else◌, AddPid, Option, Some}
+use Rattle.std.proofs.Common.{Result, Ok, Err, OnOk, OnErr}
+use Rattle.std.proofs.lemmas.List.Filters.{length-filter_both}
+use Rattle.pid_set.specs.Pids.{with_pid, without_pid}
+use Rattle.pid_set.specs.declared.set.TheConstants.{ALL_PACKETS}
+use Rattle.dmx_calls.specs.declared.node.NodeKind.TheVariants.{Demux}
+use Rattle.dmx_calls.specs.declared.reply.Errno.{Errno}
+use Rattle.dmx_calls.specs.declared.reply.Errno.TheVariants.{Einval}
 use Rattle.dmx_calls.specs.Answer.{is_recording}
 use Rattle.dmx_calls.specs.Refusal.{takes_many}
+use Rattle.node_buffer.specs.Inside.Gives.{owner_refusal}
 use Rattle.node_core.specs.Inside.Sound.{HasFewPids}
 
-no_longer : (t : ℕ → Bool) (pids : List ℕ) → length (filter t pids) ≤ length pids
-no_longer t [] = omega arith
-no_longer t (pid ∷ pids) = by_test (t pid) refl where
-  by_test : (passes : Bool) → t pid ≡ passes → length (filter t (pid ∷ pids)) ≤ length (pid ∷ pids)
-  by_test true is = let rest = no_longer t pids in rw is (omega (arith, rest))
-  by_test false is = let rest = no_longer t pids in rw is (omega (arith, rest))
-
 -- one more is taken where none is there
-pub few_added : (set : Params) (pid : ℕ) (pids : List ℕ) → add_refusal set pids pid ≡ None → HasFewPids set pids → HasFewPids set (with_pid pid pids)
+few_added : (set : Params) (pid : ℕ) (pids : List ℕ) → add_refusal set pids pid ≡ None → HasFewPids set pids → HasFewPids set (with_pid pid pids)
 unfolding with_pid
 few_added set pid [] granted few one = omega arith
 few_added set pid (last ∷ []) granted few one = by_test (nat_eq pid last) refl where
@@ -24,10 +25,23 @@ few_added set pid (last ∷ []) granted few one = by_test (nat_eq pid last) refl
   by_test false is = let no = rw (is, one) at granted in absurd (cc no)
 few_added set pid (first ∷ next ∷ rest) granted few one = let before = few one in absurd (omega (arith, before))
 
+unrefused : (a b : Bool) (rest : Option Errno) → (if a then Some Einval else (if b then Some Einval else rest)) ≡ None → rest ≡ None
+unrefused true b rest is = absurd (cc is)
+unrefused false true rest is = absurd (cc is)
+unrefused false false rest is = is
+
+-- an owner's AddPid that isn't refused, whether or not the set was full
+pub few_granted : {T E : Type 0} (f : Facts) (pid : ℕ) (r : Result T E) (new : List ℕ) → owner_refusal Demux f (AddPid pid) ≡ None → HasFewPids f.params f.pids
+    → OnOk r (new ≡ with_pid pid f.pids) → OnErr r (new ≡ f.pids) → HasFewPids f.params new
+few_granted f pid (Ok x) new granted few set same =
+    let not_refused = unrefused (nat_lt ALL_PACKETS pid) (is_allocated (state_of f) || not (is_pes f.params)) (add_refusal f.params f.pids pid) granted in
+    subst (HasFewPids f.params) (sym set) (few_added f.params pid f.pids not_refused few)
+few_granted f pid (Err x) new granted few set same = subst (HasFewPids f.params) (sym same) few
+
 pub few_removed : (set : Params) (pid : ℕ) (pids : List ℕ) → HasFewPids set pids → HasFewPids set (without_pid pid pids)
 unfolding without_pid
 few_removed set pid pids few one =
-    let less = no_longer (λ p. not (nat_eq pid p)) pids in
+    let less = length-filter_both (λ (p : ℕ). not (nat_eq pid p)) (λ (p : ℕ). not (not (nat_eq pid p))) (λ (p : ℕ). refl) pids in
     let before = few one in
     omega (arith, less, before)
 
