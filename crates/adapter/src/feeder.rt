@@ -35,8 +35,8 @@ impl Model for Feeder {
 
 impl Feeder {
     /// Passes a batch of the frontend through the nodes for which `nodes` has true, from 0 to 32, and answers the places of the
-    /// entries, by node. `now` is the moment, in milliseconds. Each node hands the batch back for the next, so it is never copied.
-    /// It may wait.
+    /// entries, by node. `now` is the moment, in milliseconds. Each node hands the batch back for the next, so it is never
+    /// copied. It may wait.
     pub fn feed<L: Ledger, R: Wait>(
         &mut self,
         rt: &R,
@@ -59,8 +59,8 @@ impl Feeder {
         places
     }
 
-    /// Tells the nodes for which `nodes` has true, from 0 to 32, that the stream has ended, and answers the places of the entries,
-    /// by node. It may wait.
+    /// Tells the nodes for which `nodes` has true, from 0 to 32, that the stream has ended, and answers the places of the
+    /// entries, by node. It may wait.
     pub fn end<L: Ledger, R: Wait>(
         &mut self,
         rt: &R,

@@ -47,7 +47,7 @@ pub use Rattle.std.proofs.Math.Seq.{drop-append-add, drop-append_seam, take-add,
 pub use Rattle.std.proofs.lemmas.Bool.{cases_lt}
 pub use Rattle.std.proofs.lemmas.Bool.Decides.{nat_tests}
 pub use Rattle.std.proofs.lemmas.Grind.{common_steps, flat_map-append}
-pub use Rattle.std.proofs.lemmas.List.{append-nil, append_assoc, drop-drop, get_or-set_other, get_or-set_same, get_or_default, length-drop, length-set, length-take-le, map-append, take-append-drop, take-append-le, take_all}
+pub use Rattle.std.proofs.lemmas.List.{append-nil, append_assoc, drop-drop, get_or-set_other, get_or-set_same, get_or_default, length-drop, length-set, length-take-le, map-append, nil_from_length, take-append-drop, take-append-le, take_all}
 pub use Rattle.std.proofs.lemmas.List.Elements.{All-append, All-cons, All-get_or, All-head, All-more, All-nil, All-replicate, All-set, All-tail, All-weaker}
 pub use Rattle.std.proofs.lemmas.Option.{none-some, slice_get-get_or}
 pub use Rattle.std.specs.List.{All, flat_map}

@@ -1,5 +1,5 @@
 -- How the batches of writes come from the bytes of all.
-use Rattle.client_core.proofs.Imports.{◌≡◌, refl, sym, ap, subst, ◌∙◌, ℕ, zero, suc, ◌+◌, ◌-◌, ◌*◌, ◌<◌, ◌≤◌, List, [], ◌∷◌, ◌++◌, Option, Some, length, take, drop, inl, inr, arith, length-append, slice_get, flat_map, IfSome, All-nil, All-cons, All-head, All-tail, cases_lt, flat_map-append, drop-drop, length-drop, length-take-le, take-append-drop, drop-append_seam, drop-append-add, take-append_seam, take-length, Cut, only_rest, join, Cutting, Cuts, IsRest, fresh, IsPacket, Piece, packet, skipped, IsPiece, bytes_of, packets_of, Of188, cut-append, cut-rest, cut_after-is_rest, cut_after-size, has-pieces, Packets, batch_of, plays_from, plays, joined, cut_of, Playing, unplayed, with_write, HasPlayed, most_bytes, AreJoined, AreCounted, AreCompleted, ArePlaced, IsPlayed, StandsAmong, packets_in, whole_by}
+use Rattle.client_core.proofs.Imports.{◌≡◌, refl, sym, ap, subst, ◌∙◌, ℕ, zero, suc, ◌+◌, ◌-◌, ◌*◌, ◌<◌, ◌≤◌, List, [], ◌∷◌, ◌++◌, Option, Some, length, take, drop, inl, inr, arith, length-append, slice_get, flat_map, IfSome, All-nil, All-cons, All-head, All-tail, cases_lt, flat_map-append, drop-drop, length-drop, length-take-le, take-append-drop, drop-append_seam, drop-append-add, take-append_seam, take-length, Cut, only_rest, join, Cutting, Cuts, IsRest, fresh, IsPacket, Piece, packet, skipped, IsPiece, bytes_of, packets_of, Of188, cut-append, cut-rest, cut_after-is_rest, cut_after-size, has-pieces, Packets, batch_of, plays_from, plays, joined, cut_of, Playing, unplayed, with_write, HasPlayed, most_bytes, AreJoined, AreCounted, AreCompleted, ArePlaced, IsPlayed, StandsAmong, packets_in, whole_by, nil_from_length}
 use Rattle.std.proofs.Common.{append_assoc, append-nil}
 use Rattle.std.specs.Prelude.{All}
 use Rattle.ts_packet.specs.Cut.{cut, cut_after, in_bytes}
@@ -214,10 +214,6 @@ last_bytes xs =
 
 -- ------ all at once
 
-nil_of : {A : Type 0} (xs : List A) → length xs ≡ 0 → xs ≡ []
-nil_of [] is = refl
-nil_of (x ∷ xs) is = absurd (omega (arith, is))
-
 -- Two pushes into a room for 64 packets each: the first takes all packets of few bytes, and the second, which is for the bytes
 -- behind 64 packets, finds none and takes all bytes.
 module _ (bytes : List ℕ) (taken again : ℕ) (found none : List (List ℕ)) (mid end : Cutting) (few : length bytes ≤ 12219)
@@ -242,7 +238,7 @@ module _ (bytes : List ℕ) (taken again : ℕ) (found none : List (List ℕ)) (
   none_behind is =
       let gone : length left ≡ 0 = omega (arith, left_count, is) in
       let short : length (take again left) ≡ 0 = omega (arith, length-take-le again left within_again, within_again, gone) in
-      let same : all ≡ take taken bytes = ap (λ xs. take taken bytes ++ xs) (nil_of (take again left) short) ∙ append-nil (take taken bytes) in
+      let same : all ≡ take taken bytes = ap (λ xs. take taken bytes ++ xs) (nil_from_length (take again left) short) ∙ append-nil (take taken bytes) in
       omega (arith, length-append found none, ap length (sym second.packets ∙ ap (λ xs. (cut Of188 xs).packets) same ∙ first.packets))
 
   none_more_found : length none ≡ 0
@@ -260,7 +256,7 @@ module _ (bytes : List ℕ) (taken again : ℕ) (found none : List (List ℕ)) (
       ap (λ n. take taken bytes ++ take n left) whole ∙ ap (λ xs. take taken bytes ++ xs) (take-length left ∙ are) ∙ take-append-drop taken bytes
 
   pub all_found : found ≡ (cut Of188 bytes).packets
-  all_found = sym (append-nil found) ∙ ap (λ ps. found ++ ps) (sym (nil_of none none_more_found)) ∙ sym second.packets ∙ ap (λ xs. (cut Of188 xs).packets) takes_all
+  all_found = sym (append-nil found) ∙ ap (λ ps. found ++ ps) (sym (nil_from_length none none_more_found)) ∙ sym second.packets ∙ ap (λ xs. (cut Of188 xs).packets) takes_all
 
   pub all_left : end.rest ≡ (cut Of188 bytes).rest
   all_left = second.rest ∙ ap (λ xs. (cut Of188 xs).rest) takes_all

@@ -49,5 +49,5 @@ pub use event::{Event, Request};
 pub use laws::{
     calls_are_few, one_reply_repeats_once, small_steps_are_the_whole, writes_pass_their_batches,
 };
-pub use reply::{fitted, unless_no_memory};
+pub use reply::unless_no_memory;
 pub use stop::{MOST_CALLS, Stop};

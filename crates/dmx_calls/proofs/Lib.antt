@@ -11,4 +11,5 @@ pub mod Weaving
 pub mod Numbered
 pub mod Telling
 pub mod Lasts
+pub mod Filled
 pub mod Imports

@@ -3,6 +3,7 @@
 ghost use Rattle.std.specs.Prelude.{◌≡◌, true, IfOk};
 ghost use Rattle.dmx_calls.specs.Calls.{response_of};
 
+use crate::byte_buf::ByteBuf;
 use crate::log::{Act, Entry};
 use crate::params::{Input, PesParams, SectionParams};
 use crate::reply::{Reply, Tap};
@@ -173,8 +174,18 @@ fn log_tap(alloc: Global, tap: Tap) -> Result<LogTap, NoMemory>
     })
 }
 
+// The bytes of a read with no more room than they take. A buffer that is full is kept as it is.
+fn fitting(alloc: Global, buf: ByteBuf) -> Result<ByteBuf, NoMemory>
+    ensures { IfOk result (λ kept. kept.bytes ≡ buf.bytes) }
+{
+    if buf.bytes().len() == buf.count() as usize {
+        return Ok(buf);
+    }
+    buf.fitted(alloc)
+}
+
 fn log_reply(alloc: Global, reply: Reply) -> Result<LogReply, NoMemory>
-    ensures { IfOk result (λ kept. kept ≡ reply) }
+    ensures { IfOk result (λ kept. response_of kept ≡ response_of reply) }
 {
     Ok(match reply {
         Reply::Done { dropped, tap } => Reply::Done {
@@ -184,7 +195,7 @@ fn log_reply(alloc: Global, reply: Reply) -> Result<LogReply, NoMemory>
         Reply::Busy { owner } => Reply::Busy { owner },
         Reply::Refused(errno) => Reply::Refused(errno),
         Reply::NoMemory => Reply::NoMemory,
-        Reply::Data(buf) => Reply::Data(buf),
+        Reply::Data(buf) => Reply::Data(fitting(alloc, buf)?),
         Reply::Again { ended } => Reply::Again { ended },
         Reply::Overflow {
             from,
@@ -255,7 +266,8 @@ impl Model for SharedReply {
 }
 
 impl SharedReply {
-    /// Keeps this reply: shared with the one of this entry, where that is the same, and else in memory of its own.
+    /// Keeps this reply of a node, with no more room than its bytes take: shared with the one of this entry, where that is the
+    /// same, and else in memory of its own.
     pub fn of(alloc: Global, last: Option<&Entry>, reply: Reply) -> Result<SharedReply, NoMemory>
         ensures { IfOk result (λ kept. response_of kept ≡ response_of reply) }
     {
@@ -265,6 +277,13 @@ impl SharedReply {
                 return entry.reply.shared();
             }
         }
+        SharedReply::unshared(alloc, reply)
+    }
+
+    /// Keeps a reply that is told as a log tells it, in memory of its own.
+    pub fn unshared(alloc: Global, reply: LogReply) -> Result<SharedReply, NoMemory>
+        ensures { IfOk result (λ kept. kept ≡ reply) }
+    {
         Ok(SharedReply {
             reply: Arc::new(alloc, reply)?,
         })

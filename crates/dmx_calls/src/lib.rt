@@ -18,7 +18,8 @@
 //!
 //! Sources: the Linux media API, chapter Digital TV demux, for calls, filters, states and errors; ISO/IEC 13818-1 for
 //! packets and sections; what these leave open is this project's rule, as are the numbers of `limits` but the flags other than
-//! KEEP, the PIDs and the PES types. `ByteBuf::new`, `ByteBuf::fitted`, `KeptAct::of` and `SharedReply::of` alone take memory.
+//! KEEP, the PIDs and the PES types. `ByteBuf::new`, `ByteBuf::fitted`, `KeptAct::of`, `SharedReply::of` and
+//! `SharedReply::unshared` alone take memory.
 #![tactic(auto)]
 
 mod byte_buf;
@@ -43,5 +44,5 @@ pub use node::{NodeKind, State};
 pub use outcome::{Outcome, OutcomeKind};
 pub use params::{Input, Output, Params, PesParams, SectionParams};
 pub use refusals::refusal;
-pub use reply::{Answer, Errno, PollError, Reply, Span, Tap};
+pub use reply::{Answer, Errno, PollError, Reply, Span, Tap, TapPids};
 pub use told::Told;

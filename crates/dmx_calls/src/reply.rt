@@ -4,7 +4,7 @@ ghost use Rattle.std.specs.Prelude.{◌≡◌};
 ghost use Rattle.dmx_calls.specs.Names.{errno_text, pending_text};
 
 use crate::byte_buf::ByteBuf;
-use pid_set::Pids;
+use pid_set::PidSet;
 use std::sync::Arc;
 use ts_batch::Batch;
 
@@ -70,9 +70,12 @@ pub struct Span {
     pub to: u64,
 }
 
+/// The PIDs of a tap as a node tells them: a filter whose packets go to the dvr node has one at most.
+pub type TapPids = PidSet<1>;
+
 /// What the dvr node is to be told of this node's tap. A log keeps it with the PIDs as `KeptPids`.
 #[derive(Clone, Debug, PartialEq, Eq, Drop)]
-pub enum Tap<P = Pids> {
+pub enum Tap<P = TapPids> {
     /// Nothing.
     Keep,
     /// The tap is attached, with these PIDs.
@@ -83,7 +86,7 @@ pub enum Tap<P = Pids> {
 
 /// What a node replies. It takes no memory but a read's bytes; a log keeps it with the PIDs of a tap as `KeptPids`.
 #[derive(Drop)]
-pub enum Reply<P = Pids> {
+pub enum Reply<P = TapPids> {
     /// The call was done.
     Done {
         /// The bytes that were unread and are now dropped.

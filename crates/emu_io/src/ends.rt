@@ -50,8 +50,8 @@ impl Ends {
     {
         Ok(Ends {
             words: words_of(rt)?,
-            source: StdSource::new(rt),
-            sink: StdSink::new(rt),
+            source: StdSource::new(rt.stdin()),
+            sink: StdSink::new(rt.stdout()),
             clock: StdClock::new(rt),
         })
     }

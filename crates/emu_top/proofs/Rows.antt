@@ -1,11 +1,8 @@
 -- The rows of a stream's head stand in their order.
-use Rattle.emu_top.proofs.Imports.{◌≡◌, ◌<◌, ◌≤◌, ◌+◌, refl, sym, ap, subst, ◌∙◌, ℕ, zero, suc, add-one, Bool, true, false, List, [], ◌∷◌, ◌++◌, inl, inr, arith, cases_lt, nat_tests, ⊤, nat_le, nat_lt, ◌&&◌, counts, cut, PacketSize, PidRow, row_of, rows_below, rows-more, rows-same, rows-none}
+use Rattle.emu_top.proofs.Imports.{◌≡◌, ◌<◌, ◌≤◌, ◌+◌, refl, sym, ap, subst, ◌∙◌, ℕ, zero, suc, add-one, Bool, true, List, [], ◌∷◌, ◌++◌, inl, inr, arith, cases_lt, nat_tests, ⊤, nat_le, nat_lt, ◌&&◌, counts, cut, PacketSize, PidRow, row_of, rows_below, rows-more, rows-same, rows-none}
+use Rattle.std.proofs.lemmas.Bool.{and_parts}
 use Rattle.ts_watch.specs.Head.{head_of}
 use Rattle.report_read.specs.Report.{are_rows}
-
-both : (a b : Bool) → (a && b) ≡ true → (a ≡ true) × (b ≡ true)
-both true b e = (refl, e)
-both false b e = absurd (cc)
 
 -- rows of PIDs below this number
 abbrev AreBelow : ℕ → List (ℕ × PidRow) → Type 0
@@ -29,7 +26,7 @@ in_order least pid row [] low most some ordered below =
     let has : nat_lt 0 row.packets ≡ true = grind (arith, nat_tests) in
     rw (above, within, has) refl
 in_order least pid row (r ∷ rows) low most some ordered below =
-    let parts = both (nat_le least r.0 && (nat_le r.0 8191 && nat_lt 0 r.1.packets)) (are_rows (suc r.0) rows) ordered in
+    let parts = and_parts (nat_le least r.0 && (nat_le r.0 8191 && nat_lt 0 r.1.packets)) (are_rows (suc r.0) rows) ordered in
     let next : suc r.0 ≤ pid = omega (arith, below.0) in
     let later = in_order (suc r.0) pid row rows next most some parts.1 below.1 in
     rw (parts.0, later) refl

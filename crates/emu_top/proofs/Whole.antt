@@ -1,15 +1,7 @@
 -- A stream that is read to its end, or isn't.
-use Rattle.emu_top.proofs.Imports.{◌≡◌, ◌≢◌, ◌≤◌, ◌+◌, refl, sym, ap, subst, ◌∙◌, ℕ, zero, suc, false, List, [], ◌∷◌, ◌++◌, take, inl, inr, arith, cases_lt, Some, None, slice_get, SourceEnd, told_head, head_of, Reading, Going, Ended, Failed, TooMany, Pulling, Pulls, HasGivenAll, fault_of, has_failed, Follows, Draws, OfStream, many_reads, ReadsTo, IsCutOff, IsWholeOf, Stream, TooLong, ReadFault}
+use Rattle.emu_top.proofs.Imports.{◌≡◌, ◌≢◌, ◌≤◌, ◌+◌, refl, sym, ap, subst, ◌∙◌, ℕ, false, List, [], ◌++◌, inl, inr, arith, cases_lt, Some, None, SourceEnd, told_head, head_of, Reading, Going, Ended, Failed, TooMany, Pulling, Pulls, HasGivenAll, fault_of, has_failed, Follows, Draws, OfStream, many_reads, ReadsTo, IsCutOff, IsWholeOf, Stream, TooLong, ReadFault}
 use Rattle.feed_pull.specs.declared.fault.PullFault.TheVariants as pull
 use Rattle.emu_top.proofs.Outputs.{rose_of}
-
--- one more from the front
-pub take_next : {A : Type 0} (xs : List A) (i : ℕ) (x : A) → slice_get xs i ≡ Some x → take (i + 1) xs ≡ take i xs ++ x ∷ []
-take_next [] i x at = absurd (cc)
-take_next (y ∷ ys) zero x at = let same : y ≡ x = cc in ap (λ z. z ∷ []) same
-take_next (y ∷ ys) (suc i) x at =
-    let on : suc i + 1 ≡ suc (i + 1) = omega arith in
-    ap (λ n. take n (y ∷ ys)) on ∙ ap (λ zs. y ∷ zs) (take_next ys i x at)
 
 -- the packets and the head of all that was taken
 pub whole_of : (x y : SourceEnd) (old new : Pulling) (stream : Stream) → Draws x y old new stream.packets.items → HasGivenAll new → has_failed new.reading ≡ false

@@ -12,4 +12,5 @@ pub mod Cases
 pub mod Standing
 pub mod Causing
 pub mod ByValues
+pub mod FewPids
 pub mod Imports

@@ -32,7 +32,7 @@ impl Tenure {
             return tap_of_idle(recorded);
         }
         match &self.params {
-            Params::Pes { pids, .. } if renews => Tap::Attach(pids.copied()),
+            Params::Pes { pids, .. } if renews => Tap::Attach(pids.fitted()),
             _ => Tap::Keep,
         }
     }

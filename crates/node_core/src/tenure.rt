@@ -10,13 +10,14 @@ ghost use Rattle.dmx_calls.specs.Invocation.{Close, SetFilter, SetPes, AddPid, R
 ghost use Rattle.dmx_calls.specs.Capture.{has_flag};
 ghost use Rattle.dmx_calls.specs.Facts.{state_of_filter};
 ghost use Rattle.dmx_calls.specs.Answer.{is_for_anybody, done_dropping};
-ghost use Rattle.dmx_calls.specs.Calls.{invocation_of, response_of, params_of};
+ghost use Rattle.dmx_calls.specs.Calls.{invocation_of, response_of, params_of, pids_of};
 ghost use Rattle.dmx_calls.specs.Back.{GivesBack};
 ghost use Rattle.item_select.specs.Selecting.{begun as begun_selecting};
 ghost use Rattle.node_buffer.specs.Inside.Capturing.{terms_of as terms_by, begun};
 ghost use Rattle.node_buffer.specs.Inside.Gives.{owner_refusal, is_close};
 ghost use Rattle.node_core.specs.Offers.{choice_of};
 ghost use Rattle.node_core.specs.Inside.Gives.{Gives};
+ghost use Rattle.node_core.specs.Inside.Sound.{HasFewPids};
 ghost use Rattle.node_core.specs.Inside.Step.{unset, next};
 
 use crate::filter::{select, starts_at_once};
@@ -44,6 +45,8 @@ pub struct Tenure {
     pub buffer: Buffer,
     // The buffer has the terms of this filter.
     ghost told: { buffer.terms ≡ terms_by (params_of params) },
+    // One whose packets go to the dvr node has one PID at most.
+    ghost few: { HasFewPids (params_of params) (pids_of params) },
 }
 
 impl Tenure {
@@ -67,6 +70,7 @@ impl Tenure {
 
     // A filter is set. It starts at once where DMX_IMMEDIATE_START is among its flags.
     fn set(&mut self, params: Params, flags: u32, now: u64) -> Reply
+        requires few { HasFewPids (params_of params) (pids_of params) }
         ensures said { response_of result ≡ done_dropping self.old.buffer.ledger (tap_told (is_recording_for self.old) true self.new) }
         ensures owner { self.new.owner ≡ self.old.owner }
         ensures params { self.new.params ≡ params }

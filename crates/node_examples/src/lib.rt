@@ -1,12 +1,12 @@
 //! Worked examples: what the definitions of `dmx_calls` give for histories that were worked out by hand from the rules.
 //!
-//! What a contract sees: each example is a definition of specs/, in the words of `Words`, and a clause of a function that does nothing:
-//! every call in every state and by another caller, an overflow with what each definition says of it, calls whose moments fall, taps
-//! of the dvr node, and the entries of a node that the feeder and clients make between them. What a session can say stands in
-//! examples/rows/histories.rows instead, where the program is tried by it.
+//! What a contract sees: each example is a definition of specs/, in the words of `Words`, and a clause of a function that does
+//! nothing: every call in every state and by another caller, an overflow with what each definition says of it, calls whose
+//! moments fall, taps of the dvr node, and the entries of a node that the feeder and clients make between them. What a session
+//! can say stands in examples/rows/histories.rows instead, where the program is tried by it.
 //!
-//! What is proved: each example, by the check, which computes it. So a definition by which one of them comes out otherwise is refused.
-//! Nothing stands on this crate, and no code of it runs, so nothing of it is tested.
+//! What is proved: each example, by the check, which computes it. So a definition by which one of them comes out otherwise is
+//! refused. Nothing stands on this crate, and no code of it runs, so nothing of it is tested.
 #![tactic(auto)]
 
 ghost use Rattle.node_examples.specs.Overflows.{ItemLargerThanTheRing, WalkAfter, WalkBy, WalkItems, WalkTotal, WalkAnswered, WalkOver, WalkAnswer, WalkAnsweredAfter, WalkOverAfter, WalkAnswerAfter};

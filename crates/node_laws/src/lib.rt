@@ -1,13 +1,14 @@
 //! Laws of the histories that `dmx_calls` defines: each is the contract of a function that does nothing.
 //!
-//! What a contract sees: histories, and the `Rules` in which a demux node and the dvr node differ. `specs/Laws.antt`, `specs/Owning.antt`
-//! and `specs/Bytes.antt` have the statements; what `dmx_calls` itself needs of them stands there.
+//! What a contract sees: histories, and the `Rules` in which a demux node and the dvr node differ. `specs/Laws.antt`,
+//! `specs/Owning.antt` and `specs/Bytes.antt` have the statements; what `dmx_calls` itself needs of them stands there.
 //!
-//! What is proved: every legal history is accounted, so each byte is given, named as lost or named as dropped, in its place; an entry
-//! that isn't accepted changes nothing; the items of a capture only grow; an overflow's item needs more than the room that it found; a
-//! node answers no more bytes than its passes bring, and an Overflow at least one; nobody but its owner reads a node, and it stays the
-//! owner's whatever others call; entries of which each has the answer that those before it give are a legal history; a Pass and an End
-//! are answered Passed; a report loses nothing of a call. `script_run` stands on some of these; neither a node nor its buffer does.
+//! What is proved: every legal history is accounted, so each byte is given, named as lost or named as dropped, in its place; an
+//! entry that isn't accepted changes nothing; the items of a capture only grow; an overflow's item needs more than the room
+//! that it found; a node answers no more bytes than its passes bring, and an Overflow at least one; nobody but its owner reads
+//! a node, and it stays the owner's whatever others call; entries of which each has the answer that those before it give are a
+//! legal history; a Pass and an End are answered Passed; a report loses nothing of a call. `script_run` stands on some of
+//! these; neither a node nor its buffer does.
 //!
 //! No code of the crate runs, so nothing of it is tested. All of it is this project's own.
 #![tactic(auto)]

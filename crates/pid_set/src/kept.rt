@@ -1,8 +1,8 @@
 // Sets that are kept in a log.
 
-ghost use Rattle.std.specs.Prelude.{◌≡◌, IfOk};
+ghost use Rattle.std.specs.Prelude.{◌≡◌, ◌≤◌, IfOk};
 
-use crate::set::Pids;
+use crate::set::{PidSet, Pids};
 use std::alloc::{AllocError as NoMemory, Global};
 use std::boxed::Box;
 use std::marker::Model;
@@ -26,8 +26,9 @@ impl Model for KeptPids {
 }
 
 impl KeptPids {
-    /// Keeps this set.
-    pub fn of(alloc: Global, set: &Pids) -> Result<KeptPids, NoMemory>
+    /// Keeps this set, which has room for 128 PIDs at most.
+    pub fn of<const N: usize>(alloc: Global, set: &PidSet<N>) -> Result<KeptPids, NoMemory>
+        requires { N ≤ 128 }
         ensures { IfOk result (λ kept. kept ≡ set.now) }
     {
         let members = set.members();

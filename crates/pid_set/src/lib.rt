@@ -8,9 +8,9 @@
 //!
 //! What is proved: `add` gives the set with the PID, and says whether it was there; it refuses exactly where the PID is
 //! absent and as many are there as the set can hold, and then changes nothing. `remove` gives the set without the PID, and
-//! says whether it was there. `has`, `len` and `get` tell of the list, and `copied` and `clone` give it once more. `of` is the
-//! set of one PID. `names` says whether a set names a PID: it has it, or has PID 0x2000. `KeptPids::of` keeps just the set, and
-//! its `set` gives it once more.
+//! says whether it was there. `has`, `len` and `get` tell of the list, and `copied`, `clone` and `fitted`, which has room for
+//! another number of PIDs, give it once more. `of` is the set of one PID. `names` says whether a set names a PID: it has it,
+//! or has PID 0x2000. `KeptPids::of` keeps just the set, and its `set` gives it once more.
 //! `adding_and_removing` has as its contract the law that these are sets: adding a PID to an ascending list leaves it
 //! ascending, with that PID as its one new member, and removing one leaves all others (`specs/Sets.antt`).
 //!

@@ -116,6 +116,14 @@ impl<const N: usize> PidSet<N> {
         PidSet::of_slice(&self.pids)
     }
 
+    /// The same set once more, in a type that has room for `M` PIDs. It takes no memory.
+    pub fn fitted<const M: usize>(&self) -> PidSet<M>
+        requires { length self.now ≤ M }
+        ensures { result ≡ self.now }
+    {
+        PidSet::of_slice(&self.pids)
+    }
+
     // The set of these PIDs, which ascend.
     pub(crate) fn of_slice(members: &[u16]) -> PidSet<N>
         requires fits { length members.now ≤ N }

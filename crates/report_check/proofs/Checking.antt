@@ -1,7 +1,6 @@
 -- Whether a report is right, by what was found of it.
-use Rattle.report_check.proofs.Imports.{◌≡◌, ◌<◌, ◌≤◌, ◌^◌, refl, sym, ap, subst, ◌∙◌, ℕ, zero, suc, List, [], ◌∷◌, true, length, map, arith, nat_tests, All-head, All-tail, All-nil, All-cons, ◌≢◌, ◌&&◌, nat_le, nat_lt, slice_index_or, All, DEMUX_NODES, Input, Frontend, FromDvr, Act, ReadAct, PassAct, LogEntry, StreamHead, IsScript, Scripted, ToldNode, Told, text_of, IsInRange, IsNodeInRange, IsNoReport, IsReport, one_thing, completed, IsRunOf, IsRightReport, IsCallable, brought_from, count_for, is_callable, is_sound, are_sound, IsSoundNode, AreSoundNodes, HasPassed}
+use Rattle.report_check.proofs.Imports.{◌≡◌, ◌<◌, ◌≤◌, ◌^◌, refl, sym, ap, subst, ◌∙◌, ℕ, zero, suc, List, [], ◌∷◌, true, length, map, arith, nat_tests, All-head, All-tail, All-nil, All-cons, ◌≢◌, ◌&&◌, nat_le, nat_lt, slice_index_or, All, DEMUX_NODES, Input, Frontend, FromDvr, Act, ReadAct, PassAct, LogEntry, StreamHead, IsScript, Scripted, ToldNode, Told, text_of, IsInRange, IsNodeInRange, IsNoReport, IsReport, one_thing, completed, IsRunOf, IsRightReport, IsCallable, brought_from, count_for, is_callable, is_sound, are_sound, IsSoundNode, AreSoundNodes, HasPassed, and_parts}
 use Rattle.std.specs.Prelude.{◌+◌}
-use Rattle.report_check.proofs.Lists.{both}
 use Rattle.report_check.proofs.Few.{few_entries}
 use Rattle.report_check.proofs.Passed.{passes}
 use Rattle.report_check.proofs.Deciding.{is_run}
@@ -73,8 +72,8 @@ module _ (stream : List (List ℕ)) (played : List (List (List ℕ))) where
   can who (ReadAct now count) e = grind (arith, nat_tests, e)
   can who (PassAct input first count now) e =
       let most : ℕ = count_for (length stream) counts who input in
-      let a = both (nat_lt 0 count) (nat_le count 64 && nat_le (first + count) most) e in
-      let b = both (nat_le count 64) (nat_le (first + count) most) a.1 in
+      let a = and_parts (nat_lt 0 count) (nat_le count 64 && nat_le (first + count) most) e in
+      let b = and_parts (nat_le count 64) (nat_le (first + count) most) a.1 in
       let some : 0 < count = grind (arith, nat_tests, a.0) in
       let few : count ≤ 64 = grind (arith, nat_tests, b.0) in
       let within : first + count ≤ most = grind (arith, nat_tests, b.1) in
@@ -84,6 +83,6 @@ module _ (stream : List (List ℕ)) (played : List (List (List ℕ))) where
   pub can_all : (clients : ℕ) (es : List LogEntry) → are_sound clients (length stream) counts es ≡ true → All (λ e. IsCallable (brought_from stream played e.who) e.act) es
   can_all clients [] sound = All-nil (λ (e : LogEntry). IsCallable (brought_from stream played e.who) e.act)
   can_all clients (e ∷ es) sound =
-      let parts = both (is_sound clients (length stream) counts e) (are_sound clients (length stream) counts es) sound in
-      let here = both (nat_le e.who clients) (is_callable (length stream) counts e.who e.act) parts.0 in
+      let parts = and_parts (is_sound clients (length stream) counts e) (are_sound clients (length stream) counts es) sound in
+      let here = and_parts (nat_le e.who clients) (is_callable (length stream) counts e.who e.act) parts.0 in
       All-cons (λ (f : LogEntry). IsCallable (brought_from stream played f.who) f.act) e es (can e.who e.act here.1) (can_all clients es parts.1)

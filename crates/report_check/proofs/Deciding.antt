@@ -1,15 +1,15 @@
 -- Where each test is passed, the histories for which a report stands are those of a run.
-use Rattle.report_check.proofs.Imports.{◌≡◌, ◌<◌, ◌≤◌, ◌+◌, refl, sym, ap, subst, ◌∙◌, inl, inr, ℕ, zero, suc, List, [], ◌∷◌, true, length, map, arith, append-nil, nat_tests, All-head, at_place, Option, Some, None, slice_get, nat_le, ◌≢◌, All, DEMUX_NODES, Outcome, History, IsLegalFor, LogEntry, Sources, filled, NoMemory, Passed, rules_at, clients_in, Scripted, outcomes, feeding, steps_of, HasDone, replies, sources, ToldNode, Told, IsNodeInRange, IsEntryOf, are_nodes, renumbered, tiled, feeder_of, IsRunOf, AreInPlace, IsRest, queues_in, step_of, all_played, is_callable, is_sound, are_sound, IsSoundNode, AreSoundNodes, IsPlayed, dealt, IsDoneAs, HasPassed, brought_from}
+use Rattle.report_check.proofs.Imports.{◌≡◌, ◌<◌, ◌≤◌, ◌+◌, refl, sym, ap, subst, ◌∙◌, inl, inr, ℕ, zero, suc, List, [], ◌∷◌, true, length, map, arith, append-nil, nat_tests, All-head, at_place, Option, Some, None, slice_get, nat_le, ◌≢◌, All, DEMUX_NODES, Outcome, History, IsLegalFor, LogEntry, Sources, filled, NoMemory, Passed, rules_at, clients_in, Scripted, outcomes, feeding, steps_of, HasDone, replies, sources, ToldNode, Told, IsNodeInRange, IsEntryOf, are_nodes, renumbered, tiled, feeder_of, IsRunOf, AreInPlace, IsRest, queues_in, step_of, all_played, is_callable, is_sound, are_sound, IsSoundNode, AreSoundNodes, IsPlayed, dealt, IsDoneAs, HasPassed, brought_from, and_parts, same_filled}
 use Rattle.report_check.specs.Completed.{completed}
 use Rattle.report_check.proofs.Empty.{legal_on, told_there, steps_there}
 use Rattle.report_check.proofs.Right.{zero_fed}
 use Rattle.report_check.proofs.Doing.{walked_is_done}
-use Rattle.report_check.proofs.Lists.{both, all_at}
+use Rattle.report_check.proofs.Lists.{all_at}
 use Rattle.report_check.proofs.Feeding.{feeds_is}
 use Rattle.report_check.proofs.Nodes.{TellsOrNot, complete_at, complete_long, each_whole, in_place, same_queues}
 use Rattle.report_check.proofs.Fed.{IsFeeder, node_feeder, tiled_feeder}
 use Rattle.report_check.proofs.Passed.{done_at}
-use Rattle.report_check.proofs.Players.{same_filled, same_sources}
+use Rattle.report_check.proofs.Players.{same_sources}
 
 -- ------ entries
 
@@ -17,11 +17,11 @@ sound_at : (clients packets : ℕ) (counts : List ℕ) (es : List LogEntry) → 
 sound_at clients packets counts [] all i e at = absurd (cc)
 sound_at clients packets counts (f ∷ es) all zero e at =
     let same : f ≡ e = cc in
-    let front = both (is_sound clients packets counts f) (are_sound clients packets counts es) all in
-    let parts = both (nat_le f.who clients) (is_callable packets counts f.who f.act) front.0 in
+    let front = and_parts (is_sound clients packets counts f) (are_sound clients packets counts es) all in
+    let parts = and_parts (nat_le f.who clients) (is_callable packets counts f.who f.act) front.0 in
     let low : f.who ≤ clients = grind (arith, nat_tests, parts.0) in
     subst (λ (x : LogEntry). x.who ≤ clients) same low
-sound_at clients packets counts (f ∷ es) all (suc i) e at = sound_at clients packets counts es (both (is_sound clients packets counts f) (are_sound clients packets counts es) all).1 i e at
+sound_at clients packets counts (f ∷ es) all (suc i) e at = sound_at clients packets counts es (and_parts (is_sound clients packets counts f) (are_sound clients packets counts es) all).1 i e at
 
 -- ------ nodes
 

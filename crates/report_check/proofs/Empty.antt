@@ -1,10 +1,10 @@
 -- Where no client called a node, a run in batches of 64 at moment 0 has the same report.
-use Rattle.report_check.proofs.Imports.{◌≡◌, ◌<◌, ◌≤◌, ◌+◌, ◌-◌, refl, sym, ap, subst, ◌∙◌, ℕ, zero, suc, List, [], ◌∷◌, ◌++◌, Bool, true, false, nat_eq, length, map, sum, min, arith, inl, append_assoc, append-nil, nat_tests, All-nil, All-cons, sum_by-cons, Some, None, slice_get, if◌then◌else◌, All, list_any, DEMUX_NODES, Outcome, Act, PassAct, EndAct, StreamHead, History, Response, Passed, NoMemory, Rules, rules_at, May, IsLegalFor, LogEntry, Sources, filled, filled_act, filled_entry, Scripted, next_event, Batch, feeding, steps_of, HasDone, IsRun, replies, sources, StandsIn, is_of_client, ToldNode, shown, renumbered, feeder_of, complete, told_by}
+use Rattle.report_check.proofs.Imports.{◌≡◌, ◌<◌, ◌≤◌, ◌+◌, ◌-◌, refl, sym, ap, subst, ◌∙◌, ℕ, zero, suc, List, [], ◌∷◌, ◌++◌, Bool, true, false, nat_eq, length, map, sum, min, arith, inl, append_assoc, append-nil, nat_tests, All-nil, All-cons, sum_by-cons, Some, None, slice_get, if◌then◌else◌, All, list_any, DEMUX_NODES, Outcome, Act, PassAct, EndAct, StreamHead, History, Response, Passed, NoMemory, Rules, rules_at, May, IsLegalFor, LogEntry, Sources, filled, filled_act, filled_entry, Scripted, next_event, Batch, feeding, steps_of, HasDone, IsRun, replies, sources, StandsIn, is_of_client, ToldNode, shown, renumbered, feeder_of, complete, told_by, filled_append}
 use Rattle.std.proofs.Common.{nat_lt}
 use Rattle.dmx_calls.specs.Answer.{answer}
 use Rattle.report_check.specs.Completed.{tiled, completed}
 use Rattle.report_check.proofs.Completing.{step_of}
-use Rattle.report_check.proofs.Idle.{IsFeed, AllZero, uncalled, filled_append}
+use Rattle.report_check.proofs.Idle.{IsFeed, AllZero, uncalled}
 
 -- ------ the tiles
 

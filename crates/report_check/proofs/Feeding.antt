@@ -1,7 +1,6 @@
 -- The feeder's calls pass the packets exactly where the test says so.
-use Rattle.report_check.proofs.Imports.{◌≡◌, ◌≤◌, ◌+◌, refl, sym, ap, ◌∙◌, ℕ, suc, List, [], ◌∷◌, Bool, true, false, nat_eq, map, sum, arith, nat_tests, All-head, All-tail, All-nil, All-cons, sum_by-cons, Option, Some, None, nat_le, ◌&&◌, if◌then◌else◌, All, Frontend, Act, PassAct, EndAct, Batch, Step, feeding, passed_behind, is_end, are_none, or_else, feeds}
+use Rattle.report_check.proofs.Imports.{◌≡◌, ◌≤◌, ◌+◌, refl, sym, ap, ◌∙◌, ℕ, suc, List, [], ◌∷◌, Bool, true, false, nat_eq, map, sum, arith, nat_tests, All-head, All-tail, All-nil, All-cons, sum_by-cons, Option, Some, None, nat_le, ◌&&◌, if◌then◌else◌, All, Frontend, Act, PassAct, EndAct, Batch, Step, feeding, passed_behind, is_end, are_none, or_else, feeds, and_parts}
 use Rattle.std.proofs.Common.{nat_lt}
-use Rattle.report_check.proofs.Lists.{both}
 
 abbrev pub Fits : Batch → Type 0
 Fits b = (1 ≤ b.size) × (b.size ≤ 64)
@@ -28,9 +27,9 @@ pass_by : (packets first next from count now : ℕ) → (b : Bool) → (nat_eq f
     → (if b then Some (first + count) else None) ≡ Some next → IsNextPass packets first next (PassAct Frontend from count now)
 pass_by packets first next from count now false e s = absurd (cc)
 pass_by packets first next from count now true e s =
-    let a = both (nat_eq from first) (nat_lt 0 count && (nat_le count 64 && nat_le (first + count) packets)) e in
-    let b = both (nat_lt 0 count) (nat_le count 64 && nat_le (first + count) packets) a.1 in
-    let c = both (nat_le count 64) (nat_le (first + count) packets) b.1 in
+    let a = and_parts (nat_eq from first) (nat_lt 0 count && (nat_le count 64 && nat_le (first + count) packets)) e in
+    let b = and_parts (nat_lt 0 count) (nat_le count 64 && nat_le (first + count) packets) a.1 in
+    let c = and_parts (nat_le count 64) (nat_le (first + count) packets) b.1 in
     let same : from ≡ first = grind (arith, nat_tests, a.0) in
     let some : 1 ≤ count = grind (arith, nat_tests, b.0) in
     let few : count ≤ 64 = grind (arith, nat_tests, c.0) in
@@ -76,8 +75,8 @@ feeds_one packets first step s ss number later (Some next) is t =
       same = rw (← front, ← behind) refl;
     }
 feeds_one packets first step s ss number later None is t =
-    let a = both (is_end s.act) (nat_eq first packets && are_none ss) t in
-    let b = both (nat_eq first packets) (are_none ss) a.1 in
+    let a = and_parts (is_end s.act) (nat_eq first packets && are_none ss) t in
+    let b = and_parts (nat_eq first packets) (are_none ss) a.1 in
     let full : first ≡ packets = grind (arith, nat_tests, b.0) in
     let front : s ≡ record { step = step; act = EndAct } = same_step s step EndAct number (end_act s.act a.0) in
     let none : ss ≡ [] = no_more ss b.1 in
@@ -91,7 +90,7 @@ feeds_one packets first step s ss number later None is t =
 pub feeds_is : (packets first step : ℕ) (ss : List Step) → feeds packets first step ss ≡ true → IsFeedingFrom packets first step ss
 feeds_is packets first step [] e = absurd (cc)
 feeds_is packets first step (s ∷ ss) e =
-    let parts = both (nat_eq s.step step) (or_else (passed_behind packets first s.act) (is_end s.act && (nat_eq first packets && are_none ss)) (λ next. feeds packets next (suc step) ss)) e in
+    let parts = and_parts (nat_eq s.step step) (or_else (passed_behind packets first s.act) (is_end s.act && (nat_eq first packets && are_none ss)) (λ next. feeds packets next (suc step) ss)) e in
     let number : s.step ≡ step = grind (arith, nat_tests, parts.0) in
     feeds_one packets first step s ss number (λ next t. feeds_is packets next (suc step) ss t) (passed_behind packets first s.act) refl parts.1
 

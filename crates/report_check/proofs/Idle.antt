@@ -1,24 +1,7 @@
 -- In a run, a node that no client called has the feeder's calls alone.
-use Rattle.report_check.proofs.Imports.{◌≡◌, ◌+◌, refl, sym, ap, subst, ◌∙◌, ℕ, zero, suc, List, [], ◌∷◌, ◌++◌, Bool, true, false, nat_eq, length, map, arith, append_assoc, nat_tests, map-append, reverse-append, Some, slice_get, nat_lt, ◌||◌, list_any, Outcome, Act, PassAct, EndAct, StreamHead, History, Response, Passed, Rules, rules_at, May, IsLegalFor, LogEntry, Sources, filled, filled_act, filled_entry, go_by, Scripted, Batch, Step, feeding, IsRun, sources, is_of_client, ToldNode, shown, renumbered, of_feeder, feeder_of, complete, told_by}
+use Rattle.report_check.proofs.Imports.{◌≡◌, ◌+◌, refl, sym, ap, subst, ◌∙◌, ℕ, zero, suc, List, [], ◌∷◌, ◌++◌, Bool, true, false, nat_eq, length, map, arith, nat_tests, Some, slice_get, nat_lt, ◌||◌, list_any, Outcome, Act, PassAct, EndAct, StreamHead, History, Response, Passed, Rules, rules_at, May, IsLegalFor, LogEntry, Sources, filled, filled_act, go_by, Scripted, Batch, Step, feeding, IsRun, sources, is_of_client, ToldNode, shown, renumbered, of_feeder, feeder_of, complete, told_by, may_at}
 use Rattle.report_check.specs.Completed.{completed}
 use Rattle.report_check.proofs.Completing.{step_of, AreFeeders, ArePassed, same_feeders, AreIdle, complete_shown}
-
--- ------ an entry in a legal history
-
-pub filled_append : (packets : Sources) (xs ys : List LogEntry) → filled packets (xs ++ ys) ≡ filled packets ys ++ filled packets xs
-filled_append packets xs ys = rw (map-append (filled_entry packets) xs ys, reverse-append (map (filled_entry packets) xs) (map (filled_entry packets) ys)) refl
-
-legal_behind : (node : Rules) (later h : History) → IsLegalFor node (later ++ h) → IsLegalFor node h
-legal_behind node [] h legal = legal
-legal_behind node (e ∷ later) h legal = legal_behind node later h legal.0
-
-may_at : (node : Rules) (packets : Sources) (xs : List LogEntry) (e : LogEntry) (ys : List LogEntry) → IsLegalFor node (filled packets (xs ++ e ∷ ys)) → May node (filled packets xs) e.who (filled_act (packets e.who) e.act) e.response
-may_at node packets xs e ys legal =
-    let joined : xs ++ e ∷ ys ≡ (xs ++ e ∷ []) ++ ys = sym (append_assoc xs (e ∷ []) ys) in
-    let parts : filled packets (xs ++ e ∷ ys) ≡ filled packets ys ++ (filled_entry packets e ∷ filled packets xs) =
-    ap (filled packets) joined ∙ (filled_append packets (xs ++ e ∷ []) ys ∙ ap (λ (h : History). filled packets ys ++ h) (filled_append packets xs (e ∷ []))) in
-    let here : IsLegalFor node (filled_entry packets e ∷ filled packets xs) = legal_behind node (filled packets ys) (filled_entry packets e ∷ filled packets xs) (rw parts at legal) in
-    here.1
 
 -- a list with an entry in it
 record Parted (h : List LogEntry) (e : LogEntry) : Type 0 where

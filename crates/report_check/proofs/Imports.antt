@@ -15,6 +15,7 @@ pub use Rattle.client_script.specs.Script.{AreWritten, IsScript, Scripted, clien
 pub use Rattle.client_script.specs.Writes.{IsWritten}
 pub use Rattle.client_script.specs.declared.line.Want.{Want}
 pub use Rattle.client_script.specs.declared.line.Want.TheVariants.{Add, Close, Open, Pes, Poll, Read, Remove, Section, Size, Start, Stop}
+pub use Rattle.dmx_calls.proofs.Filled.{filled_append, may_at, same_filled}
 pub use Rattle.dmx_calls.proofs.Numbered.{demux_rules, dvr_rules}
 pub use Rattle.dmx_calls.proofs.Telling.{go_by}
 pub use Rattle.dmx_calls.specs.Calls.{response_of, told_entry}
@@ -58,10 +59,10 @@ pub use Rattle.script_run.proofs.OnNodes.{by_caller, calls_of, calls_on, on_node
 pub use Rattle.script_run.specs.IsRun.{AreAsked, Batch, HasDone, InTurn, IsEvent, IsRun, StandsIn, Step, feeding, replies, sources, steps_of}
 pub use Rattle.std.proofs.Common.{Bool, Bor, Decides, List, [], add-one, ap, append-nil, append_assoc, arith, codes, drop, false, get_or, inl, inr, is_some, length, length-append, length-take, map, min, nat_eq, not, refl, reverse, rules, subst, suc, sum, sym, take, take-append-drop, take_all, true, zero, ℕ, ◌*◌, ◌++◌, ◌+◌, ◌-◌, ◌<◌, ◌^◌, ◌∙◌, ◌∷◌, ◌≡◌, ◌≤◌, ◌⊎◌}
 pub use Rattle.std.proofs.Math.Seq.{drop-cons, take-append_seam}
-pub use Rattle.std.proofs.lemmas.Bool.{cases_lt, false≢true}
+pub use Rattle.std.proofs.lemmas.Bool.{cases_lt, false≢true, and_parts}
 pub use Rattle.std.proofs.lemmas.Bool.Decides.{nat_tests}
 pub use Rattle.std.proofs.lemmas.Grind.{flat_map-append}
-pub use Rattle.std.proofs.lemmas.List.{get_or-map, get_or_past, length-drop, length-map, length-set, length-take-le, map-append, map-set, reverse-append, take_more}
+pub use Rattle.std.proofs.lemmas.List.{get_or-map, get_or_past, length-drop, length-map, length-set, length-take-le, map-append, map-set, take_more}
 pub use Rattle.std.proofs.lemmas.List.Elements.{All-cons, All-get_or, All-head, All-nil, All-push, All-tail, All-weaker}
 pub use Rattle.std.proofs.lemmas.List.FromFn.{get_or-map-range_with_len, length-map-range_with_len, map-range_with_len_more}
 pub use Rattle.std.proofs.lemmas.List.Sums.{sum_by-cons}

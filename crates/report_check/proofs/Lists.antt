@@ -1,9 +1,9 @@
 -- Facts of lists, by index.
-use Rattle.report_check.proofs.Imports.{◌≡◌, ◌<◌, ◌≤◌, ◌-◌, refl, sym, subst, ℕ, zero, suc, List, [], ◌∷◌, Bool, true, false, length, map, get_or, take, take_all, drop, arith, All-head, All-tail, All-nil, All-cons, Some, slice_get, ◌&&◌, All}
+use Rattle.report_check.proofs.Imports.{◌≡◌, ◌<◌, ◌≤◌, ◌-◌, refl, sym, subst, ℕ, zero, suc, List, [], ◌∷◌, length, map, get_or, take, take_all, drop, arith, All-head, All-tail, All-nil, All-cons, Some, slice_get, All, Bool, Decides, pointwise, slice_eq-Decides}
 
-pub both : (a b : Bool) → (a && b) ≡ true → (a ≡ true) × (b ≡ true)
-both true b e = (refl, e)
-both false b e = absurd (cc)
+-- where `==` says whether two values are the same, it says so of two lists of them
+pub decided : {A : Type 0} {E : A → A → Bool} (xs ys : List A) (r : Bool) → r ≡ pointwise E xs ys → ((a b : A) → Decides (E a b) (a ≡ b)) → Decides r (xs ≡ ys)
+decided xs ys r is each = slice_eq-Decides each xs ys r is
 
 module _ {X : Type 0} (P : X → Type 0) where
   pub all_at : (xs : List X) → All P xs → (i : ℕ) (x : X) → slice_get xs i ≡ Some x → P x

@@ -1,9 +1,8 @@
 -- Which histories a report stands for, node by node.
-use Rattle.report_check.proofs.Imports.{◌≡◌, ◌<◌, ◌≤◌, ◌+◌, refl, sym, ap, subst, ◌∙◌, ◌⊎◌, inl, inr, ℕ, zero, suc, List, [], ◌∷◌, Bool, true, false, nat_eq, length, arith, nat_tests, All-head, All-tail, Some, slice_get, nat_le, ◌&&◌, LogEntry, ToldNode, is_whole_node, renumbered, complete, of_client, queues_in}
+use Rattle.report_check.proofs.Imports.{◌≡◌, ◌<◌, ◌≤◌, ◌+◌, refl, sym, ap, subst, ◌∙◌, ◌⊎◌, inl, inr, ℕ, zero, suc, List, [], ◌∷◌, Bool, true, false, nat_eq, length, arith, nat_tests, All-head, All-tail, Some, slice_get, nat_le, ◌&&◌, LogEntry, ToldNode, is_whole_node, renumbered, complete, of_client, queues_in, and_parts}
 use Rattle.report_read.specs.Report.{are_placed, are_nodes}
 use Rattle.report_check.proofs.Idle.{AllZero}
 use Rattle.report_check.proofs.Right.{AreBelow}
-use Rattle.report_check.proofs.Lists.{both}
 
 -- ------ nodes in their order
 
@@ -15,8 +14,8 @@ record IsFirst (node : ℕ) (n : ToldNode) (ns : List ToldNode) : Type 0 where
 first_of : (node : ℕ) (n : ToldNode) (ns : List ToldNode) → are_nodes node (n ∷ ns) ≡ true → IsFirst node n ns
 unfolding are_nodes
 first_of node n ns order =
-    let parts = both (nat_le node n.node && is_whole_node n) (are_nodes (suc n.node) ns) order in
-    let front = both (nat_le node n.node) (is_whole_node n) parts.0 in
+    let parts = and_parts (nat_le node n.node && is_whole_node n) (are_nodes (suc n.node) ns) order in
+    let front = and_parts (nat_le node n.node) (is_whole_node n) parts.0 in
     let low : node ≤ n.node = grind (arith, nat_tests, front.0) in
     record { low = low; whole = front.1; later = parts.1 }
 
@@ -48,17 +47,17 @@ unfolding are_placed
 placed_at place [] all i e at = absurd (cc)
 placed_at place (f ∷ es) all zero e at =
     let same : f ≡ e = cc in
-    let parts = both (nat_eq f.place place) (are_placed (suc place) es) all in
+    let parts = and_parts (nat_eq f.place place) (are_placed (suc place) es) all in
     let here : f.place ≡ place + 0 = grind (arith, nat_tests, parts.0) in
     subst (λ (x : LogEntry). x.place ≡ place + 0) same here
 placed_at place (f ∷ es) all (suc i) e at =
-    let parts = both (nat_eq f.place place) (are_placed (suc place) es) all in
+    let parts = and_parts (nat_eq f.place place) (are_placed (suc place) es) all in
     let later = placed_at (suc place) es parts.1 i e at in
     omega (arith, later)
 
 pub in_place : (n : ToldNode) → is_whole_node n ≡ true → (i : ℕ) (e : LogEntry) → slice_get n.entries i ≡ Some e → e.place ≡ i
 in_place n whole i e at =
-    let parts = both _ (are_placed 0 n.entries) whole in
+    let parts = and_parts _ (are_placed 0 n.entries) whole in
     let there = placed_at 0 n.entries parts.1 i e at in
     omega (arith, there)
 

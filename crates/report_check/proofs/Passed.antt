@@ -1,5 +1,5 @@
 -- What a report of a run tells passes each test.
-use Rattle.report_check.proofs.Imports.{◌≡◌, ◌<◌, ◌+◌, refl, sym, subst, ◌∙◌, ℕ, zero, suc, List, [], ◌∷◌, true, length, map, arith, Some, slice_get, ◌≢◌, slice_get_within, All, DEMUX_NODES, Outcome, History, IsLegalFor, LogEntry, NoMemory, rules_at, clients_in, IsScript, Scripted, outcomes, Step, feeding, steps_of, replies, sources, ToldNode, Told, IsNodeInRange, are_nodes, feeder_of, IsRunOf, IsRest, queues_in, feeds, all_played, IsSoundNode, AreSoundNodes, IsPlayed, dealt, IsDoneAs, AreDoneAs, HasPassed, brought_from}
+use Rattle.report_check.proofs.Imports.{◌≡◌, ◌<◌, ◌+◌, refl, sym, subst, ◌∙◌, ℕ, zero, suc, List, [], ◌∷◌, true, length, map, arith, Some, slice_get, ◌≢◌, slice_get_within, All, DEMUX_NODES, Outcome, History, IsLegalFor, LogEntry, NoMemory, rules_at, clients_in, IsScript, Scripted, outcomes, Step, feeding, steps_of, replies, sources, ToldNode, Told, IsNodeInRange, are_nodes, feeder_of, IsRunOf, IsRest, queues_in, feeds, all_played, IsSoundNode, AreSoundNodes, IsPlayed, dealt, IsDoneAs, AreDoneAs, HasPassed, brought_from, same_filled}
 use Rattle.report_check.specs.Completed.{completed}
 use Rattle.report_check.proofs.Right.{all_below, zero_fed}
 use Rattle.report_check.proofs.Doing.{done_is_walked}
@@ -7,7 +7,7 @@ use Rattle.report_check.proofs.Lists.{at_all}
 use Rattle.report_check.proofs.Feeding.{is_feeds}
 use Rattle.report_check.proofs.Nodes.{told_at, same_queues}
 use Rattle.report_check.proofs.Callable.{sound}
-use Rattle.report_check.proofs.Players.{same_filled, same_sources}
+use Rattle.report_check.proofs.Players.{same_sources}
 
 -- ------ clients
 

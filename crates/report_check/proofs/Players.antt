@@ -1,9 +1,7 @@
 -- The packets that clients play, as a report is checked.
-use Rattle.report_check.proofs.Imports.{◌≡◌, ◌<◌, ◌≤◌, ◌+◌, ◌*◌, ◌^◌, ◌⊎◌, inl, inr, refl, sym, ap, ◌∙◌, ℕ, zero, suc, List, [], ◌∷◌, ◌++◌, length, map, take, drop, arith, length-append, Vec, slice_get, slice_index_or, All, flat_map, range_with_len, Global, cases_lt, flat_map-append, get_or_past, All-nil, All-cons, All-head, All-tail, get_or-map-range_with_len, length-map-range_with_len, IsPacket, cut, Of188, Packets, packets_in, Playing, batch_of, cut_of, joined, with_write, are_joined, are_packets, few_in, Input, Frontend, FromDvr, Act, PassAct, LogEntry, Sources, filled, filled_act, filled_entry, Entry, Scripted, IsScript, AreWritten, writes_of, IsWritten, played, sources, AreFewPackets, brought_from, all_played}
-use Rattle.std.proofs.Common.{Option, Some, None}
-use Rattle.std.specs.Prelude.{reverse}
+use Rattle.report_check.proofs.Imports.{◌≡◌, ◌<◌, ◌≤◌, ◌+◌, ◌*◌, ◌^◌, ◌⊎◌, inl, inr, refl, sym, ap, ◌∙◌, ℕ, zero, suc, List, [], ◌∷◌, ◌++◌, length, map, arith, length-append, Vec, slice_index_or, All, flat_map, range_with_len, Global, cases_lt, flat_map-append, get_or_past, All-nil, All-cons, All-head, All-tail, get_or-map-range_with_len, length-map-range_with_len, IsPacket, cut, Of188, Packets, packets_in, Playing, batch_of, cut_of, joined, with_write, are_joined, are_packets, few_in, Input, Frontend, FromDvr, Scripted, IsScript, AreWritten, writes_of, IsWritten, played, sources, AreFewPackets, brought_from, all_played}
+use Rattle.std.proofs.Common.{Option, None}
 use Rattle.std.proofs.lemmas.List.{append-nil}
-use Rattle.dmx_calls.specs.Invocation.{Pass}
 
 -- ------ how many there are
 
@@ -36,21 +34,6 @@ same_sources script eight packets (suc c) FromDvr = go (cases_lt c 8) where
   go (inr past) =
       get_or_past all c [] (omega (arith, past, length-map-range_with_len (λ client. played client script) 0 8)) ∙ sym (nothing_played script c eight past)
 
--- ------ the same packets fill the same history
-
-same_act : (f g : Input → List (List ℕ)) → ((input : Input) → f input ≡ g input) → (a : Act) → filled_act f a ≡ filled_act g a
-same_act f g same (PassAct input first count now) = ap (λ (ps : List (List ℕ)). Pass input first (take count (drop first ps)) now) (same input)
-same_act f g same _ = refl
-
-same_entries : (f g : Sources) → ((who : ℕ) (input : Input) → f who input ≡ g who input) → (es : List LogEntry) → map (filled_entry f) es ≡ map (filled_entry g) es
-same_entries f g same [] = refl
-same_entries f g same (e ∷ es) =
-    let one : filled_entry f e ≡ filled_entry g e = ap (λ i. record { who = e.who; invocation = i; response = e.response }) (same_act (f e.who) (g e.who) (same e.who) e.act) in
-    ap (λ (x : Entry). x ∷ map (filled_entry f) es) one ∙ ap (λ (l : List Entry). filled_entry g e ∷ l) (same_entries f g same es)
-
-pub same_filled : (f g : Sources) → ((who : ℕ) (input : Input) → f who input ≡ g who input) → (es : List LogEntry) → filled f es ≡ filled g es
-same_filled f g same es = ap (λ (l : List Entry). reverse l) (same_entries f g same es)
-
 -- ------ there are few of each
 
 few_bytes : (writes : List (List ℕ)) → All IsWritten writes → length (joined writes) ≤ 12032 * length writes
@@ -75,13 +58,6 @@ pub all_few : (script : Scripted) → IsScript script → All AreFewPackets (all
 all_few script is = All-cons AreFewPackets [] (map (λ client. played client script) (range_with_len 0 8)) (All-nil IsPacket, omega arith) (few_each script (range_with_len 0 8) is)
 
 -- ------ a write more
-
-pub take_next : {A : Type 0} (xs : List A) (place : ℕ) (x : A) → slice_get xs place ≡ Some x → take (place + 1) xs ≡ take place xs ++ x ∷ []
-take_next [] place x at = absurd (cc)
-take_next (y ∷ ys) zero x at = let same : y ≡ x = cc in ap (λ z. z ∷ []) same
-take_next (y ∷ ys) (suc i) x at =
-    let on : suc i + 1 ≡ suc (i + 1) = omega arith in
-    ap (λ n. take n (y ∷ ys)) on ∙ ap (λ zs. y ∷ zs) (take_next ys i x at)
 
 last_of : (before : List (Option Packets)) (last : Option Packets) → slice_index_or (before ++ last ∷ []) (length before) None ≡ last
 last_of [] last = refl

@@ -1,16 +1,10 @@
 -- The reports of runs are those that are right.
-use Rattle.report_check.proofs.Imports.{◌≡◌, ◌<◌, ◌+◌, refl, sym, ap, subst, ◌∙◌, ℕ, zero, suc, List, [], ◌∷◌, Bool, true, false, nat_eq, length, arith, nat_tests, All-head, All-tail, All-nil, All-cons, Some, slice_get, nat_le, nat_lt, ◌&&◌, All, list_any, DEMUX_NODES, Outcome, LogEntry, StreamHead, Scripted, outcomes, replies, is_of_client, ToldNode, Told, text_of, IsInRange, IsNodeInRange, are_rows, is_whole_node, shown, told_by, renumbered, of_feeder, tiled, feeder_of, complete, IsRunOf, IsReportOfRun, IsRightReport}
+use Rattle.report_check.proofs.Imports.{◌≡◌, ◌<◌, ◌+◌, refl, sym, ap, subst, ◌∙◌, ℕ, zero, suc, List, [], ◌∷◌, Bool, true, false, nat_eq, length, arith, nat_tests, All-head, All-tail, All-nil, All-cons, Some, slice_get, nat_le, nat_lt, ◌&&◌, All, list_any, DEMUX_NODES, Outcome, LogEntry, StreamHead, Scripted, outcomes, replies, is_of_client, ToldNode, Told, text_of, IsInRange, IsNodeInRange, are_rows, is_whole_node, shown, told_by, renumbered, of_feeder, tiled, feeder_of, complete, IsRunOf, IsReportOfRun, IsRightReport, and_parts}
 use Rattle.report_read.specs.Report.{are_placed, are_nodes}
 use Rattle.report_check.specs.Completed.{completed}
 use Rattle.report_check.proofs.Shown.{reports_tell}
 use Rattle.report_check.proofs.Idle.{AllZero, runs_are_completed}
 use Rattle.report_check.proofs.Empty.{ArePlain, plain, idle_at, idle_runs, idle_made, uncalled_at}
-
--- ------ tests
-
-pub both : (a b : Bool) → (a && b) ≡ true → (a ≡ true) × (b ≡ true)
-both true b e = (refl, e)
-both false b e = absurd (cc)
 
 -- ------ the nodes of a run stand in their order
 
@@ -18,8 +12,8 @@ pub nodes_lower : (node : ℕ) (ns : List ToldNode) → are_nodes (suc node) ns 
 unfolding are_nodes
 nodes_lower node [] e = refl
 nodes_lower node (n ∷ ns) e =
-    let parts = both (nat_le (suc node) n.node && is_whole_node n) (are_nodes (suc n.node) ns) e in
-    let front = both (nat_le (suc node) n.node) (is_whole_node n) parts.0 in
+    let parts = and_parts (nat_le (suc node) n.node && is_whole_node n) (are_nodes (suc n.node) ns) e in
+    let front = and_parts (nat_le (suc node) n.node) (is_whole_node n) parts.0 in
     let low : nat_le node n.node ≡ true = grind (arith, nat_tests, front.0) in
     rw (low, front.1, parts.1) refl
 
@@ -72,7 +66,7 @@ one_told : (left node : ℕ) (feeder : List LogEntry) (n : ToldNode) (ns : List 
     → (nat_eq n.node node ≡ false → shown (suc node) (complete left (suc node) feeder (n ∷ ns)) ≡ n ∷ ns)
     → (b : Bool) → nat_eq n.node node ≡ b → shown node (complete (suc left) node feeder (n ∷ ns)) ≡ n ∷ ns
 one_told left node feeder n ns all whole on skip true e =
-    let client = (both (list_any is_of_client n.entries) (are_placed 0 n.entries) whole).0 in
+    let client = (and_parts (list_any is_of_client n.entries) (are_placed 0 n.entries) whole).0 in
     let same : node ≡ n.node = grind (arith, nat_tests) in
     let first : record { node = node; entries = n.entries } ≡ n = rw same refl in
     rw (e, client, on e) (rw same refl)
@@ -84,15 +78,15 @@ pub shown_again : (left node : ℕ) (feeder : List LogEntry) (ns : List ToldNode
 unfolding are_nodes
 shown_again zero node feeder [] all order below = refl
 shown_again zero node feeder (n ∷ ns) all order below =
-    let parts = both (nat_le node n.node && is_whole_node n) (are_nodes (suc n.node) ns) order in
-    let front = both (nat_le node n.node) (is_whole_node n) parts.0 in
+    let parts = and_parts (nat_le node n.node && is_whole_node n) (are_nodes (suc n.node) ns) order in
+    let front = and_parts (nat_le node n.node) (is_whole_node n) parts.0 in
     let high : n.node < node + 0 = All-head (λ (m : ToldNode). m.node < node + 0) n ns below in
     absurd (grind (arith, nat_tests, front.0, high))
 shown_again (suc left) node feeder [] all order below =
     skips_shown node feeder (complete left (suc node) feeder []) all ∙ shown_again left (suc node) feeder [] all refl (All-nil (λ (m : ToldNode). m.node < suc node + left))
 shown_again (suc left) node feeder (n ∷ ns) all order below =
-    let parts = both (nat_le node n.node && is_whole_node n) (are_nodes (suc n.node) ns) order in
-    let front = both (nat_le node n.node) (is_whole_node n) parts.0 in
+    let parts = and_parts (nat_le node n.node && is_whole_node n) (are_nodes (suc n.node) ns) order in
+    let front = and_parts (nat_le node n.node) (is_whole_node n) parts.0 in
     let sum : node + suc left ≡ suc node + left = omega arith in
     let lower : AreBelow (suc node + left) (n ∷ ns) = subst (λ (limit : ℕ). AreBelow limit (n ∷ ns)) sum below in
     let tail : AreBelow (suc node + left) ns = All-tail (λ (m : ToldNode). m.node < suc node + left) n ns lower in

@@ -1,24 +1,6 @@
 -- Histories as they grow, and what a legal one allows in the midst of it.
-use Rattle.report_check.proofs.Imports.{◌≡◌, ◌<◌, ◌+◌, ℕ, List, [], ◌∷◌, ◌++◌, length, map, take, drop, get_or, refl, sym, ap, subst, ◌∙◌, append_assoc, add-one, take-append-drop, drop-cons, map-append, reverse-append, length-map, get_or-map, take_more, All-get_or, All, ToldEntry, response_of, told_entry, History, May, IsLegalFor, LogEntry, Sources, filled, filled_act, filled_entry, Rules}
+use Rattle.report_check.proofs.Imports.{◌≡◌, ◌<◌, ◌+◌, ℕ, List, [], ◌∷◌, ◌++◌, length, map, take, drop, get_or, refl, sym, ap, subst, ◌∙◌, add-one, take-append-drop, drop-cons, map-append, length-map, get_or-map, take_more, All-get_or, All, ToldEntry, response_of, told_entry, May, IsLegalFor, LogEntry, Sources, filled, filled_act, filled_entry, Rules, may_at}
 use Rattle.report_check.specs.Playing.{played}
-
-filled_append : (packets : Sources) (xs ys : List LogEntry) → filled packets (xs ++ ys) ≡ filled packets ys ++ filled packets xs
-filled_append packets xs ys = rw (map-append (filled_entry packets) xs ys, reverse-append (map (filled_entry packets) xs) (map (filled_entry packets) ys)) refl
-
-filled_more : (packets : Sources) (xs : List LogEntry) (e : LogEntry) → filled packets (xs ++ e ∷ []) ≡ filled_entry packets e ∷ filled packets xs
-filled_more packets xs e = filled_append packets xs (e ∷ [])
-
-legal_behind : (node : Rules) (later h : History) → IsLegalFor node (later ++ h) → IsLegalFor node h
-legal_behind node [] h legal = legal
-legal_behind node (e ∷ later) h legal = legal_behind node later h legal.0
-
-may_at : (node : Rules) (packets : Sources) (xs : List LogEntry) (e : LogEntry) (ys : List LogEntry) → IsLegalFor node (filled packets (xs ++ e ∷ ys)) → May node (filled packets xs) e.who (filled_act (packets e.who) e.act) e.response
-may_at node packets xs e ys legal =
-    let joined : xs ++ e ∷ ys ≡ (xs ++ e ∷ []) ++ ys = sym (append_assoc xs (e ∷ []) ys) in
-    let parts : filled packets (xs ++ e ∷ ys) ≡ filled packets ys ++ (filled_entry packets e ∷ filled packets xs) =
-    ap (filled packets) joined ∙ (filled_append packets (xs ++ e ∷ []) ys ∙ ap (λ (h : History). filled packets ys ++ h) (filled_more packets xs e)) in
-    let here : IsLegalFor node (filled_entry packets e ∷ filled packets xs) = legal_behind node (filled packets ys) (filled_entry packets e ∷ filled packets xs) (rw parts at legal) in
-    here.1
 
 -- with one entry more behind the others
 pub played_more : (packets : Sources) (xs : List LogEntry) (e : LogEntry) → played packets (xs ++ e ∷ []) ≡ played packets xs ++ filled_entry packets e ∷ []

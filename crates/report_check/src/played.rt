@@ -19,20 +19,6 @@ use ts_packet::Packet;
 // How many clients a script may have.
 const CLIENTS: u32 = 8;
 
-// Puts the packets of a batch behind these.
-fn add_batch<L: Ledger>(
-    packets: &mut Vec<Packet>,
-    batch: &Batch,
-    steps: &mut Steps<L>,
-) -> Result<(), NoMemory>
-    ensures { OnOk result (packets.new.items ≡ packets.old.items ++ batch.now.packets) }
-{
-    'packets: for place in 0..batch.count() {
-        packets.push(*batch.packet(place, steps))?;
-    }
-    Ok(())
-}
-
 // Puts the packets of a write's batch behind these, if it has one.
 fn add_some<L: Ledger>(
     packets: &mut Vec<Packet>,
@@ -43,7 +29,7 @@ fn add_some<L: Ledger>(
 {
     match batch {
         None => Ok(()),
-        Some(batch) => add_batch(packets, batch, steps),
+        Some(batch) => batch.add_to(packets, steps),
     }
 }
 

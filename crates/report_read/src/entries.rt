@@ -72,7 +72,7 @@ pub fn read_entry(
         step: front.step,
         who: front.who,
         act: KeptAct::of(alloc, front.act)?,
-        reply: SharedReply::of(alloc, None, reply)?,
+        reply: SharedReply::unshared(alloc, reply)?,
     }))
 }
 

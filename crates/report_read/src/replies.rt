@@ -12,41 +12,53 @@ use crate::bytes::Bytes;
 use crate::parts::{read_flag, read_pending, read_who};
 use crate::sets::read_pids;
 use dmx_calls::limits::LARGEST_READ;
-use dmx_calls::{ByteBuf, Errno, Reply, Span, Tap};
+use dmx_calls::{ByteBuf, Errno, LogReply, LogTap, Reply, Span, Tap};
+use pid_set::KeptPids;
 use std::alloc::{AllocError as NoMemory, Global};
 
+// What a tap names takes memory.
 #[tactic(auto, unfolding(crate::specs::Inside::Parts::tap_in))]
-fn read_tap(bytes: &mut Bytes<'_>) -> Option<Tap>
-    ensures value { Reads result bytes.new (tap_in bytes.old) }
-    ensures range { IfSome result IsTapInRange }
+fn read_tap(alloc: Global, bytes: &mut Bytes<'_>) -> Result<Option<LogTap>, NoMemory>
+    ensures value { IfOk result (λ tap. Reads tap bytes.new (tap_in bytes.old)) }
+    ensures range { IfOk result (λ tap. IfSome tap IsTapInRange) }
 {
     if bytes.passes(b"keep") {
-        return Some(Tap::Keep);
+        return Ok(Some(Tap::Keep));
     }
     if bytes.passes(b"attach:") {
-        return Some(Tap::Attach(read_pids(bytes)?));
+        let Some(pids) = read_pids(bytes) else {
+            return Ok(None);
+        };
+        return Ok(Some(Tap::Attach(KeptPids::of(alloc, &pids)?)));
     }
-    bytes.past(b"detach")?;
-    Some(Tap::Detach)
+    Ok(bytes.past(b"detach").map(|_| Tap::Detach))
 }
 
 #[tactic(auto, unfolding(crate::specs::Inside::Parts::done_in))]
-fn read_done(bytes: &mut Bytes<'_>) -> Option<Reply>
-    ensures value { Reads (option_map response_of result) bytes.new (done_in bytes.old) }
-    ensures range { IfSome result (λ r. IsResponseInRange (response_of r)) }
+fn read_done(alloc: Global, bytes: &mut Bytes<'_>) -> Result<Option<LogReply>, NoMemory>
+    ensures value { IfOk result (λ reply. Reads (option_map response_of reply) bytes.new (done_in bytes.old)) }
+    ensures range { IfOk result (λ reply. IfSome reply (λ r. IsResponseInRange (response_of r))) }
 {
-    let from = bytes.number64()?;
-    let to = bytes.named64(b"..")?;
-    bytes.past(b" tap=")?;
-    let tap = read_tap(bytes)?;
-    Some(Reply::Done {
+    let Some(from) = bytes.number64() else {
+        return Ok(None);
+    };
+    let Some(to) = bytes.named64(b"..") else {
+        return Ok(None);
+    };
+    let Some(()) = bytes.past(b" tap=") else {
+        return Ok(None);
+    };
+    let Some(tap) = read_tap(alloc, bytes)? else {
+        return Ok(None);
+    };
+    Ok(Some(Reply::Done {
         dropped: Span { from, to },
         tap,
-    })
+    }))
 }
 
 #[tactic(auto, unfolding(crate::specs::Inside::Parts::overflow_in))]
-fn read_overflow(bytes: &mut Bytes<'_>) -> Option<Reply>
+fn read_overflow(bytes: &mut Bytes<'_>) -> Option<LogReply>
     ensures value { Reads (option_map response_of result) bytes.new (overflow_in bytes.old) }
     ensures range { IfSome result (λ r. IsResponseInRange (response_of r)) }
 {
@@ -65,7 +77,7 @@ fn read_overflow(bytes: &mut Bytes<'_>) -> Option<Reply>
 }
 
 #[tactic(auto, unfolding(crate::specs::Inside::Parts::timed_out_in))]
-fn read_timed_out(bytes: &mut Bytes<'_>) -> Option<Reply>
+fn read_timed_out(bytes: &mut Bytes<'_>) -> Option<LogReply>
     ensures value { Reads (option_map response_of result) bytes.new (timed_out_in bytes.old) }
     ensures range { IfSome result (λ r. IsResponseInRange (response_of r)) }
 {
@@ -80,7 +92,7 @@ fn read_timed_out(bytes: &mut Bytes<'_>) -> Option<Reply>
 }
 
 #[tactic(auto, unfolding(crate::specs::Inside::Parts::ready_in))]
-fn read_ready(bytes: &mut Bytes<'_>) -> Option<Reply>
+fn read_ready(bytes: &mut Bytes<'_>) -> Option<LogReply>
     ensures value { Reads (option_map response_of result) bytes.new (ready_in bytes.old) }
     ensures range { IfSome result (λ r. IsResponseInRange (response_of r)) }
 {
@@ -121,7 +133,7 @@ fn filled(alloc: Global, bytes: &[u8]) -> Result<ByteBuf, NoMemory>
 }
 
 #[tactic(auto, unfolding(crate::specs::Inside::Parts::data_in))]
-fn read_data(alloc: Global, bytes: &mut Bytes<'_>) -> Result<Option<Reply>, NoMemory>
+fn read_data(alloc: Global, bytes: &mut Bytes<'_>) -> Result<Option<LogReply>, NoMemory>
     ensures value { IfOk result (λ reply. Reads (option_map response_of reply) bytes.new (data_in bytes.old)) }
     ensures range { IfOk result (λ reply. IfSome reply (λ r. IsResponseInRange (response_of r))) }
 {
@@ -138,7 +150,7 @@ fn read_data(alloc: Global, bytes: &mut Bytes<'_>) -> Result<Option<Reply>, NoMe
 
 // A reply that takes no memory, but for the first and the refusals.
 #[tactic(auto, unfolding(crate::specs::Inside::Parts::other_response_in))]
-fn read_other(alloc: Global, bytes: &mut Bytes<'_>) -> Result<Option<Reply>, NoMemory>
+fn read_other(alloc: Global, bytes: &mut Bytes<'_>) -> Result<Option<LogReply>, NoMemory>
     ensures value { IfOk result (λ reply. Reads (option_map response_of reply) bytes.new (other_response_in bytes.old)) }
     ensures range { IfOk result (λ reply. IfSome reply (λ r. IsResponseInRange (response_of r))) }
 {
@@ -165,7 +177,7 @@ fn read_other(alloc: Global, bytes: &mut Bytes<'_>) -> Result<Option<Reply>, NoM
 
 // A refusal, or one of those.
 #[tactic(auto, unfolding(crate::specs::Inside::Parts::refusal_in))]
-fn read_refusal(alloc: Global, bytes: &mut Bytes<'_>) -> Result<Option<Reply>, NoMemory>
+fn read_refusal(alloc: Global, bytes: &mut Bytes<'_>) -> Result<Option<LogReply>, NoMemory>
     ensures value { IfOk result (λ reply. Reads (option_map response_of reply) bytes.new (refusal_in bytes.old)) }
     ensures range { IfOk result (λ reply. IfSome reply (λ r. IsResponseInRange (response_of r))) }
 {
@@ -188,7 +200,7 @@ fn read_refusal(alloc: Global, bytes: &mut Bytes<'_>) -> Result<Option<Reply>, N
 }
 
 // Who owns the node.
-fn read_busy(bytes: &mut Bytes<'_>) -> Option<Reply>
+fn read_busy(bytes: &mut Bytes<'_>) -> Option<LogReply>
     ensures value { Reads (option_map response_of result) bytes.new (made Busy (who_in bytes.old)) }
     ensures range { IfSome result (λ r. IsResponseInRange (response_of r)) }
 {
@@ -198,12 +210,12 @@ fn read_busy(bytes: &mut Bytes<'_>) -> Option<Reply>
 
 /// A reply.
 #[tactic(auto, unfolding(crate::specs::Inside::Parts::response_in))]
-pub fn read_reply(alloc: Global, bytes: &mut Bytes<'_>) -> Result<Option<Reply>, NoMemory>
+pub fn read_reply(alloc: Global, bytes: &mut Bytes<'_>) -> Result<Option<LogReply>, NoMemory>
     ensures value { IfOk result (λ reply. Reads (option_map response_of reply) bytes.new (response_in bytes.old)) }
     ensures range { IfOk result (λ reply. IfSome reply (λ r. IsResponseInRange (response_of r))) }
 {
     if bytes.passes(b"done drop=") {
-        return Ok(read_done(bytes));
+        return read_done(alloc, bytes);
     }
     if bytes.passes(b"busy owner=") {
         return Ok(read_busy(bytes));

@@ -1,8 +1,9 @@
 // The text of a call.
-ghost use Rattle.std.specs.Prelude.{◌≡◌, ◌++◌, OnOk, codes, ◌+◌, ◌*◌, ◌<◌, ◌≤◌, length, vec_len, vec_capacity, OnErr};
+ghost use Rattle.std.specs.Prelude.{◌++◌, codes, ◌+◌, ◌<◌, length};
 ghost use Rattle.std.specs.Fmt.{decimal};
 ghost use Rattle.dmx_calls.specs.Names.{input_text, output_text};
-ghost use Rattle.report_text.specs.Acts.{act_text, next_pid_text, pass_text, pes_text, pids_text, section_text};
+ghost use Rattle.report_text.specs.Acts.{act_text, pass_text, pes_text, pids_text, section_text};
+ghost use Rattle.text_forms.specs.Appended.{Appended};
 
 use dmx_calls::{Act, Input, KeptAct, Output, PesParams, SectionParams};
 use pid_set::Pids;
@@ -11,10 +12,7 @@ use text_forms::{write_decimal, write_filter, write_input, write_output};
 
 /// A name and a number.
 pub fn add_field(out: &mut Vec<u8>, name: &[u8], n: u64) -> Result<(), NoMemory>
-    ensures items { OnOk result (out.new.items ≡ out.old.items ++ (name.now ++ decimal n)) }
-    ensures full { OnErr result (vec_capacity out.old < vec_len out.old + (length name.now + 20)) }
-    ensures few { vec_len out.new ≤ vec_len out.old + (length name.now + 20) }
-    ensures room { vec_capacity out.old ≤ vec_capacity out.new }
+    ensures { Appended (length name.now + 20) (name.now ++ decimal n) out.old out.new result }
 {
     out.extend_from_slice(name)?;
     write_decimal(out, n)
@@ -22,10 +20,7 @@ pub fn add_field(out: &mut Vec<u8>, name: &[u8], n: u64) -> Result<(), NoMemory>
 
 // A name and the word of an input.
 fn add_input(out: &mut Vec<u8>, name: &[u8], input: Input) -> Result<(), NoMemory>
-    ensures items { OnOk result (out.new.items ≡ out.old.items ++ (name.now ++ input_text input)) }
-    ensures full { OnErr result (vec_capacity out.old < vec_len out.old + (length name.now + 20)) }
-    ensures few { vec_len out.new ≤ vec_len out.old + (length name.now + 20) }
-    ensures room { vec_capacity out.old ≤ vec_capacity out.new }
+    ensures { Appended (length name.now + 20) (name.now ++ input_text input) out.old out.new result }
 {
     out.extend_from_slice(name)?;
     write_input(out, input)
@@ -33,10 +28,7 @@ fn add_input(out: &mut Vec<u8>, name: &[u8], input: Input) -> Result<(), NoMemor
 
 // A name and the word of an output.
 fn add_output(out: &mut Vec<u8>, name: &[u8], output: Output) -> Result<(), NoMemory>
-    ensures items { OnOk result (out.new.items ≡ out.old.items ++ (name.now ++ output_text output)) }
-    ensures full { OnErr result (vec_capacity out.old < vec_len out.old + (length name.now + 20)) }
-    ensures few { vec_len out.new ≤ vec_len out.old + (length name.now + 20) }
-    ensures room { vec_capacity out.old ≤ vec_capacity out.new }
+    ensures { Appended (length name.now + 20) (name.now ++ output_text output) out.old out.new result }
 {
     out.extend_from_slice(name)?;
     write_output(out, output)
@@ -45,10 +37,7 @@ fn add_output(out: &mut Vec<u8>, name: &[u8], output: Output) -> Result<(), NoMe
 // The PIDs of a set with commas between them, or `-` where there are none.
 #[tactic(auto, unfolding(crate::specs::Acts::pids_text))]
 fn add_set(out: &mut Vec<u8>, pids: &Pids) -> Result<(), NoMemory>
-    ensures items { OnOk result (out.new.items ≡ out.old.items ++ pids_text pids.now) }
-    ensures full { OnErr result (vec_capacity out.old < vec_len out.old + 2720) }
-    ensures few { vec_len out.new ≤ vec_len out.old + 2720 }
-    ensures room { vec_capacity out.old ≤ vec_capacity out.new }
+    ensures { Appended 2720 (pids_text pids.now) out.old out.new result }
 {
     let Some(first) = pids.get(0) else {
         return out.extend_from_slice(b"-");
@@ -64,10 +53,7 @@ fn add_set(out: &mut Vec<u8>, pids: &Pids) -> Result<(), NoMemory>
 
 /// A name and the PIDs of a set.
 pub fn add_pids(out: &mut Vec<u8>, name: &[u8], pids: &Pids) -> Result<(), NoMemory>
-    ensures items { OnOk result (out.new.items ≡ out.old.items ++ (name.now ++ pids_text pids.now)) }
-    ensures full { OnErr result (vec_capacity out.old < vec_len out.old + (length name.now + 2720)) }
-    ensures few { vec_len out.new ≤ vec_len out.old + (length name.now + 2720) }
-    ensures room { vec_capacity out.old ≤ vec_capacity out.new }
+    ensures { Appended (length name.now + 2720) (name.now ++ pids_text pids.now) out.old out.new result }
 {
     out.extend_from_slice(name)?;
     add_set(out, pids)
@@ -75,10 +61,7 @@ pub fn add_pids(out: &mut Vec<u8>, name: &[u8], pids: &Pids) -> Result<(), NoMem
 
 // A section filter that is set at this moment.
 fn add_section(out: &mut Vec<u8>, params: &SectionParams, now: u64) -> Result<(), NoMemory>
-    ensures items { OnOk result (out.new.items ≡ out.old.items ++ section_text params.now now) }
-    ensures full { OnErr result (vec_capacity out.old < vec_len out.old + 400) }
-    ensures few { vec_len out.new ≤ vec_len out.old + 400 }
-    ensures room { vec_capacity out.old ≤ vec_capacity out.new }
+    ensures { Appended 400 (section_text params.now now) out.old out.new result }
 {
     add_field(out, b"section pid=", params.pid as u64)?;
     add_field(out, b" timeout=", params.timeout as u64)?;
@@ -89,10 +72,7 @@ fn add_section(out: &mut Vec<u8>, params: &SectionParams, now: u64) -> Result<()
 
 // A PES filter that is set at this moment.
 fn add_pes(out: &mut Vec<u8>, params: &PesParams, now: u64) -> Result<(), NoMemory>
-    ensures items { OnOk result (out.new.items ≡ out.old.items ++ pes_text params.now now) }
-    ensures full { OnErr result (vec_capacity out.old < vec_len out.old + 200) }
-    ensures few { vec_len out.new ≤ vec_len out.old + 200 }
-    ensures room { vec_capacity out.old ≤ vec_capacity out.new }
+    ensures { Appended 200 (pes_text params.now now) out.old out.new result }
 {
     add_field(out, b"pes pid=", params.pid as u64)?;
     add_input(out, b" input=", params.input)?;
@@ -110,10 +90,7 @@ pub fn add_pass(
     count: u32,
     now: u64,
 ) -> Result<(), NoMemory>
-    ensures items { OnOk result (out.new.items ≡ out.old.items ++ pass_text input first count now) }
-    ensures full { OnErr result (vec_capacity out.old < vec_len out.old + 120) }
-    ensures few { vec_len out.new ≤ vec_len out.old + 120 }
-    ensures room { vec_capacity out.old ≤ vec_capacity out.new }
+    ensures { Appended 120 (pass_text input first count now) out.old out.new result }
 {
     add_input(out, b"pass input=", input)?;
     add_field(out, b" first=", first)?;
@@ -123,10 +100,7 @@ pub fn add_pass(
 
 // A read of so many bytes at this moment.
 fn add_read(out: &mut Vec<u8>, count: u32, now: u64) -> Result<(), NoMemory>
-    ensures items { OnOk result (out.new.items ≡ out.old.items ++ (codes "read " ++ (decimal count ++ (codes " at=" ++ decimal now)))) }
-    ensures full { OnErr result (vec_capacity out.old < vec_len out.old + 60) }
-    ensures few { vec_len out.new ≤ vec_len out.old + 60 }
-    ensures room { vec_capacity out.old ≤ vec_capacity out.new }
+    ensures { Appended 60 (codes "read " ++ (decimal count ++ (codes " at=" ++ decimal now))) out.old out.new result }
 {
     add_field(out, b"read ", count as u64)?;
     add_field(out, b" at=", now)
@@ -134,10 +108,7 @@ fn add_read(out: &mut Vec<u8>, count: u32, now: u64) -> Result<(), NoMemory>
 
 // A tap of this demux node for these PIDs.
 fn add_attach(out: &mut Vec<u8>, node: u32, pids: &Pids) -> Result<(), NoMemory>
-    ensures items { OnOk result (out.new.items ≡ out.old.items ++ (codes "attach node=" ++ (decimal node ++ (codes " pids=" ++ pids_text pids.now)))) }
-    ensures full { OnErr result (vec_capacity out.old < vec_len out.old + 2780) }
-    ensures few { vec_len out.new ≤ vec_len out.old + 2780 }
-    ensures room { vec_capacity out.old ≤ vec_capacity out.new }
+    ensures { Appended 2780 (codes "attach node=" ++ (decimal node ++ (codes " pids=" ++ pids_text pids.now))) out.old out.new result }
 {
     add_field(out, b"attach node=", node as u64)?;
     add_pids(out, b" pids=", pids)
@@ -146,10 +117,7 @@ fn add_attach(out: &mut Vec<u8>, node: u32, pids: &Pids) -> Result<(), NoMemory>
 /// A call.
 #[tactic(auto, unfolding(crate::specs::Acts::act_text))]
 pub fn add_act(out: &mut Vec<u8>, act: &KeptAct) -> Result<(), NoMemory>
-    ensures items { OnOk result (out.new.items ≡ out.old.items ++ act_text act.now) }
-    ensures full { OnErr result (vec_capacity out.old < vec_len out.old + 2780) }
-    ensures few { vec_len out.new ≤ vec_len out.old + 2780 }
-    ensures room { vec_capacity out.old ≤ vec_capacity out.new }
+    ensures { Appended 2780 (act_text act.now) out.old out.new result }
 {
     match act.act() {
         Act::Open => out.extend_from_slice(b"open"),

@@ -1,5 +1,5 @@
 // The lines that tell the calls of a node.
-ghost use Rattle.std.specs.Prelude.{◌≡◌, ◌+◌, ◌<◌, ◌≤◌, ◌++◌, map, codes, OnOk, OnErr, vec_len, vec_capacity};
+ghost use Rattle.std.specs.Prelude.{◌≡◌, ◌+◌, ◌<◌, ◌++◌, map, codes};
 ghost use Rattle.std.specs.List.{list_any};
 ghost use Rattle.dmx_calls.specs.Calls.{told_entry};
 ghost use Rattle.dmx_calls.specs.Histories.{feeder_entry};
@@ -7,6 +7,7 @@ ghost use Rattle.text_forms.specs.Names.{node_text};
 ghost use Rattle.dmx_calls.specs.declared.log.Act.TheVariants.{End as EndAct};
 ghost use Rattle.report_text.specs.Entries.{caller_text, entry_text, is_of_client};
 ghost use Rattle.report_text.specs.Inside.Turns.{tail_text, turn};
+ghost use Rattle.text_forms.specs.Appended.{Appended};
 
 use crate::acts::{add_act, add_field};
 use crate::feeder_line::{FeederLine, add_pass_tail};
@@ -18,10 +19,7 @@ use text_forms::{write_decimal, write_node, write_who};
 // `PLACE WHO STEP` and a space.
 #[tactic(auto, unfolding(crate::specs::Entries::caller_text))]
 fn add_caller(out: &mut Vec<u8>, place: u64, who: u32, step: u64) -> Result<(), NoMemory>
-    ensures items { OnOk result (out.new.items ≡ out.old.items ++ caller_text place who step) }
-    ensures full { OnErr result (vec_capacity out.old < vec_len out.old + 70) }
-    ensures few { vec_len out.new ≤ vec_len out.old + 70 }
-    ensures room { vec_capacity out.old ≤ vec_capacity out.new }
+    ensures { Appended 70 (caller_text place who step) out.old out.new result }
 {
     write_decimal(out, place)?;
     out.extend_from_slice(b" ")?;
@@ -33,10 +31,7 @@ fn add_caller(out: &mut Vec<u8>, place: u64, who: u32, step: u64) -> Result<(), 
 
 /// `PLACE WHO STEP ACT = REPLY` and a line feed.
 pub fn add_entry(out: &mut Vec<u8>, entry: &Entry) -> Result<(), NoMemory>
-    ensures items { OnOk result (out.new.items ≡ out.old.items ++ entry_text (told_entry entry.now)) }
-    ensures full { OnErr result (vec_capacity out.old < vec_len out.old + 134000) }
-    ensures few { vec_len out.new ≤ vec_len out.old + 134000 }
-    ensures room { vec_capacity out.old ≤ vec_capacity out.new }
+    ensures { Appended 134000 (entry_text (told_entry entry.now)) out.old out.new result }
 {
     add_caller(out, entry.place, entry.who, entry.step)?;
     add_act(out, &entry.act)?;
@@ -48,10 +43,7 @@ pub fn add_entry(out: &mut Vec<u8>, entry: &Entry) -> Result<(), NoMemory>
 // What stands behind the place in the line that tells the end of the stream.
 #[tactic(auto, unfolding(crate::specs::Acts::act_text, crate::specs::Replies::response_text))]
 fn add_end_tail(out: &mut Vec<u8>, step: usize) -> Result<(), NoMemory>
-    ensures items { OnOk result (out.new.items ≡ out.old.items ++ tail_text step EndAct) }
-    ensures full { OnErr result (vec_capacity out.old < vec_len out.old + 60) }
-    ensures few { vec_len out.new ≤ vec_len out.old + 60 }
-    ensures room { vec_capacity out.old ≤ vec_capacity out.new }
+    ensures { Appended 60 (tail_text step EndAct) out.old out.new result }
 {
     add_field(out, b" feed ", step as u64)?;
     out.extend_from_slice(b" end = passed\n")
@@ -65,10 +57,7 @@ fn add_turn_tail(
     lines: &[FeederLine],
     step: usize,
 ) -> Result<(), NoMemory>
-    ensures items { OnOk result (out.new.items ≡ out.old.items ++ tail_text step (turn feeding.now step)) }
-    ensures full { OnErr result (vec_capacity out.old < vec_len out.old + 160) }
-    ensures few { vec_len out.new ≤ vec_len out.old + 160 }
-    ensures room { vec_capacity out.old ≤ vec_capacity out.new }
+    ensures { Appended 160 (tail_text step (turn feeding.now step)) out.old out.new result }
 {
     match feeding.get(step) {
         Some(fed) => add_pass_tail(out, lines, step, *fed),
@@ -84,10 +73,7 @@ pub fn add_turn(
     place: u64,
     step: usize,
 ) -> Result<(), NoMemory>
-    ensures items { OnOk result (out.new.items ≡ out.old.items ++ entry_text (feeder_entry 0 place step (turn feeding.now step))) }
-    ensures full { OnErr result (vec_capacity out.old < vec_len out.old + 180) }
-    ensures few { vec_len out.new ≤ vec_len out.old + 180 }
-    ensures room { vec_capacity out.old ≤ vec_capacity out.new }
+    ensures { Appended 180 (entry_text (feeder_entry 0 place step (turn feeding.now step))) out.old out.new result }
 {
     write_decimal(out, place)?;
     add_turn_tail(out, feeding, lines, step)
@@ -102,10 +88,7 @@ pub fn is_called(calls: &[Entry]) -> bool
 
 /// `node ` and the name of the node.
 pub fn add_node(out: &mut Vec<u8>, node: u32) -> Result<(), NoMemory>
-    ensures items { OnOk result (out.new.items ≡ out.old.items ++ (codes "node " ++ node_text node)) }
-    ensures full { OnErr result (vec_capacity out.old < vec_len out.old + 30) }
-    ensures few { vec_len out.new ≤ vec_len out.old + 30 }
-    ensures room { vec_capacity out.old ≤ vec_capacity out.new }
+    ensures { Appended 30 (codes "node " ++ node_text node) out.old out.new result }
 {
     out.extend_from_slice(b"node ")?;
     write_node(out, node)
@@ -113,10 +96,7 @@ pub fn add_node(out: &mut Vec<u8>, node: u32) -> Result<(), NoMemory>
 
 /// The line of a node.
 pub fn add_node_line(out: &mut Vec<u8>, node: u32) -> Result<(), NoMemory>
-    ensures items { OnOk result (out.new.items ≡ out.old.items ++ (codes "node " ++ (node_text node ++ codes "\n"))) }
-    ensures full { OnErr result (vec_capacity out.old < vec_len out.old + 40) }
-    ensures few { vec_len out.new ≤ vec_len out.old + 40 }
-    ensures room { vec_capacity out.old ≤ vec_capacity out.new }
+    ensures { Appended 40 (codes "node " ++ (node_text node ++ codes "\n")) out.old out.new result }
 {
     add_node(out, node)?;
     out.extend_from_slice(b"\n")

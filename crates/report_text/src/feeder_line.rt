@@ -1,7 +1,8 @@
 // Lines of the feeder without their places. They are the same on each node, so each is made once.
-ghost use Rattle.std.specs.Prelude.{◌≡◌, ◌+◌, ◌<◌, ◌≤◌, ◌++◌, length, IfSome, OnOk, OnErr, vec_len, vec_capacity};
+ghost use Rattle.std.specs.Prelude.{◌≡◌, ◌+◌, ◌<◌, ◌≤◌, length, IfSome};
 ghost use Rattle.dmx_calls.specs.Histories.{pass_act};
 ghost use Rattle.report_text.specs.Inside.Turns.{tail_text};
+ghost use Rattle.text_forms.specs.Appended.{Appended};
 
 use crate::acts::{add_field, add_pass};
 use crate::replies::add_word;
@@ -36,10 +37,7 @@ impl Model for FeederLine {
 // What stands behind the place in the line of a batch that passes.
 #[tactic(auto, unfolding(crate::specs::Acts::act_text, crate::specs::Replies::response_text))]
 fn write_tail(out: &mut Vec<u8>, step: usize, fed: Fed) -> Result<(), NoMemory>
-    ensures items { OnOk result (out.new.items ≡ out.old.items ++ tail_text step (pass_act fed)) }
-    ensures full { OnErr result (vec_capacity out.old < vec_len out.old + 160) }
-    ensures few { vec_len out.new ≤ vec_len out.old + 160 }
-    ensures room { vec_capacity out.old ≤ vec_capacity out.new }
+    ensures { Appended 160 (tail_text step (pass_act fed)) out.old out.new result }
 {
     add_field(out, b" feed ", step as u64)?;
     out.extend_from_slice(b" ")?;
@@ -80,10 +78,7 @@ pub fn add_pass_tail(
     step: usize,
     fed: Fed,
 ) -> Result<(), NoMemory>
-    ensures items { OnOk result (out.new.items ≡ out.old.items ++ tail_text step (pass_act fed)) }
-    ensures full { OnErr result (vec_capacity out.old < vec_len out.old + 160) }
-    ensures few { vec_len out.new ≤ vec_len out.old + 160 }
-    ensures room { vec_capacity out.old ≤ vec_capacity out.new }
+    ensures { Appended 160 (tail_text step (pass_act fed)) out.old out.new result }
 {
     if let Some(line) = lines.get(step) {
         if let Some(text) = line.text_of(step, fed) {

@@ -1,5 +1,5 @@
 // The histories of the nodes, as they are written.
-ghost use Rattle.std.specs.Prelude.{◌≡◌, ◌+◌, ◌^◌, ◌<◌, ◌≤◌, ◌++◌, [], ℕ, length, map, drop, codes, IfOk, OnOk, OnErr, vec_len, vec_capacity};
+ghost use Rattle.std.specs.Prelude.{◌+◌, ◌^◌, ◌<◌, ◌≤◌, ◌++◌, [], ℕ, length, map, drop, codes, IfOk, OnOk, OnErr};
 ghost use Rattle.std.specs.List.{flat_map};
 ghost use Rattle.emu_io.specs.Causes.{HasCause};
 ghost use Rattle.dmx_calls.specs.Calls.{told_entry};

@@ -1,10 +1,11 @@
 // The text of a reply.
-ghost use Rattle.std.specs.Prelude.{◌≡◌, ◌++◌, OnOk, codes, ◌+◌, ◌*◌, ◌<◌, ◌≤◌, length, vec_len, vec_capacity, OnErr};
+ghost use Rattle.std.specs.Prelude.{◌≡◌, ◌++◌, codes, ◌+◌, ◌*◌, ◌<◌, ◌≤◌, length};
 ghost use Rattle.std.specs.Fmt.{decimal};
 ghost use Rattle.dmx_calls.specs.Calls.{response_of};
 ghost use Rattle.dmx_calls.specs.Names.{pending_text};
 ghost use Rattle.text_forms.specs.Names.{who_text};
 ghost use Rattle.report_text.specs.Replies.{data_text, flag_text, response_text, tap_text};
+ghost use Rattle.text_forms.specs.Appended.{Appended};
 
 use crate::acts::{add_field, add_pids};
 use dmx_calls::{LogTap, PollError, Reply, SharedReply, Span, Tap};
@@ -21,10 +22,7 @@ fn flag_name(flag: bool) -> &'static str
 
 /// A name and a word.
 pub fn add_word(out: &mut Vec<u8>, name: &[u8], word: &str) -> Result<(), NoMemory>
-    ensures items { OnOk result (out.new.items ≡ out.old.items ++ (name.now ++ word.now)) }
-    ensures full { OnErr result (vec_capacity out.old < vec_len out.old + (length name.now + length word.now)) }
-    ensures few { vec_len out.new ≤ vec_len out.old + (length name.now + length word.now) }
-    ensures room { vec_capacity out.old ≤ vec_capacity out.new }
+    ensures { Appended (length name.now + length word.now) (name.now ++ word.now) out.old out.new result }
 {
     out.extend_from_slice(name)?;
     out.extend_from_slice(word.as_bytes())
@@ -32,10 +30,7 @@ pub fn add_word(out: &mut Vec<u8>, name: &[u8], word: &str) -> Result<(), NoMemo
 
 // A name and a caller.
 fn add_who(out: &mut Vec<u8>, name: &[u8], who: u32) -> Result<(), NoMemory>
-    ensures items { OnOk result (out.new.items ≡ out.old.items ++ (name.now ++ who_text who)) }
-    ensures full { OnErr result (vec_capacity out.old < vec_len out.old + (length name.now + 20)) }
-    ensures few { vec_len out.new ≤ vec_len out.old + (length name.now + 20) }
-    ensures room { vec_capacity out.old ≤ vec_capacity out.new }
+    ensures { Appended (length name.now + 20) (name.now ++ who_text who) out.old out.new result }
 {
     out.extend_from_slice(name)?;
     write_who(out, who)
@@ -44,10 +39,7 @@ fn add_who(out: &mut Vec<u8>, name: &[u8], who: u32) -> Result<(), NoMemory>
 // The bytes of a read in hexadecimal digits, or `-` where there are none.
 #[tactic(auto, unfolding(crate::specs::Replies::data_text))]
 fn add_data(out: &mut Vec<u8>, bytes: &[u8]) -> Result<(), NoMemory>
-    ensures items { OnOk result (out.new.items ≡ out.old.items ++ (codes "data " ++ data_text bytes.now)) }
-    ensures full { OnErr result (vec_capacity out.old < vec_len out.old + (2 * length bytes.now + 6)) }
-    ensures few { vec_len out.new ≤ vec_len out.old + (2 * length bytes.now + 6) }
-    ensures room { vec_capacity out.old ≤ vec_capacity out.new }
+    ensures { Appended (2 * length bytes.now + 6) (codes "data " ++ data_text bytes.now) out.old out.new result }
 {
     out.extend_from_slice(b"data ")?;
     match bytes {
@@ -58,10 +50,7 @@ fn add_data(out: &mut Vec<u8>, bytes: &[u8]) -> Result<(), NoMemory>
 
 #[tactic(auto, unfolding(crate::specs::Replies::tap_text))]
 fn add_tap(out: &mut Vec<u8>, tap: &LogTap) -> Result<(), NoMemory>
-    ensures items { OnOk result (out.new.items ≡ out.old.items ++ tap_text tap.now) }
-    ensures full { OnErr result (vec_capacity out.old < vec_len out.old + 2730) }
-    ensures few { vec_len out.new ≤ vec_len out.old + 2730 }
-    ensures room { vec_capacity out.old ≤ vec_capacity out.new }
+    ensures { Appended 2730 (tap_text tap.now) out.old out.new result }
 {
     match tap {
         Tap::Keep => out.extend_from_slice(b"keep"),
@@ -71,10 +60,7 @@ fn add_tap(out: &mut Vec<u8>, tap: &LogTap) -> Result<(), NoMemory>
 }
 
 fn add_done(out: &mut Vec<u8>, dropped: &Span, tap: &LogTap) -> Result<(), NoMemory>
-    ensures items { OnOk result (out.new.items ≡ out.old.items ++ (codes "done drop=" ++ (decimal dropped.now.from ++ (codes ".." ++ (decimal dropped.now.to ++ (codes " tap=" ++ tap_text tap.now)))))) }
-    ensures full { OnErr result (vec_capacity out.old < vec_len out.old + 2820) }
-    ensures few { vec_len out.new ≤ vec_len out.old + 2820 }
-    ensures room { vec_capacity out.old ≤ vec_capacity out.new }
+    ensures { Appended 2820 (codes "done drop=" ++ (decimal dropped.now.from ++ (codes ".." ++ (decimal dropped.now.to ++ (codes " tap=" ++ tap_text tap.now))))) out.old out.new result }
 {
     add_field(out, b"done drop=", dropped.from)?;
     add_field(out, b"..", dropped.to)?;
@@ -90,11 +76,8 @@ fn add_overflow(
     need: u64,
     room: u64,
 ) -> Result<(), NoMemory>
-    ensures items { OnOk result (out.new.items ≡ out.old.items ++ (codes "overflow " ++ (decimal lost.from ++ (codes ".." ++ (decimal lost.to ++ (codes " item=" ++ (decimal item
-        ++ (codes " need=" ++ (decimal need ++ (codes " room=" ++ decimal room)))))))))) }
-    ensures full { OnErr result (vec_capacity out.old < vec_len out.old + 140) }
-    ensures few { vec_len out.new ≤ vec_len out.old + 140 }
-    ensures room { vec_capacity out.old ≤ vec_capacity out.new }
+    ensures { Appended 140 (codes "overflow " ++ (decimal lost.from ++ (codes ".." ++ (decimal lost.to ++ (codes " item=" ++ (decimal item
+        ++ (codes " need=" ++ (decimal need ++ (codes " room=" ++ decimal room))))))))) out.old out.new result }
 {
     add_field(out, b"overflow ", lost.from)?;
     add_field(out, b"..", lost.to)?;
@@ -104,10 +87,7 @@ fn add_overflow(
 }
 
 fn add_timed_out(out: &mut Vec<u8>, started: u64, now: u64, timeout: u32) -> Result<(), NoMemory>
-    ensures items { OnOk result (out.new.items ≡ out.old.items ++ (codes "timedout started=" ++ (decimal started ++ (codes " now=" ++ (decimal now ++ (codes " timeout=" ++ decimal timeout)))))) }
-    ensures full { OnErr result (vec_capacity out.old < vec_len out.old + 100) }
-    ensures few { vec_len out.new ≤ vec_len out.old + 100 }
-    ensures room { vec_capacity out.old ≤ vec_capacity out.new }
+    ensures { Appended 100 (codes "timedout started=" ++ (decimal started ++ (codes " now=" ++ (decimal now ++ (codes " timeout=" ++ decimal timeout))))) out.old out.new result }
 {
     add_field(out, b"timedout started=", started)?;
     add_field(out, b" now=", now)?;
@@ -122,11 +102,8 @@ fn add_ready(
     at: u64,
     ended: bool,
 ) -> Result<(), NoMemory>
-    ensures items { OnOk result (out.new.items ≡ out.old.items ++ (codes "ready readable=" ++ (flag_text readable ++ (codes " error=" ++ (pending_text error
-        ++ (codes " at=" ++ (decimal at ++ (codes " ended=" ++ flag_text ended)))))))) }
-    ensures full { OnErr result (vec_capacity out.old < vec_len out.old + 100) }
-    ensures few { vec_len out.new ≤ vec_len out.old + 100 }
-    ensures room { vec_capacity out.old ≤ vec_capacity out.new }
+    ensures { Appended 100 (codes "ready readable=" ++ (flag_text readable ++ (codes " error=" ++ (pending_text error
+        ++ (codes " at=" ++ (decimal at ++ (codes " ended=" ++ flag_text ended))))))) out.old out.new result }
 {
     add_word(out, b"ready readable=", flag_name(readable))?;
     add_word(out, b" error=", error.name())?;
@@ -137,10 +114,7 @@ fn add_ready(
 /// A reply.
 #[tactic(auto, using(crate::proofs::Short::short_errno), unfolding(crate::specs::Replies::response_text))]
 pub fn add_reply(out: &mut Vec<u8>, reply: &SharedReply) -> Result<(), NoMemory>
-    ensures items { OnOk result (out.new.items ≡ out.old.items ++ response_text (response_of reply.now)) }
-    ensures full { OnErr result (vec_capacity out.old < vec_len out.old + 131100) }
-    ensures few { vec_len out.new ≤ vec_len out.old + 131100 }
-    ensures room { vec_capacity out.old ≤ vec_capacity out.new }
+    ensures { Appended 131100 (response_text (response_of reply.now)) out.old out.new result }
 {
     match reply.told() {
         Reply::Done { dropped, tap } => add_done(out, dropped, tap),

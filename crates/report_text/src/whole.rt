@@ -1,8 +1,9 @@
 // The lines of a report but for those of the nodes.
-ghost use Rattle.std.specs.Prelude.{◌≡◌, ◌+◌, ◌<◌, ◌≤◌, ◌++◌, map, codes, OnOk, OnErr, vec_len, vec_capacity};
+ghost use Rattle.std.specs.Prelude.{◌≡◌, ◌+◌, ◌<◌, ◌++◌, map, codes, OnOk};
 ghost use Rattle.std.specs.List.{flat_map};
 ghost use Rattle.std.specs.Fmt.{decimal};
 ghost use Rattle.report_text.specs.Report.{tally_text, row_text, kind_text, outcome_text, client_text, clients_text, end_text};
+ghost use Rattle.text_forms.specs.Appended.{Appended};
 
 use crate::acts::add_field;
 use dmx_calls::{Outcome, OutcomeKind};
@@ -12,10 +13,7 @@ use ts_watch::{Head, PidRow};
 
 // How many packets, skipped bytes and bytes of rest the stream has.
 fn add_tally(out: &mut Vec<u8>, tally: &Tally) -> Result<(), NoMemory>
-    ensures items { OnOk result (out.new.items ≡ out.old.items ++ tally_text tally.now) }
-    ensures full { OnErr result (vec_capacity out.old < vec_len out.old + 100) }
-    ensures few { vec_len out.new ≤ vec_len out.old + 100 }
-    ensures room { vec_capacity out.old ≤ vec_capacity out.new }
+    ensures { Appended 100 (tally_text tally.now) out.old out.new result }
 {
     add_field(out, b"packets=", tally.packets)?;
     add_field(out, b" skipped=", tally.skipped)?;
@@ -25,10 +23,7 @@ fn add_tally(out: &mut Vec<u8>, tally: &Tally) -> Result<(), NoMemory>
 
 /// The packets of a PID.
 pub fn add_row(out: &mut Vec<u8>, row: &(u16, PidRow)) -> Result<(), NoMemory>
-    ensures items { OnOk result (out.new.items ≡ out.old.items ++ row_text row.now) }
-    ensures full { OnErr result (vec_capacity out.old < vec_len out.old + 160) }
-    ensures few { vec_len out.new ≤ vec_len out.old + 160 }
-    ensures room { vec_capacity out.old ≤ vec_capacity out.new }
+    ensures { Appended 160 (row_text row.now) out.old out.new result }
 {
     let (pid, counts) = row;
     add_field(out, b"pid ", *pid as u64)?;
@@ -52,10 +47,7 @@ fn add_rows(out: &mut Vec<u8>, rows: &[(u16, PidRow)]) -> Result<(), NoMemory>
 // How a command ended.
 #[tactic(auto, unfolding(crate::specs::Report::kind_text))]
 fn add_kind(out: &mut Vec<u8>, kind: OutcomeKind) -> Result<(), NoMemory>
-    ensures items { OnOk result (out.new.items ≡ out.old.items ++ kind_text kind) }
-    ensures full { OnErr result (vec_capacity out.old < vec_len out.old + 60) }
-    ensures few { vec_len out.new ≤ vec_len out.old + 60 }
-    ensures room { vec_capacity out.old ≤ vec_capacity out.new }
+    ensures { Appended 60 (kind_text kind) out.old out.new result }
 {
     match kind {
         OutcomeKind::Done => out.extend_from_slice(b"done"),
@@ -71,10 +63,7 @@ fn add_kind(out: &mut Vec<u8>, kind: OutcomeKind) -> Result<(), NoMemory>
 
 /// A command of a client.
 pub fn add_outcome(out: &mut Vec<u8>, outcome: &Outcome) -> Result<(), NoMemory>
-    ensures items { OnOk result (out.new.items ≡ out.old.items ++ outcome_text outcome.now) }
-    ensures full { OnErr result (vec_capacity out.old < vec_len out.old + 140) }
-    ensures few { vec_len out.new ≤ vec_len out.old + 140 }
-    ensures room { vec_capacity out.old ≤ vec_capacity out.new }
+    ensures { Appended 140 (outcome_text outcome.now) out.old out.new result }
 {
     add_field(out, b"line ", outcome.line as u64)?;
     add_field(out, b" steps ", outcome.from)?;
@@ -116,10 +105,7 @@ pub fn add_clients(out: &mut Vec<u8>, outcomes: &[Vec<Outcome>]) -> Result<(), N
 /// The last line.
 #[tactic(auto, unfolding(crate::specs::Report::end_text))]
 pub fn add_end(out: &mut Vec<u8>, read_fault: bool) -> Result<(), NoMemory>
-    ensures items { OnOk result (out.new.items ≡ out.old.items ++ end_text read_fault) }
-    ensures full { OnErr result (vec_capacity out.old < vec_len out.old + 20) }
-    ensures few { vec_len out.new ≤ vec_len out.old + 20 }
-    ensures room { vec_capacity out.old ≤ vec_capacity out.new }
+    ensures { Appended 20 (end_text read_fault) out.old out.new result }
 {
     if read_fault {
         out.extend_from_slice(b"fault read\n")
@@ -139,10 +125,7 @@ pub fn add_head(out: &mut Vec<u8>, head: &Head) -> Result<(), NoMemory>
 
 /// The first line, and the line of the whole stream.
 pub fn add_first(out: &mut Vec<u8>, head: &Head) -> Result<(), NoMemory>
-    ensures items { OnOk result (out.new.items ≡ out.old.items ++ (codes "dvbemu 1\n" ++ tally_text head.now.tally)) }
-    ensures full { OnErr result (vec_capacity out.old < vec_len out.old + 110) }
-    ensures few { vec_len out.new ≤ vec_len out.old + 110 }
-    ensures room { vec_capacity out.old ≤ vec_capacity out.new }
+    ensures { Appended 110 (codes "dvbemu 1\n" ++ tally_text head.now.tally) out.old out.new result }
 {
     out.extend_from_slice(b"dvbemu 1\n")?;
     add_tally(out, &head.tally)
@@ -150,10 +133,7 @@ pub fn add_first(out: &mut Vec<u8>, head: &Head) -> Result<(), NoMemory>
 
 /// The line of a client.
 pub fn add_client_line(out: &mut Vec<u8>, client: usize) -> Result<(), NoMemory>
-    ensures items { OnOk result (out.new.items ≡ out.old.items ++ (codes "client " ++ (decimal client ++ codes "\n"))) }
-    ensures full { OnErr result (vec_capacity out.old < vec_len out.old + 30) }
-    ensures few { vec_len out.new ≤ vec_len out.old + 30 }
-    ensures room { vec_capacity out.old ≤ vec_capacity out.new }
+    ensures { Appended 30 (codes "client " ++ (decimal client ++ codes "\n")) out.old out.new result }
 {
     add_field(out, b"client ", client as u64)?;
     out.extend_from_slice(b"\n")

@@ -1,8 +1,7 @@
 -- A seat goes on, call by call.
-use Rattle.seats.proofs.Imports.{◌≡◌, ◌+◌, ◌≤◌, ◌^◌, ℕ, List, [], ◌∷◌, ◌++◌, length, map, Some, refl, ap, sym, ◌∙◌, subst, arith, length-append, map-append, append-nil, append_assoc, length-map, All-nil, slice_get-map, slice_get, option_map, TableId, told_entry, LogEntry, ToldEntry, DEMUX_NODES, Caller, AreFreshCallers, Fits, caller_fits, MakesCalls, AreMarked, KnowsItsNodes, Desk, Made, Seat, told_made, log_of, AreOnNodes, IsFit, IsNew, IsReady, AreReady, GoesOn}
+use Rattle.seats.proofs.Imports.{◌≡◌, ◌+◌, ◌≤◌, ◌^◌, ℕ, List, [], ◌∷◌, ◌++◌, length, map, Some, refl, ap, sym, ◌∙◌, subst, arith, length-append, map-append, append-nil, append_assoc, length-map, All-nil, slice_get-map, slice_get, option_map, TableId, told_entry, LogEntry, ToldEntry, DEMUX_NODES, Caller, AreFreshCallers, Fits, caller_fits, MakesCalls, AreMarked, KnowsItsNodes, Desk, Made, Seat, told_made, log_of, AreOnNodes, IsFit, IsNew, IsReady, AreReady, GoesOn, mapped}
 use Rattle.seats.proofs.Holding.{knows_none}
 use Rattle.seats.proofs.Marking.{marked_none}
-use Rattle.seats.proofs.Lists.{mapped}
 
 -- ------ calls
 

@@ -1,5 +1,5 @@
 -- The words of others that the proofs of this crate use.
-pub use Rattle.adapter.proofs.Lists.{at_end, at_place, one_value, set_elsewhere, set_there}
+pub use Rattle.adapter.proofs.Lists.{at_place, one_value, set_elsewhere, set_there}
 pub use Rattle.adapter.proofs.Pairs.{caller_fits}
 pub use Rattle.adapter.specs.Callers.{AreFreshCallers, Caller, IsFreshCaller}
 pub use Rattle.adapter.specs.Nodes.{IsLegalAt, MakesEntry}
@@ -50,12 +50,14 @@ pub use Rattle.dmx_calls.specs.declared.reply.Tap.TheVariants.{Attach as AttachT
 pub use Rattle.emu_io.specs.Causes.{raised}
 pub use Rattle.emu_io.specs.Ends.{SinkEnd, SourceEnd}
 pub use Rattle.lemmas.proofs.Lists.{all_behind, all_front, at_before, has_either}
+pub use Rattle.lemmas.proofs.Members.{each_more, mapped}
 pub use Rattle.lemmas.specs.Lists.{Has}
 pub use Rattle.node_lock.proofs.Views.{at_below, prefix_at}
 pub use Rattle.node_lock.specs.Inside.Seats.{fresh}
 pub use Rattle.node_lock.specs.Passes.{KnowsItsCalls}
 pub use Rattle.node_lock.specs.declared.view.View.{View}
 pub use Rattle.script_run.specs.IsRun.{AreAsked, IsEvent, replies}
+pub use Rattle.script_run.proofs.Lists.{take_next}
 pub use Rattle.script_run.specs.WholeRun.{IsGiven}
 pub use Rattle.seats.specs.Answered.{AreBusy, AreClosings, IsAnswered, IsAnsweredBy, IsBehind, IsClosing, IsCommand, IsFull, IsOpened, act_behind, act_by_tap, is_busy, refusal, told_opened}
 pub use Rattle.seats.specs.Asks.{IsWantInRange, ask_of, asked}
@@ -77,13 +79,13 @@ pub use Rattle.seats.specs.declared.serve_frames.ask.Ask.{Ask}
 pub use Rattle.seats.specs.declared.serve_frames.ask.Ask.TheVariants.{Call, Leave, OpenDemux, Refused as RefusedAsk}
 pub use Rattle.seats.specs.declared.serve_frames.numbers.TheConstants.{EMFILE, ENOMEM, REQUEST_LEN}
 pub use Rattle.seats.specs.declared.serve_frames.tell.Tell.{Tell}
-pub use Rattle.std.proofs.Common.{All, Bool, Err, Global, IsTrue, List, None, Ok, OnErr, OnOk, Option, Result, Some, Vec, [], ap, arith, drop, eq-eqb, false, get_or, inl, inr, is_ok, length, length-append, map, nat_eq, nat_lt, ne_eqb, refl, replicate, reverse, rules, set, subst, suc, sym, take, take-append-drop, true, vec_capacity, zero, ℕ, ⊎_elim, ◌*◌, ◌++◌, ◌+◌, ◌-◌, ◌<◌, ◌^◌, ◌∙◌, ◌∷◌, ◌≡◌, ◌≢◌, ◌≤◌, ◌⊎◌}
+pub use Rattle.std.proofs.Common.{All, Bool, Err, Global, IsTrue, List, None, Ok, OnErr, OnOk, Option, Result, Some, Vec, [], add-one, ap, arith, drop, eq-eqb, false, get_or, inl, inr, is_ok, length, length-append, map, nat_eq, nat_lt, ne_eqb, refl, replicate, reverse, rules, set, subst, suc, sym, take, take-append-drop, true, vec_capacity, zero, ℕ, ⊎_elim, ◌*◌, ◌++◌, ◌+◌, ◌-◌, ◌<◌, ◌^◌, ◌∙◌, ◌∷◌, ◌≡◌, ◌≢◌, ◌≤◌, ◌⊎◌}
 pub use Rattle.std.proofs.KnownBytes.{Appends-kept, Appends-trans, Consumes-kept, Consumes-trans}
 pub use Rattle.std.proofs.Math.Seq.{take-add, take-append-add}
 pub use Rattle.std.proofs.lemmas.Bool.Decides.{nat_tests}
 pub use Rattle.std.proofs.lemmas.Iterator.Adapters.{YieldsList-from_vec}
 pub use Rattle.std.proofs.lemmas.Iterator.Consumers.{YieldsList-end}
-pub use Rattle.std.proofs.lemmas.List.{append-nil, append_assoc, append_cancel_left, get_or-replicate, length-drop, length-map, length-replicate, length-take-le, map-append, places, reverse-append, take-append-le, take_all, take_more}
+pub use Rattle.std.proofs.lemmas.List.{append-nil, append_assoc, append_cancel_left, get_or-replicate, length-drop, length-map, length-replicate, length-take-le, map-append, nil_from_length, places, reverse-append, take-append-le, take_all, take_more}
 pub use Rattle.std.proofs.lemmas.List.Concat.{flat_map-append}
 pub use Rattle.std.proofs.lemmas.List.Elements.{All-append, All-cons, All-head, All-nil, All-push, All-tail}
 pub use Rattle.std.proofs.lemmas.List.Sums.{fold-append}

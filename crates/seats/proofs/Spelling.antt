@@ -1,5 +1,5 @@
 -- What was answered on a line is what the commands that it spells do.
-use Rattle.seats.proofs.Imports.{◌≡◌, ℕ, zero, suc, ◌+◌, ◌≤◌, Bool, true, false, eq-eqb, ne_eqb, List, [], ◌∷◌, ◌++◌, length, map, take, Option, Some, None, IsTrue, All, inl, inr, refl, ap, sym, ◌∙◌, subst, arith, slice_get, option_map, if◌then◌else◌, flat_map, append-nil, map-append, flat_map-append, slice_get_within, dite, ℕ_discrete, all_front, all_behind, DEMUX_NODES, CloseAct, OutcomeKind, WasDone, WasEmfile, KeepTap, AttachTap, DetachTap, LogEntry, act_of, Response, TapChange, Done, Busy, Refused, NoMemory, Data, Again, Overflow, TimedOut, Ready, Passed, Scripted, Target, Slot, Want, Open, Close, Command, AllBusy, commands_of, own_call, plays_of, Standing, Ended, Progress, progress_from, no_slots, waits_on, waits_after, outcome_by, counters_after, last_counts, AreAsked, IsEvent, replies, IsGiven, ask_of, Ask, OpenDemux, Call, Leave, RefusedAsk, Tell, act_by_tap, act_behind, IsBehind, IsCommand, AreBusy, IsClosing, AreClosings, IsOpened, IsAnsweredBy, IsAnswered, AreOnNodes, IsPlayed, LinesArePlayed, DoneCommand, done_command, calls_in, target_of, done_command_by, opened_kind, is_close, Closings, closings, commands_done_by, commands_by, outcomes_by, Turn, IsTurn, calls_of, spelled}
+use Rattle.seats.proofs.Imports.{◌≡◌, ℕ, zero, suc, ◌+◌, ◌≤◌, Bool, true, false, eq-eqb, ne_eqb, List, [], ◌∷◌, ◌++◌, length, map, take, Option, Some, None, IsTrue, All, inl, inr, refl, ap, sym, ◌∙◌, subst, arith, slice_get, option_map, if◌then◌else◌, flat_map, append-nil, map-append, flat_map-append, slice_get_within, dite, ℕ_discrete, all_front, all_behind, DEMUX_NODES, CloseAct, OutcomeKind, WasDone, WasEmfile, KeepTap, AttachTap, DetachTap, LogEntry, act_of, Response, TapChange, Done, Busy, Refused, NoMemory, Data, Again, Overflow, TimedOut, Ready, Passed, Scripted, Target, Slot, Want, Open, Close, Command, AllBusy, commands_of, own_call, plays_of, Standing, Ended, Progress, progress_from, no_slots, waits_on, waits_after, outcome_by, counters_after, last_counts, AreAsked, IsEvent, replies, IsGiven, ask_of, Ask, OpenDemux, Call, Leave, RefusedAsk, Tell, act_by_tap, act_behind, IsBehind, IsCommand, AreBusy, IsClosing, AreClosings, IsOpened, IsAnsweredBy, IsAnswered, AreOnNodes, IsPlayed, LinesArePlayed, DoneCommand, done_command, calls_in, target_of, done_command_by, opened_kind, is_close, Closings, closings, commands_done_by, commands_by, outcomes_by, Turn, IsTurn, calls_of, spelled, take_next, add-one}
 use Rattle.lemmas.proofs.Lists.{at_place}
 use Rattle.client_core.specs.Events.{progress}
 use Rattle.seats.specs.Spelled.{with_call}
@@ -196,13 +196,6 @@ module _ (may : ℕ → Bool) where
 
 -- ------ a client of a script
 
-take_next : (l : List LogEntry) (i : ℕ) (e : LogEntry) → slice_get l i ≡ Some e → take (i + 1) l ≡ take i l ++ e ∷ []
-take_next [] i e at = absurd (cc at)
-take_next (x ∷ xs) zero e at = let same : x ≡ e = cc at in ap (λ (y : LogEntry). y ∷ []) same
-take_next (x ∷ xs) (suc i) e at =
-    let n : suc i + 1 ≡ suc (i + 1) = omega arith in
-    ap (λ k. take k (x ∷ xs)) n ∙ ap (λ (l : List LogEntry). x ∷ l) (take_next xs i e at)
-
 module _ (may : ℕ → Bool) (client : ℕ) (script : Scripted) (ds : List DoneCommand) (done : AreDone may ds) (are : commands_of client script ≡ commands_by 0 ds) where
   how_far : (rs : List Response) → progress client script rs ≡ progress_from no_slots 0 (commands_by 0 ds) rs
   unfolding progress
@@ -218,7 +211,7 @@ module _ (may : ℕ → Bool) (client : ℕ) (script : Scripted) (ds : List Done
   once i e at =
       let s = there (i + 1) e at in
       let before = at_place (calls_in ds) i (let low = slice_get_within (calls_in ds) (i + 1) e at in omega (arith, low)) in
-      let front : replies (take (i + 1) (calls_in ds)) ≡ replies (take i (calls_in ds)) ++ before.0.response ∷ [] = ap replies (take_next (calls_in ds) i before.0 before.1) ∙ map-append (λ (e : LogEntry). e.response) (take i (calls_in ds)) (before.0 ∷ []) in
+      let front : replies (take (i + 1) (calls_in ds)) ≡ replies (take i (calls_in ds)) ++ before.0.response ∷ [] = rw (add-one i) (ap replies (take_next (calls_in ds) i before.0 before.1) ∙ map-append (λ (e : LogEntry). e.response) (take i (calls_in ds)) (before.0 ∷ [])) in
       ap (λ (o : Option Standing). waits_after o (replies (take (i + 1) (calls_in ds)))) s.is
       ∙ (ap (λ (rs : List Response). waits_after (Some s.at) rs) front
       ∙ (last_counts (Some s.at) (replies (take i (calls_in ds))) before.0.response

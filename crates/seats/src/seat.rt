@@ -16,8 +16,9 @@ ghost use Rattle.seats.specs.Seated.{log_of, IsFit, IsNew, HasRoom, GoesOn};
 use crate::made::{Made, keep_all};
 use adapter::{Adapter, Client};
 use dmx_calls::limits::{DEMUX_NODES, NODES};
-use dmx_calls::{Act, Call, Entry, Outcome, OutcomeKind, Reply, Tap};
+use dmx_calls::{Act, Call, Entry, Outcome, OutcomeKind, Reply, Tap, TapPids};
 use machine::steps::Steps;
+use pid_set::Pids;
 use std::alloc::{AllocError as NoMemory, Global};
 use std::sync::Wait;
 use std::sync::ledger::Ledger;
@@ -42,6 +43,15 @@ pub struct Seat {
     pub held: [bool; NODES as usize],
 }
 
+// The PIDs of a tap as a call tells them.
+fn widened(pids: &TapPids) -> Pids
+    ensures { result ≡ pids.now }
+{
+    let fits = pids.len() <= 128;
+    prove!(fits);
+    pids.fitted()
+}
+
 // What the dvr node is to be told behind this reply of a node.
 fn told_dvr(node: u32, reply: &Reply) -> Option<Call>
     ensures bare { IfSome result (λ call. PassesNone (act_of (invocation_of call)) × (invocation_of call ≢ asks.Open)) }
@@ -57,7 +67,7 @@ fn told_dvr(node: u32, reply: &Reply) -> Option<Call>
         Tap::Keep => None,
         Tap::Attach(pids) => Some(Call::Attach {
             node,
-            pids: pids.copied(),
+            pids: widened(pids),
         }),
         Tap::Detach => Some(Call::Detach { node }),
     }

@@ -13,7 +13,7 @@ ghost use Rattle.serial_core.specs.Nodes.{Node as RunNode, answer_by, answered, 
 ghost use Rattle.serial_core.specs.Inside.Standing.{IsSeat, StandsAt, entries_in};
 
 use crate::node::AnyCore;
-use client_core::{ClientCore, fitted, unless_no_memory};
+use client_core::{ClientCore, unless_no_memory};
 use dmx_calls::{Act, Call, Entry, KeptAct, Reply, SharedReply};
 use machine::steps::Steps;
 use std::alloc::{AllocError as NoMemory, Global};
@@ -112,8 +112,7 @@ impl Seat {
         let act = Act::of(&call);
         let reply = self.hear(who, call, steps)?;
         let act = KeptAct::of(alloc, act)?;
-        let fitting = fitted(alloc, reply)?;
-        let kept = SharedReply::of(alloc, self.entries.last(), fitting)?;
+        let kept = SharedReply::of(alloc, self.entries.last(), reply)?;
         client.take(kept.told());
         self.entries.push(Entry {
             place,

@@ -24,16 +24,14 @@ pub use Rattle.client_script.specs.declared.line.Verb.{Verb}
 pub use Rattle.client_script.specs.declared.line.Want.{Want}
 pub use Rattle.dmx_calls.specs.Accounted.{IsAccounted}
 pub use Rattle.dmx_calls.specs.Calls.{told_entry}
-pub use Rattle.dmx_calls.specs.History.{Entry, History}
+pub use Rattle.dmx_calls.specs.History.{History}
 pub use Rattle.dmx_calls.specs.Invocation.{Invocation, Open, Pass}
 pub use Rattle.dmx_calls.specs.Legal.{IsLegalFor}
-pub use Rattle.dmx_calls.specs.Log.{IsFrom, LogEntry, Sources, act_of, filled, filled_act, filled_entry}
+pub use Rattle.dmx_calls.specs.Log.{IsFrom, LogEntry, Sources, act_of, filled}
 pub use Rattle.dmx_calls.specs.Response.{NoMemory, Response}
 pub use Rattle.dmx_calls.specs.Rules.{rules_at}
 pub use Rattle.dmx_calls.specs.declared.histories.Fed.{Fed}
 pub use Rattle.dmx_calls.specs.declared.limits.TheConstants.{DEMUX_NODES}
-pub use Rattle.dmx_calls.specs.declared.log.Act.{Act}
-pub use Rattle.dmx_calls.specs.declared.log.Act.TheVariants.{Pass as PassAct}
 pub use Rattle.dmx_calls.specs.declared.log.Entry.{Entry as ToldEntry}
 pub use Rattle.dmx_calls.specs.declared.outcome.Outcome.{Outcome}
 pub use Rattle.dmx_calls.specs.declared.params.Input.{Input}
@@ -75,7 +73,7 @@ pub use Rattle.serve_top.specs.declared.left.Left.{Left}
 pub use Rattle.serve_top.specs.declared.passing.Passing.{Passing}
 pub use Rattle.serve_top.specs.declared.server.NoReport.TheVariants.{Failed, TooLong}
 pub use Rattle.serve_top.specs.declared.written.Written.{Written}
-pub use Rattle.std.proofs.Common.{Bool, Err, Global, List, None, Option, Result, Some, Vec, [], ap, arith, drop, eq-eqb, false, fold, inl, inr, length, length-append, map, max, nat_lt, ne_eqb, refl, replicate, reverse, rules, set, subst, suc, sym, take, true, zero, ℕ, ⊎_elim, ◌++◌, ◌+◌, ◌-◌, ◌<◌, ◌^◌, ◌∙◌, ◌∷◌, ◌≡◌, ◌≢◌, ◌≤◌}
+pub use Rattle.std.proofs.Common.{Bool, Err, Global, List, None, Option, Result, Some, Vec, [], ap, arith, eq-eqb, false, fold, inl, inr, length, length-append, map, max, nat_lt, ne_eqb, refl, replicate, reverse, rules, set, subst, suc, sym, take, true, zero, ℕ, ⊎_elim, ◌++◌, ◌+◌, ◌-◌, ◌<◌, ◌^◌, ◌∙◌, ◌∷◌, ◌≡◌, ◌≢◌, ◌≤◌}
 pub use Rattle.std.proofs.lemmas.Bool.{cases_lt}
 pub use Rattle.std.proofs.lemmas.Bool.Decides.{nat_tests}
 pub use Rattle.std.proofs.lemmas.Iterator.Adapters.{YieldsList-from_vec}

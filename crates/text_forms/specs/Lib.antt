@@ -1,3 +1,4 @@
+pub mod Appended
 pub mod Hex
 pub mod Names
 pub mod Numbers

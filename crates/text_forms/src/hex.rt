@@ -1,7 +1,8 @@
 // Bytes in lower-case hexadecimal digits.
-ghost use Rattle.std.specs.Prelude.{◌≡◌, ◌≢◌, ℕ, suc, ◌*◌, ◌<◌, [], ◌∷◌, ◌++◌, length, Some, None, IfSome, MatchOption, OnOk, OnErr, ◌+◌, ◌≤◌, vec_len, vec_capacity};
+ghost use Rattle.std.specs.Prelude.{◌≡◌, ◌≢◌, ℕ, suc, ◌*◌, ◌<◌, [], ◌∷◌, length, Some, None, IfSome, MatchOption, OnErr, ◌+◌};
 ghost use Rattle.std.specs.Option.{option_map};
 ghost use Rattle.text_forms.specs.Hex.{hex_digit as digit_of_byte, hex_byte as byte_of_digits, hex_bytes as bytes_of_digits, digit_text, byte_text, hex_text};
+ghost use Rattle.text_forms.specs.Appended.{Appended};
 
 use arrayvec::ArrayVec;
 use std::alloc::AllocError as NoMemory;
@@ -87,9 +88,7 @@ pub fn digits_of(byte: u8) -> [u8; 2]
 ///
 /// `NoMemory`; `out` is then as it was.
 pub fn write_hex_byte(out: &mut Vec<u8>, byte: u8) -> Result<(), NoMemory>
-    ensures appended { OnOk result (out.new.items ≡ out.old.items ++ byte_text byte) }
-    ensures full { OnErr result (vec_capacity out.old < vec_len out.old + length (byte_text byte)) }
-    ensures room { vec_capacity out.old ≤ vec_capacity out.new }
+    ensures appended { Appended (length (byte_text byte)) (byte_text byte) out.old out.new result }
     ensures unchanged { OnErr result (out.new.items ≡ out.old.items) }
 {
     out.extend_from_slice(&digits_of(byte))
@@ -113,10 +112,7 @@ fn fill_digits(room: &mut [u8], bytes: &[u8])
 ///
 /// `NoMemory`; `out` is then as it was.
 pub fn write_hex(out: &mut Vec<u8>, bytes: &[u8]) -> Result<(), NoMemory>
-    ensures appended { OnOk result (out.new.items ≡ out.old.items ++ hex_text bytes.now) }
-    ensures full { OnErr result (vec_capacity out.old < vec_len out.old + 2 * length bytes.now) }
-    ensures few { vec_len out.new ≤ vec_len out.old + 2 * length bytes.now }
-    ensures room { vec_capacity out.old ≤ vec_capacity out.new }
+    ensures appended { Appended (2 * length bytes.now) (hex_text bytes.now) out.old out.new result }
     ensures unchanged { OnErr result (out.new.items ≡ out.old.items) }
 {
     out.reserve(2 * bytes.len())?;

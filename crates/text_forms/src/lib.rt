@@ -4,18 +4,17 @@
 //! The forms are numbers in decimal digits, bytes in two lower-case hexadecimal digits and words of them, the words of inputs and
 //! outputs, the names of clients, slots and nodes, and the words `I=FF/MM/DD` for the places of a section filter.
 //!
-//! What a contract sees: a word as the list of its bytes. Each form has a definition of what is written
-//! (`number`: std's `decimal`; `hex_text`; `input_text` of `dmx_calls`; `client_text`; `filter_text`; ..) and one of what is read
-//! (`number_between`, `hex_byte`, `hex_bytes`, `input_named`, `client_named`, `place_named`; ..). A reading side answers None where a
-//! word isn't that spelling: a number has no sign and no zero before other digits, and hexadecimal digits are in lower
+//! What a contract sees: a word as the list of its bytes. Each form has a definition of what is written (`number`: std's
+//! `decimal`; `hex_text`; `input_text` of `dmx_calls`; `client_text`; `filter_text`; ..) and one of what is read
+//! (`number_between`, `hex_byte`, `hex_bytes`, `input_named`, `client_named`, `place_named`; ..). A reading side answers None
+//! where a word isn't that spelling: a number has no sign and no zero before other digits, and hexadecimal digits are in lower
 //! case.
 //!
 //! What is proved: each function answers what its definition says. A writing side appends just its text, and where memory
-//! is refused the bytes are as they were. It takes no room away, and can't fail where there is room for as many bytes as
-//! its clause `full` says; `few` says how many it appends at most, where that isn't the length of its text. Reading a
-//! spelling gives its value again: that are the laws `numbers_are_read_again`, `bytes_are_read_again`,
-//! `words_are_read_again`, `script_names_are_read_again`, `report_names_are_read_again`, `places_are_read_again` and
-//! `filters_are_read_again`.
+//! is refused the bytes are as they were. It takes no room away, appends no more bytes than its `Appended` names, and can't
+//! fail where there is room for so many. Reading a spelling gives its value again: that are the laws
+//! `numbers_are_read_again`, `bytes_are_read_again`, `words_are_read_again`, `script_names_are_read_again`,
+//! `report_names_are_read_again`, `places_are_read_again` and `filters_are_read_again`.
 //!
 //! What is only tested, by the reports of `examples/`: that memory isn't refused where there is enough.
 //!

@@ -1,7 +1,8 @@
 // The names of clients, slots and nodes.
-ghost use Rattle.std.specs.Prelude.{◌≡◌, ◌+◌, ◌<◌, ◌≤◌, ◌∷◌, ◌++◌, IfSome, OnOk, OnErr, length, vec_len, vec_capacity};
+ghost use Rattle.std.specs.Prelude.{◌≡◌, ◌+◌, ◌<◌, ◌≤◌, ◌∷◌, IfSome, OnErr};
 ghost use Rattle.std.specs.Fmt.{decimal};
 ghost use Rattle.text_forms.specs.Names.{numbered as number_behind, client_text, client_named as client_of_word, demux_text, demux_named as demux_of_word, slot_text, slot_named as slot_of_word, who_text, who_named as who_of_word, node_text, node_named as node_of_word};
+ghost use Rattle.text_forms.specs.Appended.{Appended};
 
 use crate::number::{number_between, write_decimal};
 use crate::room::put;
@@ -36,10 +37,7 @@ fn numbered(letter: u8, most: u32, word: &[u8]) -> Option<u32>
 
 // Appends a letter and a number.
 fn write_numbered(out: &mut Vec<u8>, letter: u8, n: u32) -> Result<(), NoMemory>
-    ensures appended { OnOk result (out.new.items ≡ out.old.items ++ letter ∷ decimal n) }
-    ensures full { OnErr result (vec_capacity out.old < vec_len out.old + 20) }
-    ensures few { vec_len out.new ≤ vec_len out.old + 20 }
-    ensures room { vec_capacity out.old ≤ vec_capacity out.new }
+    ensures appended { Appended 20 (letter ∷ decimal n) out.old out.new result }
     ensures unchanged { OnErr result (out.new.items ≡ out.old.items) }
 {
     out.reserve(MOST_BYTES)?;
@@ -55,10 +53,7 @@ fn write_numbered(out: &mut Vec<u8>, letter: u8, n: u32) -> Result<(), NoMemory>
 ///
 /// `NoMemory`; `out` is then as it was.
 pub fn write_client(out: &mut Vec<u8>, client: u32) -> Result<(), NoMemory>
-    ensures appended { OnOk result (out.new.items ≡ out.old.items ++ client_text client) }
-    ensures full { OnErr result (vec_capacity out.old < vec_len out.old + 20) }
-    ensures few { vec_len out.new ≤ vec_len out.old + 20 }
-    ensures room { vec_capacity out.old ≤ vec_capacity out.new }
+    ensures appended { Appended 20 (client_text client) out.old out.new result }
     ensures unchanged { OnErr result (out.new.items ≡ out.old.items) }
 {
     write_numbered(out, b'c', client)
@@ -78,10 +73,7 @@ pub fn client_named(word: &[u8]) -> Option<u32>
 ///
 /// `NoMemory`; `out` is then as it was.
 pub fn write_demux(out: &mut Vec<u8>, node: u32) -> Result<(), NoMemory>
-    ensures appended { OnOk result (out.new.items ≡ out.old.items ++ demux_text node) }
-    ensures full { OnErr result (vec_capacity out.old < vec_len out.old + 20) }
-    ensures few { vec_len out.new ≤ vec_len out.old + 20 }
-    ensures room { vec_capacity out.old ≤ vec_capacity out.new }
+    ensures appended { Appended 20 (demux_text node) out.old out.new result }
     ensures unchanged { OnErr result (out.new.items ≡ out.old.items) }
 {
     write_numbered(out, b'n', node)
@@ -101,10 +93,7 @@ pub fn demux_named(word: &[u8]) -> Option<u32>
 ///
 /// `NoMemory`; `out` is then as it was.
 pub fn write_slot(out: &mut Vec<u8>, slot: u32) -> Result<(), NoMemory>
-    ensures appended { OnOk result (out.new.items ≡ out.old.items ++ slot_text slot) }
-    ensures full { OnErr result (vec_capacity out.old < vec_len out.old + 20) }
-    ensures few { vec_len out.new ≤ vec_len out.old + 20 }
-    ensures room { vec_capacity out.old ≤ vec_capacity out.new }
+    ensures appended { Appended 20 (slot_text slot) out.old out.new result }
     ensures unchanged { OnErr result (out.new.items ≡ out.old.items) }
 {
     write_numbered(out, b'h', slot)
@@ -125,10 +114,7 @@ pub fn slot_named(word: &[u8]) -> Option<u32>
 /// `NoMemory`; `out` is then as it was.
 #[tactic(auto, unfolding(crate::specs::Names::who_text))]
 pub fn write_who(out: &mut Vec<u8>, who: u32) -> Result<(), NoMemory>
-    ensures appended { OnOk result (out.new.items ≡ out.old.items ++ who_text who) }
-    ensures full { OnErr result (vec_capacity out.old < vec_len out.old + 20) }
-    ensures few { vec_len out.new ≤ vec_len out.old + 20 }
-    ensures room { vec_capacity out.old ≤ vec_capacity out.new }
+    ensures appended { Appended 20 (who_text who) out.old out.new result }
     ensures unchanged { OnErr result (out.new.items ≡ out.old.items) }
 {
     if who == 0 {
@@ -158,10 +144,7 @@ pub fn who_named(word: &[u8]) -> Option<u32>
 /// `NoMemory`; `out` is then as it was.
 #[tactic(auto, unfolding(crate::specs::Names::node_text))]
 pub fn write_node(out: &mut Vec<u8>, node: u32) -> Result<(), NoMemory>
-    ensures appended { OnOk result (out.new.items ≡ out.old.items ++ node_text node) }
-    ensures full { OnErr result (vec_capacity out.old < vec_len out.old + 20) }
-    ensures few { vec_len out.new ≤ vec_len out.old + 20 }
-    ensures room { vec_capacity out.old ≤ vec_capacity out.new }
+    ensures appended { Appended 20 (node_text node) out.old out.new result }
     ensures unchanged { OnErr result (out.new.items ≡ out.old.items) }
 {
     if node == DEMUX_NODES {

@@ -1,7 +1,8 @@
 // Numbers as words spell them.
-ghost use Rattle.std.specs.Prelude.{◌≡◌, ◌≤◌, ◌++◌, IfSome, OnOk, OnErr, ◌+◌, ◌<◌, length, vec_len, vec_capacity};
+ghost use Rattle.std.specs.Prelude.{◌≡◌, ◌≤◌, IfSome, OnErr, ◌+◌, ◌<◌};
 ghost use Rattle.std.specs.Fmt.{decimal};
 ghost use Rattle.text_forms.specs.Numbers.{number_between as number_in_word, has_leading_zero};
+ghost use Rattle.text_forms.specs.Appended.{Appended};
 
 use itoa::Buffer;
 use std::alloc::AllocError as NoMemory;
@@ -12,10 +13,7 @@ use std::alloc::AllocError as NoMemory;
 ///
 /// `NoMemory`; `out` is then as it was.
 pub fn write_decimal(out: &mut Vec<u8>, n: u64) -> Result<(), NoMemory>
-    ensures appended { OnOk result (out.new.items ≡ out.old.items ++ decimal n) }
-    ensures full { OnErr result (vec_capacity out.old < vec_len out.old + 20) }
-    ensures few { vec_len out.new ≤ vec_len out.old + 20 }
-    ensures room { vec_capacity out.old ≤ vec_capacity out.new }
+    ensures appended { Appended 20 (decimal n) out.old out.new result }
     ensures unchanged { OnErr result (out.new.items ≡ out.old.items) }
 {
     let mut digits = Buffer::new();

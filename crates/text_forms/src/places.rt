@@ -1,8 +1,7 @@
 // The words that name the bytes of a section filter.
-ghost use Rattle.std.specs.Prelude.{◌≡◌, ◌+◌, ◌≤◌, ◌<◌, ◌++◌, length, IfSome, OnOk, OnErr, vec_len, vec_capacity};
-ghost use Rattle.std.specs.Fmt.{decimal};
-ghost use Rattle.filter_match.specs.Match.{numbers_below};
+ghost use Rattle.std.specs.Prelude.{◌≡◌, ◌+◌, ◌≤◌, ◌<◌, ◌++◌, IfSome, OnErr, vec_len, vec_capacity};
 ghost use Rattle.text_forms.specs.Places.{HasBytes, place_text, filter_place_text, filter_text, place_with as place_spelled, place_named as place_of_word};
+ghost use Rattle.text_forms.specs.Appended.{Appended};
 
 use crate::hex::{digits_of, hex_byte};
 use crate::number::number_between;
@@ -62,10 +61,7 @@ fn put_filter_place(out: &mut Vec<u8>, filter: &SectionFilter, i: u32)
 ///
 /// `NoMemory`; `out` is then as it was.
 pub fn write_filter(out: &mut Vec<u8>, filter: &SectionFilter) -> Result<(), NoMemory>
-    ensures appended { OnOk result (out.new.items ≡ out.old.items ++ filter_text filter.now) }
-    ensures full { OnErr result (vec_capacity out.old < vec_len out.old + 192) }
-    ensures few { vec_len out.new ≤ vec_len out.old + 192 }
-    ensures room { vec_capacity out.old ≤ vec_capacity out.new }
+    ensures appended { Appended 192 (filter_text filter.now) out.old out.new result }
     ensures unchanged { OnErr result (out.new.items ≡ out.old.items) }
 {
     out.reserve(PLACES as usize * MOST_BYTES)?;

@@ -1,7 +1,8 @@
 // Words, and those that name inputs and outputs.
-ghost use Rattle.std.specs.Prelude.{◌≡◌, ◌++◌, OnOk, OnErr, ◌+◌, ◌<◌, ◌≤◌, length, vec_len, vec_capacity};
+ghost use Rattle.std.specs.Prelude.{◌≡◌, OnErr, ◌<◌};
 ghost use Rattle.dmx_calls.specs.Names.{input_text, output_text};
 ghost use Rattle.text_forms.specs.Words.{is_word as is_this_word, input_named as input_of_word, output_named as output_of_word};
+ghost use Rattle.text_forms.specs.Appended.{Appended};
 
 use dmx_calls::{Input, Output};
 use std::alloc::AllocError as NoMemory;
@@ -20,10 +21,7 @@ pub fn is_word(word: &[u8], text: &str) -> bool
 /// `NoMemory`; `out` is then as it was.
 #[tactic(auto, using(crate::proofs::Short::short_input))]
 pub fn write_input(out: &mut Vec<u8>, input: Input) -> Result<(), NoMemory>
-    ensures appended { OnOk result (out.new.items ≡ out.old.items ++ input_text input) }
-    ensures full { OnErr result (vec_capacity out.old < vec_len out.old + 20) }
-    ensures few { vec_len out.new ≤ vec_len out.old + 20 }
-    ensures room { vec_capacity out.old ≤ vec_capacity out.new }
+    ensures appended { Appended 20 (input_text input) out.old out.new result }
     ensures unchanged { OnErr result (out.new.items ≡ out.old.items) }
 {
     out.extend_from_slice(input.name().as_bytes())
@@ -36,10 +34,7 @@ pub fn write_input(out: &mut Vec<u8>, input: Input) -> Result<(), NoMemory>
 /// `NoMemory`; `out` is then as it was.
 #[tactic(auto, using(crate::proofs::Short::short_output))]
 pub fn write_output(out: &mut Vec<u8>, output: Output) -> Result<(), NoMemory>
-    ensures appended { OnOk result (out.new.items ≡ out.old.items ++ output_text output) }
-    ensures full { OnErr result (vec_capacity out.old < vec_len out.old + 20) }
-    ensures few { vec_len out.new ≤ vec_len out.old + 20 }
-    ensures room { vec_capacity out.old ≤ vec_capacity out.new }
+    ensures appended { Appended 20 (output_text output) out.old out.new result }
     ensures unchanged { OnErr result (out.new.items ≡ out.old.items) }
 {
     out.extend_from_slice(output.name().as_bytes())

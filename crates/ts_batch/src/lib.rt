@@ -12,13 +12,13 @@
 //! What is proved: `Batch::of`, `Batch::of_slice` and `Batch::of_front` give the batch of these packets, or answer want of
 //! memory. `of_front` leaves just the packets behind the batch's in the room, and all of them where memory was refused.
 //! A room has at most 64 packets, and never more than there is room for. `first` and `count` are the first packet's
-//! number and the number of packets. `packet` gives the packet in a place and raises the counter of steps by one.
-//! `places` gives the places of the packets that a PID names, ascending: those that have it, and all for PID 0x2000. It
-//! takes no memory and no step, and neither do the calls of `PlaceSet`, which collects places: `add` adds those of the
-//! packets that a PID names, and `add_all` those of the packets that some PID of a set names. Every batch has 1 to 64
-//! packets, each of 188 bytes with the sync byte in front.
+//! number and the number of packets. `packet` gives the packet in a place and raises the counter of steps by one; `add_to`
+//! puts all packets behind others and raises it by one for each. `places` gives the places of the packets that a PID
+//! names, ascending: those that have it, and all for PID 0x2000. It takes no memory and no step, and neither do the calls
+//! of `PlaceSet`, which collects places: `add` adds those of the packets that a PID names, and `add_all` those of the
+//! packets that some PID of a set names. Every batch has 1 to 64 packets, each of 188 bytes with the sync byte in front.
 //!
-//! There is no other way to the bytes of a packet than `packet`, so the counter of steps bounds how many were looked at.
+//! There is no other way to the bytes of a packet than these two, so the counter of steps bounds how many were looked at.
 //!
 //! The number of packets in a batch and the counting of steps are this project's rules. The tests stand in `tests_low`.
 #![tactic(auto)]
@@ -27,7 +27,7 @@ mod index;
 mod place_set;
 mod room;
 
-ghost use Rattle.std.specs.Prelude.{◌≡◌, ◌<◌, ◌≤◌, ◌+◌, ◌^◌, [], length, take, drop, All, IfOk, OnOk, OnErr, slice_get};
+ghost use Rattle.std.specs.Prelude.{◌≡◌, ◌<◌, ◌≤◌, ◌+◌, ◌^◌, ◌++◌, [], length, take, drop, All, IfOk, OnOk, OnErr, slice_get};
 ghost use Rattle.ts_packet.specs.Fields.{IsPacket};
 ghost use Rattle.ts_batch.specs.Batch.{IsBatch};
 ghost use Rattle.ts_batch.specs.Places.{places_of};
@@ -172,6 +172,22 @@ impl Batch {
     {
         steps.tick();
         &self.packets[i as usize]
+    }
+
+    /// Puts the batch's packets behind these, which stay as they were where memory is refused. It takes a step for each packet.
+    pub fn add_to<L: Ledger>(
+        &self,
+        packets: &mut Vec<Packet>,
+        looks: &mut Steps<L>,
+    ) -> Result<(), NoMemory>
+        ensures added { OnOk result (packets.new.items ≡ packets.old.items ++ self.now.packets) }
+        ensures refused { OnErr result (packets.new.items ≡ packets.old.items) }
+        ensures cost { looks.new ≡ looks.old + length self.now.packets }
+    {
+        'packets: for _ in 0..self.packets.len() {
+            looks.tick();
+        }
+        packets.extend_from_slice(&self.packets)
     }
 
     /// The places of the packets of a PID, ascending, each counted from 0; of all packets for PID 0x2000. It takes no step.

@@ -83,6 +83,7 @@ pub use Rattle.script_run.specs.IsRun.{AreInOrder, Batch, InTurn, IsEvent, Stand
 pub use Rattle.script_run.specs.SoFar.{HasDoneSoFar, IsFedSoFar, IsOver, IsPaidBehind, IsSoFar, others as Others}
 pub use Rattle.script_run.specs.WholeRun.{AreFull, IsGiven, IsWholeRun}
 pub use Rattle.std.proofs.Common.{Bool, Err, Global, IsErrOf, List, None, Ok, OnOk, Option, Result, Some, Vec, [], ap, append-nil, append_assoc, arith, cond, drop, eq-eqb, false, filter, get_or, inl, inr, length, length-append, map, nat_eq, nat_lt, ne_eqb, refl, replicate, reverse, rules, set, slice_get, subst, suc, sum, sym, take, true, zero, ℕ, ⊎_elim, ◌*◌, ◌++◌, ◌+◌, ◌-◌, ◌<◌, ◌^◌, ◌||◌, ◌∙◌, ◌∷◌, ◌≡◌, ◌≢◌, ◌≤◌, ◌⊎◌}
+pub use Rattle.std.proofs.Math.Bool.{or-false, or-true}
 pub use Rattle.std.proofs.Math.Seq.{drop-append_seam, take-append_seam, take-length}
 pub use Rattle.std.proofs.lemmas.Bool.{cases_lt}
 pub use Rattle.std.proofs.lemmas.Bool.Decides.{nat_tests}

@@ -1,22 +1,13 @@
 -- Lists and what is made of their members.
-use Rattle.workers.proofs.Imports.{◌≡◌, ⊎_elim, ℕ, zero, suc, List, [], ◌∷◌, ◌++◌, length, map, Some, refl, ap, sym, ◌∙◌, subst, arith, Vec, Global, map-append, length-map, slice_get_within, at_end, Outcome, ClientWorker, AreOutcomesOf}
+pub use Rattle.lemmas.proofs.Members.{each_more, mapped}
+use Rattle.workers.proofs.Imports.{◌≡◌, ⊎_elim, ℕ, List, [], ◌∷◌, ◌++◌, length, map, Some, ap, sym, ◌∙◌, subst, arith, Vec, Global, map-append, length-map, slice_get_within, at_end, Outcome, ClientWorker, AreOutcomesOf}
 use Rattle.std.specs.Prelude.{slice_get}
-
--- a member of a mapped list is what is made of a member
-pub mapped : {A B : Type 0} (f : A → B) (xs : List A) (k : ℕ) (b : B) → slice_get (map f xs) k ≡ Some b → (a : A) × (slice_get xs k ≡ Some a) × (f a ≡ b)
-mapped f [] k b e = absurd (cc e)
-mapped f (x ∷ xs) zero b e = (x, refl, cc e)
-mapped f (x ∷ xs) (suc k) b e = mapped f xs k b e
 
 pub maps_more : {A B C : Type 0} (f : A → C) (g : B → C) (xs new : List A) (a : A) (bs : List B) (b : B) → new ≡ xs ++ a ∷ [] → map f xs ≡ map g bs → f a ≡ g b → map f new ≡ map g (bs ++ b ∷ [])
 maps_more f g xs new a bs b e same one = ap (map f) e ∙ map-append f xs (a ∷ []) ∙ ap (λ l. l ++ f a ∷ []) same ∙ ap (λ z. map g bs ++ z ∷ []) one ∙ sym (map-append g bs (b ∷ []))
 
 pub gives_more : {A B : Type 0} (g : B → A) (xs new : List A) (a : A) (bs : List B) (b : B) → new ≡ xs ++ a ∷ [] → xs ≡ map g bs → a ≡ g b → new ≡ map g (bs ++ b ∷ [])
 gives_more g xs new a bs b e same one = e ∙ ap (λ l. l ++ a ∷ []) same ∙ ap (λ z. map g bs ++ z ∷ []) one ∙ sym (map-append g bs (b ∷ []))
-
--- a fact of each member, with one member more
-pub each_more : {A : Type 0} (P : ℕ → A → Type 0) (xs new : List A) (a : A) (n : ℕ) → new ≡ xs ++ a ∷ [] → n ≡ length xs → ((k : ℕ) (x : A) → slice_get xs k ≡ Some x → P k x) → P n a → (k : ℕ) (x : A) → slice_get new k ≡ Some x → P k x
-each_more P xs new a n e long all one k x at = ⊎_elim (λ old. all k x old) (λ last. subst (λ (i : ℕ). P i x) (long ∙ sym last.0) (subst (P n) last.1 one)) (at_end xs a x k (ap (λ l. slice_get l k) (sym e) ∙ at))
 
 module _ (ys : List ClientWorker) (w : ClientWorker) (os new : List (Vec Outcome Global)) (those : Vec Outcome Global) (is : new ≡ os ++ those ∷ []) (long : length os ≡ length ys) where
   told_more : map (λ (o : Vec Outcome Global). o.items) new ≡ map (λ (o : Vec Outcome Global). o.items) os ++ those.items ∷ []

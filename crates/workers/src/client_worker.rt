@@ -19,7 +19,7 @@ ghost use Rattle.workers.specs.Inside.Working.{IsFit, MayWork, IsWorking, MayCal
 
 use crate::moment::moment_of;
 use adapter::{Adapter, Client};
-use client_core::{ClientCore, Event, MOST_CALLS, Stop, call_of, fitted, unless_no_memory};
+use client_core::{ClientCore, Event, MOST_CALLS, Stop, call_of, unless_no_memory};
 use dmx_calls::{Act, Answer, Entry, KeptAct, SharedReply};
 use emu_io::{Clock, Gate};
 use machine::steps::Steps;
@@ -50,8 +50,7 @@ fn kept_of(alloc: Global, last: Option<&Entry>, answer: Answer) -> Result<Shared
     ensures some { IfOk result (λ kept. response_of kept ≢ response.NoMemory) }
 {
     let reply = unless_no_memory(answer.reply)?;
-    let fitting = fitted(alloc, reply)?;
-    SharedReply::of(alloc, last, fitting)
+    SharedReply::of(alloc, last, reply)
 }
 
 /// A client with the machine that says what it calls next, its calls so far, and why it stopped, if it did.

@@ -1,11 +1,16 @@
 -- What holds of what each node knows.
-use Rattle.std.specs.Prelude.{ℕ, ◌≡◌, [], Option, Some, None}
+use Rattle.std.specs.Prelude.{ℕ, ◌≡◌, ◌≤◌, false, List, [], length, Option, Some, None}
+use Rattle.dmx_calls.specs.Refusal.{takes_many}
 use Rattle.dmx_calls.specs.Tenure.{Params, Empty, Section, Pes}
 use Rattle.dmx_calls.specs.Facts.{Ledger}
 use Rattle.item_select.specs.Selecting.{Selecting}
 use Rattle.node_buffer.specs.Inside.Coherent.{CoherentIn}
 use Rattle.node_core.specs.Offers.{choice_of}
 use Rattle.node_core.specs.Inside.Step.{Knows}
+
+-- a filter that doesn't take several PIDs has one at most
+abbrev pub HasFewPids : Params → List ℕ → Type 0
+HasFewPids set pids = takes_many set ≡ false → length pids ≤ 1
 
 -- a capture has a filter
 abbrev pub IsSoundBy : Params → Option Ledger → Type 0

@@ -1,6 +1,6 @@
-//! The sizes of what a history keeps, and of a counter of steps.
+//! The sizes of what a history keeps, of a node's answer, and of a counter of steps.
 
-use dmx_calls::{ByteBuf, Entry};
+use dmx_calls::{Answer, ByteBuf, Entry};
 use machine::steps::Steps;
 use std::alloc::{AllocError as NoMemory, Global};
 use std::marker::Brand;
@@ -17,8 +17,9 @@ fn takes_all(alloc: Global, count: u32) -> Result<bool, NoMemory> {
 }
 
 #[test]
-fn an_entry_takes_64_bytes_a_counter_none_and_reads_fit(rt: HostRuntime) {
+fn entries_and_answers_take_64_bytes_at_most_counters_none_and_reads_fit(rt: HostRuntime) {
     assert_eq!(rt; (size_of::<Entry>(), size_of::<Steps<Brand>>()), (64, 0));
+    assert!(rt; size_of::<Answer>() <= 64);
     let seen = (takes_all(rt.alloc(), 0), takes_all(rt.alloc(), 65_536));
     assert_eq!(rt; seen, (Ok(true), Ok(true)));
 }

@@ -4,9 +4,9 @@ ghost use Rattle.std.specs.Prelude.{◌≡◌, ◌+◌, ◌<◌, ◌≤◌, leng
 
 use super::NoMemory;
 use client_core::dvr_play::{MOST_BYTES, Plays};
-use client_core::{ClientCore, Request, Stop, call_of, fitted};
+use client_core::{ClientCore, Request, Stop, call_of};
 use client_script::{Script, Want};
-use dmx_calls::{ByteBuf, Call, Outcome, OutcomeKind, Reply};
+use dmx_calls::{ByteBuf, Call, Outcome, OutcomeKind, Reply, SharedReply};
 use std::alloc::Global;
 
 // Whether the longest read comes with an empty buffer for its bytes, and what became of a client's command is copied as it is.
@@ -35,11 +35,12 @@ fn is_copied(alloc: Global) -> Result<bool, Stop> {
     )
 }
 
-// Whether a reply of five bytes that had room for more keeps just its bytes.
+// Whether a reply of five bytes that had room for more is kept with just its bytes.
 fn is_fitted(alloc: Global) -> Result<bool, NoMemory> {
     let mut buf = ByteBuf::new(alloc, 200)?;
     buf.append(b"three");
-    match fitted(alloc, Reply::Data(buf))? {
+    let kept = SharedReply::of(alloc, None, Reply::Data(buf))?;
+    match kept.told() {
         Reply::Data(buf) => Ok(buf.count() == 5 && buf.bytes() == b"three".as_slice()),
         _ => Ok(false),
     }

@@ -10,7 +10,7 @@ batches-preserved g c =
     let batch = c.in-Some.batch.value in
     let qs = given_by c.pull.result (λ batch. batch.value.packets) in
     let is : qs ≡ batch.packets = search rules in
-    let items : c.add_batch.new.packets.items ≡ c.batches.packets.items ++ batch.packets = search rules in
+    let items : c.add_to.new.packets.items ≡ c.batches.packets.items ++ batch.packets = search rules in
     let one : Draws (g.S.Source.end c.batches.source) (g.S.Source.end c.pull.new.source) c.batches.puller c.pull.new.self qs = record { carries = e.stream; follows = e.follows; start = e.start } in
     rw (items, ← is) record {
       draws = draws_then _ _ _ _ _ _ _ _ c.batches.invariant.draws one;

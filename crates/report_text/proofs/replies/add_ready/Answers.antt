@@ -1,13 +1,18 @@
-use Rattle.report_text.proofs.Imports.{◌++◌, codes, decimal, on_ok_weaker}
+use Rattle.report_text.proofs.Imports.{◌++◌, codes, decimal, on_ok_weaker, rules}
 use Rattle.report_text.proofs.Texts.{behind}
 use Rattle.report_text.proofs.replies.add_ready.Goals as goal
 
-pub returns-clause-items : goal.returns-clause-items
-returns-clause-items c =
-    rw (← c.flag_name.ensures.value, ← c.name.ensures, ← c.flag_name-2.ensures.value)
-    (on_ok_weaker c.add_word-3.result
-    (λ last.
-    behind c.args.out.now.items (codes "ready readable=" ++ c.flag_name.result.now) _ c.in_ok-add_word.ensures.items (
-    behind c.add_word.new.out.items (codes " error=" ++ c.name.result.now) _ c.in_ok-add_word-2.ensures.items (
-    behind c.add_word-2.new.out.items (codes " at=" ++ decimal c.args.at) _ c.in_ok-add_field.ensures.items last)))
-    c.add_word-3.ensures.items)
+pub returns : goal.returns
+returns c = record {
+  items =
+      rw (← c.flag_name.ensures.value, ← c.name.ensures, ← c.flag_name-2.ensures.value)
+      (on_ok_weaker c.add_word-3.result
+      (λ last.
+      behind c.args.out.now.items (codes "ready readable=" ++ c.flag_name.result.now) _ c.in_ok-add_word.ensures.items (
+      behind c.add_word.new.out.items (codes " error=" ++ c.name.result.now) _ c.in_ok-add_word-2.ensures.items (
+      behind c.add_word-2.new.out.items (codes " at=" ++ decimal c.args.at) _ c.in_ok-add_field.ensures.items last)))
+      c.add_word-3.ensures.items);
+  full = search rules;
+  few = search rules;
+  room = search rules;
+}

@@ -1,15 +1,10 @@
-use Rattle.seats.proofs.Imports.{rules, ◌≡◌, ◌+◌, ℕ, List, [], ◌∷◌, ◌++◌, length, map, reverse, refl, sym, ap, ◌∙◌, arith, length-append, map-append, append-nil, append_assoc, reverse-append, YieldsList-end, YieldsList-from_vec, Caller, Desk, IsNew}
+use Rattle.seats.proofs.Imports.{rules, ◌≡◌, ◌+◌, ℕ, List, [], ◌∷◌, ◌++◌, length, map, reverse, refl, sym, ap, ◌∙◌, arith, length-append, map-append, append-nil, append_assoc, reverse-append, YieldsList-end, YieldsList-from_vec, Caller, Desk, IsNew, each_more, nil_from_length}
 use Rattle.seats.proofs.Going.{ready_desks}
-use Rattle.seats.proofs.Lists.{each_more}
 use Rattle.seats.proofs.making.desks_of.Goals as goal
 
 map_same : {A : Type 0} (xs : List A) → map (λ (y : A). y) xs ≡ xs
 map_same [] = refl
 map_same (x ∷ xs) = ap (λ l. x ∷ l) (map_same xs)
-
-no_more : {A : Type 0} (xs : List A) → length xs ≡ 0 → xs ≡ []
-no_more [] e = refl
-no_more (x ∷ xs) e = absurd (cc e)
 
 pub clients-preserved : goal.clients-preserved
 clients-preserved g c =
@@ -33,7 +28,7 @@ returns-clause-lines g c =
     let b = c.into_iter-client-iterator.ensures.into_iter_gives in
     let t = YieldsList-end (YieldsList-from_vec {s = c.into_iter-client-iterator.result} c.args.clients.items b.0 (b.1 ∙ c.args.clients.ok.0)) c.clients.yielded c.clients.client-iterator c.clients.yielded_by c.next.result c.next.new.self c.in-None.is c.next.ensures.steps in
     let k = t.1 in let a = c.clients.invariant.lines in let r = c.requires.lines in
-    let none : c.clients.lines.items ≡ [] = no_more c.clients.lines.items (omega (arith, k, a, r)) in
+    let none : c.clients.lines.items ≡ [] = nil_from_length c.clients.lines.items (omega (arith, k, a, r)) in
     sym (append-nil (map (λ (d : Desk _). d.line) c.clients.desks.items)) ∙ (ap (λ (l : List _). map (λ (d : Desk _). d.line) c.clients.desks.items ++ reverse l) (sym none) ∙ c.clients.invariant.same)
 
 pub returns-clause-ready : goal.returns-clause-ready

@@ -1,5 +1,0 @@
-use Rattle.std.proofs.Common.{◌≡◌, ◌++◌, take}
-use Rattle.emu_top.proofs.stream.add_batch.Given as goal
-
-abbrev pub invariant-packets : goal.invariant-packets
-invariant-packets g l = l.packets.items ≡ l.initial.packets.items ++ take l.place l.batch.packets
