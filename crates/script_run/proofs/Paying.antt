@@ -1,5 +1,5 @@
 -- At each moment of a run, the commands and the bytes pay for the calls of a client: a repeat that follows bytes is paid for by
--- them, and a repeat that follows Again by the entry right behind the read, which is the feeder's or adds no repeat to its own client's.
+-- them, and one that follows Again by the entry right behind the read, the feeder's or one that adds no repeat to its client's.
 use Rattle.script_run.proofs.Imports.{◌≡◌, ◌≢◌, refl, sym, ap, subst, ◌∙◌, ℕ, zero, suc, ◌+◌, ◌*◌, ◌<◌, ◌≤◌, Bool, true, false, nat_eq, List, [], ◌∷◌, ◌++◌, Option, Some, None, length, filter, take, slice_get, inl, inr, arith, ◌⊎◌, if◌then◌else◌, All, nat_tests, All-weaker, slice_get_within, Has, at_place, one_value, has_at, IsPacket, Ebadf, LogEntry, Sources, act_of, filled_act, filled_entry, HasRead, Response, Refused, Line, Feed, Tick, Target, Verb, clients_in, Scripted, ClientCommand, Event, Request, Own, Pass, Open, Packets, packets_in, Batches, batch_at, deed_of, call_of, commands_among, ends_drain, pass_of, played, plays_of, next_event, all_commands, bytes_in, most_calls, IsEvent, StandsIn, replies, sources, Payers, feeder, others, MayPay, IsPaidBehind, HasDoneSoFar, IsSoFar, commands_for, CallsArePaid, pass_in, pass_at}
 use Rattle.client_script.specs.declared.line.Line.TheVariants.{Command}
 use Rattle.script_run.proofs.Lists.{has_filter}
