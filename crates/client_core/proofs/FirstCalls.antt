@@ -94,7 +94,7 @@ done_tight slots t v step rs =
 
 -- ------ all commands
 
--- after n replies, which allow m repeats; where Again allows one more, the client stands there, if it does, on the node on which it stood
+-- After n replies, which allow m repeats; where Again allows one more, the client stays on its node, if it stands at all.
 record Tight (commands n m more : ℕ) (s : Standing) (now : Option Standing) : Type 0 where
   few : n < 33 * commands + m
   stays : m < more → (t : Standing) → now ≡ Some t → t.event.node ≡ s.event.node

@@ -6,7 +6,8 @@ use Rattle.client_core.proofs.GoesOn.{progress_of, last_counts, waits_still}
 use Rattle.client_core.proofs.Steps.{by_steps, if_next, step_of}
 use Rattle.client_core.specs.declared.task.Task.TheVariants as task
 
--- A command with one reply more: where it was through, it leaves this reply too. Where it stood, it stands at a later step, or is through, and then no read is repeated, as where what stands there is no read; and a read that is repeated stays on its node. So many reads are repeated before and after.
+-- A command with one reply more, and how many reads it repeats before and after. Where it was through, it leaves this reply
+-- too. Where it stood, it is through, or stands at a later step; a read that stands there may be a repeat, on the same node.
 abbrev pub Onward : (step : ℕ) → Response → (before after : ℕ) → Doing → Doing → Type 0
 Onward step r m n (through ending next left) d = (d ≡ through ending next (left ++ r ∷ [])) × (n ≡ m)
 Onward step r m n (stands e) (stands f) = (step < f.step) × (n ≤ m + added_by e.want r) × (reading_on f ≡ None → n ≤ m) × (m < n → f.node ≡ e.node)

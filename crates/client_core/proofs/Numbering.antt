@@ -81,7 +81,7 @@ module _ (batches : Batches) where
   free_slots : (n : ℕ) → AreSlots (replicate n None)
   free_slots n = All-replicate (λ slot. IfSome slot (λ node. node < DEMUX_NODES)) n None tt
 
--- The call that a client makes next has as its step the number of the replies that it got, is on one of the 33 nodes, and asks for what is in range and there.
+-- A client's next call has as its step the number of its replies, is on one of 33 nodes, and asks for what is in range.
 pub next_is_asked : (client : ℕ) (script : Scripted) (replies : List Response) (e : Event) → All IsInRange script.lines → next_event client script replies ≡ Some e
     → (e.step ≡ length replies) × IsAsked (plays_of client script) e
 unfolding progress

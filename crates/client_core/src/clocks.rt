@@ -14,8 +14,8 @@ use dmx_calls::{ByteBuf, LogReply, Output, PesParams, Reply};
 use std::alloc::{AllocError as NoMemory, Global};
 use std::marker::Model;
 
-/// What is kept of a node: the clock of what the client has read there, and the type of the filter that it has set last, where the
-/// filter's items are whole packets that are read there.
+/// What is kept of a node: the clock of what the client has read there, and the type of the filter that it has set last, where
+/// that gives whole packets to its reader.
 #[derive(Drop)]
 pub struct NodeClock {
     clock: StcClock,

@@ -1,23 +1,14 @@
 //! The words of the command line: which command they name.
 //!
-//! `steps` or `run` stands alone, or before one or both of the options `--batch` with B and `--packet` with P, in either order.
-//! `check` stands alone or before the option `--packet`. An option is two words, as `--batch` and B, or one, as `--batch=B`.
-//! `make` stands before a number N alone. `selftest` stands before N, alone or with the option `--batch` before or behind N. B is
-//! a number from 1 to 64, P is 188 or 204, and N is a number from 0 to 18446744073709551615, in decimal digits, without sign and
-//! without a leading zero; without `--batch` B is 64, and without `--packet` P is 188. A repeated option, the word `--`,
-//! `--help`, `-h` and all other words are refused.
+//! What a contract sees: the words as lists of bytes. `meant` (`specs/Meant.antt`) says which command they name, by plain cases:
+//! `steps` and `run` alone or with the options `--batch` and `--packet`, `check` with `--packet`, `make` and `selftest` with a
+//! number, `selftest` with `--batch` too. All other words are refused, and so are a repeated option, `--help` and `--`.
 //!
-//! What a contract sees: the words as lists of bytes. `meant` in specs/Meant.antt says which command they name, by plain
-//! cases, and knows nothing of a parser.
+//! What is proved: `read_words` answers what `meant` says, and a batch has 1 to 64 packets. Where memory is refused it says so,
+//! and takes no words for others. The crate `clap` reads the words of the options; the proof goes by clap's own definitions of
+//! what it finds (`matches_of`) and of what it refuses (`fault_of`). The code refuses the word `--` before clap sees it.
 //!
-//! What is proved: `read_words` answers what `meant` says, and a batch has 1 to 64 packets. Where memory is refused it says
-//! so, and takes no words for others. The first word and N are read here, and the words of the options by the crate `clap`:
-//! the proof walks over them by clap's own definitions of what it finds (`matches_of`) and of what it refuses (`fault_of`).
-//! Before clap sees them, the code refuses the word `--`, behind which clap takes no word for an option.
-//!
-//! What is only tested, in `tests_text`: that memory isn't refused where there is enough.
-//!
-//! The rules are this project's own.
+//! What is only tested, in `tests_text`: that ample memory is enough. The rules are this project's own.
 #![tactic(auto)]
 
 ghost use Rattle.std.specs.Prelude.{◌≡◌, IfOk, IfSome, map, string_bytes};

@@ -136,8 +136,7 @@ impl NodeCore {
     }
 
     /// Makes a call for the caller `who`, and answers what the node's history says to it. Pass and End are taken from
-    /// whoever makes them. A call that is refused, answered Busy or answered want of memory leaves the node as it was, but for the
-    /// number of calls.
+    /// whoever makes them. A call that is refused, or answered Busy or want of memory, changes nothing but the number of calls.
     pub fn apply<L: Ledger>(&mut self, who: u32, call: Call, steps: &mut Steps<L>) -> Answer
         requires few { self.old.entries < 2 ^ 50 }
         ensures stands { (h : History) → StandsFor self.old h

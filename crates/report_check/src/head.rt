@@ -23,8 +23,8 @@ pub fn is_same_head(this: &Head, other: &Head) -> bool
         && this.read_fault == other.read_fault
 }
 
-/// The first line of a report that tells the stream otherwise than this head does: that of its tally, the one at which a row of this
-/// head stands or none more does, or the last. Nothing is claimed of it.
+/// The first line of a report that tells the stream otherwise than this head: that of its tally, of a row, or the last. Nothing
+/// is claimed of it.
 pub fn line_of_head(told: &Told, head: &Head) -> u64 {
     if told.head.tally != head.tally {
         return 2;

@@ -101,7 +101,7 @@ pub fn first_fault(
     if !is_same_head(&told.head, head) {
         return Ok(Some(fault_at(line_of_head(&told, head), FaultKind::Head)));
     }
-    // Each line is in the ranges of the grammar, and each write is short, so that each call of a run is one that can be made again.
+    // Each line is in the ranges of the grammar and each write is short, so each call of a run can be made again.
     let _lines = script.lines();
     match odd_part(alloc, &told, script, packets)? {
         None => Ok(None),

@@ -79,8 +79,7 @@ fn taken_of(client: u32, nodes: &[(u32, Vec<Entry>)], queues: &[&[Entry]]) -> u6
     taken
 }
 
-// A call that is asked for and isn't told: the entry that was taken for it is another, or none was left. As many were taken before as
-// calls were made.
+// A call that is asked for and isn't told: another entry was taken for it, or none was left. As many were taken as calls made.
 fn odd_event(
     event: &Event,
     client: u32,

@@ -3,8 +3,7 @@ use report_read::{read_line, read_report};
 use std::alloc::{AllocError as NoMemory, Global};
 use text_forms::write_decimal;
 
-// The first line of a report; the first two, of a stream without a packet; a call that may stand first on any node; the two last lines
-// that there are.
+// A report's first line; its first two, of a stream without packets; a call that may be first on any node; the two last lines.
 const FIRST: &[u8] = b"dvbemu 1\n";
 
 const HEAD: &[u8] = b"dvbemu 1\npackets=0 skipped=0 rest=0\n";
@@ -136,8 +135,7 @@ impl<'a> Front<'a> {
     }
 }
 
-/// The line at which a text that is no report stops being one: the first with which no report begins, or the one in which the text
-/// ends.
+/// The line at which a text stops being a report: the first with which no report begins, or the one in which the text ends.
 pub fn line_of_text(alloc: Global, text: &[u8]) -> Result<u64, NoMemory> {
     let mut front = Front::new();
     let mut line: u64 = 1;

@@ -19,7 +19,7 @@ pub fn runs_are_accounted()
     ensures { RunsAreAccounted }
 {}
 
-/// In a run what passes a demux node by the calls of a client, in the order of the node's history, are the batches of those of its
+/// In a run what passes a demux node by a client's calls, in the order of the node's history, are the batches of those of its
 /// writes whose poll was answered Ready, each once and in the order of the writes.
 pub fn writes_pass()
     ensures { WritesPass }

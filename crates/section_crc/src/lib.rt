@@ -1,25 +1,19 @@
 //! The CRC of a section, which its last four bytes make 0.
 //!
-//! Sections with section_syntax_indicator 1 end with CRC_32 (ISO/IEC 13818-1, 2.4.4.5), whose rule is the decoder model
-//! of Annex A: a register of 32 bits, all ones at first, the polynomial 0x04C11DB7, the most significant bit of each
-//! byte first, and no inversion at the end. Elsewhere it is called CRC-32/MPEG-2.
+//! Sections with section_syntax_indicator 1 end with CRC_32 (ISO/IEC 13818-1, 2.4.4.5), whose rule is the decoder model of Annex
+//! A: a register of 32 bits, all ones at first, the polynomial 0x04C11DB7, the most significant bit of each byte first, and no
+//! inversion at the end. Elsewhere it is called CRC-32/MPEG-2.
 //!
-//! What a contract sees: bytes as a list of numbers, and the CRC as a number below 2^32. `specs/Crc.antt` has the rule one
-//! bit at a time.
+//! What a contract sees: bytes as a list of numbers, and the CRC as a number below 2^32. `specs/Crc.antt` has the rule one bit at
+//! a time.
 //!
-//! What is proved: `crc` gives just what the rule gives, for any bytes. `with_its_crc_is_zero` has as its contract the
-//! law for which the CRC is made: over bytes with their own CRC behind them, the most significant byte first, it is 0.
-//! `Tables::crc` gives the same by tables of one's own, which `Tables::new` makes bit by bit. Table j has for each byte
-//! the register after that byte and j bytes of 0, from a register of 0 (`specs/Inside/Tables.antt`). K such tables take K bytes
-//! at once: the register after K bytes is the sum, modulo 2 in each bit, of one entry of each.
+//! What is proved: `crc` gives just what the rule gives, for any bytes, and `Tables::crc` the same by tables that `Tables::new`
+//! makes. `with_its_crc_is_zero`: over bytes with their own CRC behind them, the most significant byte first, it is 0. `crc` has
+//! eight tables written out (`src/rows.rt`) and takes eight bytes at a time; the checker works out each of their 2,048 entries
+//! from the rule.
 //!
-//! `crc` has eight such tables written out (`src/rows.rt`), so that no call makes them, and takes eight bytes at a time.
-//! The checker works out each of their 2,048 entries from the rule.
-//!
-//! What is only tested: that the rule is the one that other programs have, by the check value of CRC-32/MPEG-2 and by
-//! sections of ffmpeg; and that a flipped bit is seen. The tests stand in `tests_low`.
-//!
-//! Limits: no memory is taken, and the time is linear in the bytes. `Tables<8>` has 8,192 bytes.
+//! What is only tested, in `tests_low`: that the rule is the one that other programs have, by the check value of CRC-32/MPEG-2
+//! and by sections of ffmpeg; and that a flipped bit is seen. Limits: no memory is taken, and the time is linear in the bytes.
 #![tactic(auto)]
 
 mod bitwise;

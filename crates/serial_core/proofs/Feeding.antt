@@ -58,7 +58,7 @@ all_fed first step (b ∷ bs) =
 
 -- ------ so far
 
--- what the feeder has done on each node, by the logs of the nodes, its turns, the packets that have passed, and whether the end has
+-- what the feeder has done on each node, by the nodes' logs, its turns, the packets that have passed, and whether the end has
 pub record AreFed (most : ℕ) (logs : ℕ → List LogEntry) (turns first : ℕ) (has_ended : Bool) : Type 0 where
   pub batches : List Batch
   pub each_size : All (λ b. (1 ≤ b.size) × (b.size ≤ most)) batches

@@ -24,7 +24,7 @@ pub fn every_script_has_a_serial_run()
     ensures { HaveSerialRuns }
 {}
 
-/// The serial run of a script is a run of it: the histories of its nodes are legal and accounted, every packet of the stream passes
+/// The serial run of a script is a run of it: its nodes' histories are legal and accounted, every packet of the stream passes
 /// each node once and in order, and each client did just what its commands ask.
 pub fn the_serial_run_is_a_run()
     ensures { SerialRunsAreRuns }

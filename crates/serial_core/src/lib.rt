@@ -1,31 +1,22 @@
 //! The run of a script on one thread: its lines done in their order on 32 demux nodes and the dvr node, over a stream that is
 //! pulled as it is wanted.
 //!
-//! A line `feed` passes its packets through all nodes in batches, a line `tick` lets time go by, and a command is done to its
-//! end. Where a client waits, the feeder has a turn before the read is repeated: a batch passes, or the end of the stream.
-//! After the last line the rest of the stream passes, and then its end, once. A write that completes packets passes them
-//! through the demux nodes 0 to 31 by calls of its client, where the dvr node is the client's own.
+//! A command is done to its end. Where its client waits, a batch passes, or the end of the stream, before the read is repeated.
+//! Behind the last line the rest of the stream passes, and then its end, once.
 //!
-//! What a contract sees: the serial run (`specs/SerialRun.antt`) as a relation between a script, the size of a batch, the
-//! packets of a stream and a `Run`. It runs no node: each reply in it is the answer that the history of its node gives, and
-//! each call of a client is the one that `client_core` names by the replies before. Of a script and a stream there is one run
-//! at most (`the_serial_run_is_one`).
+//! What a contract sees: the serial run (`IsSerialRun`, `specs/SerialRun.antt`), a relation between a script, the size of a
+//! batch, the packets of a stream and a `Run`. It runs no node: each reply in it is the answer that the history of its node
+//! gives, and each call of a client is the one that `client_core` names by the replies before.
 //!
-//! What is proved: `run_steps` gives the histories, the outcomes and the head of the serial run of the stream, which is what
-//! stood ahead in the puller and the bytes that were taken; the source failed just where its count rose, and else it has
-//! nothing left. However it ends, at most one read has failed: after it nothing more is read. `TooLong` comes only where so
-//! many reads were made, or where the commands and the bytes allow a client so many calls. Where the run stops early, what
-//! was taken of the source is told as the puller's pulls tell it. Laws of each serial run: its 33 histories are legal, and
-//! every packet of the stream passes each node once and in order. Of a script's lines it is a run as `script_run` says it,
-//! and each of its moments is a run so far: so no client makes more calls than its commands and the bytes, those of writes
-//! too, allow. Worked runs are computed by the check.
+//! What is proved: `run_steps` gives the histories, the outcomes and the head of the serial run of the stream: what stood ahead
+//! in the puller, and the bytes that were taken. A read failed just where the source's count of faults rose, and then nothing
+//! more was read; else the source has nothing left. `TooLong` comes only where so many reads were made, or where the commands and
+//! the bytes allow a client so many calls. Laws: each script and stream have a serial run (`every_script_has_a_serial_run`), and
+//! only one (`the_serial_run_is_one`); it is a run as `script_run` says it (`the_serial_run_is_a_run`), and no client makes more
+//! calls than the budget allows (`clients_are_within_budget`). The checker works out some runs.
 //!
-//! What is only tested, by the sessions of `examples/`: that memory isn't refused where there is enough of it.
-//!
-//! Only the clients' entries are kept node by node. The feeder's passes, which are the same on each, are kept once a batch.
-//!
-//! The order of the lines and the moments are this project's own; what a node answers is `dmx_calls`', and the cutting of the
-//! stream is `ts_packet`'s.
+//! What is only tested, by the sessions of `examples/`: that ample memory is enough. The order of the lines is this project's
+//! own.
 #![tactic(auto)]
 
 mod command;

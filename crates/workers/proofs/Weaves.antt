@@ -22,7 +22,8 @@ rises_at place [] up j e at = absurd (cc at)
 rises_at place (c ∷ calls) up zero e at = let same : c ≡ e = cc at in subst (λ (z : LogEntry). place ≤ z.place) same up.0
 rises_at place (c ∷ calls) up (suc j) e at = let low = up.0 in let more = rises_at (suc c.place) calls up.1 j e at in omega arith
 
--- These calls of the feeder and entries of the clients tell a history from a place on: its entries of caller 0 are the feeder's, in their order; each entry of a client stands there at its place; and every entry of another caller is one of them.
+-- These calls of the feeder and entries of the clients tell a history from a place on: its entries of caller 0 are the feeder's,
+-- in their order; each of a client stands at its place; and every entry of another caller is one of them.
 pub record AreTold (packets : Sources) (place : ℕ) (acts : List Act) (calls : List LogEntry) (h : List Entry) : Type 0 where
   pub feeder : filter by_feeder h ≡ fed_of packets acts
   pub callers : (j : ℕ) (e : LogEntry) → slice_get calls j ≡ Some e → e.who ≢ 0

@@ -36,8 +36,8 @@ fn work_each<R: Threads + Wait + Sync, C: Clock + Sync, G: Gate + Sync>(
     thread::for_each_mut(rt, clients, threads, &call);
 }
 
-/// The feeder at work in this thread, and each of the clients in another. Where no thread can be made for them, they come behind the
-/// feeder, so that none of them waits for what nobody passes.
+/// The feeder at work in this thread, and each of the clients in another. Where no thread can be made for them, they come behind
+/// the feeder, so that none of them waits for what nobody passes.
 pub fn work_all<R: Threads + Wait + Sync, S: Source + Send, C: Clock + Sync, G: Gate + Sync>(
     rt: &R,
     alloc: Global,

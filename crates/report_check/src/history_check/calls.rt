@@ -54,8 +54,7 @@ fn pass(
     Ok(Call::Pass { input, batch, now })
 }
 
-/// The call that an act of a caller tells, with packets for a pass: those of the stream for the front end, and for the dvr those that
-/// the caller plays.
+/// The call that an act of a caller tells. A pass brings packets of the stream, or from the dvr those that the caller plays.
 pub fn call_told(
     alloc: Global,
     stream: &[Packet],

@@ -43,7 +43,7 @@ pub fn agrees<M: Machine<Call = Call, Answer = Answer, Entry = Told>, L: Ledger>
 }
 
 /// Plays told entries, the oldest first, on a machine on which no call was made: true exactly where their history is legal by
-/// the machine's rules, and none of the replies is want of memory. A pass of the front end brings packets of the stream, and one of
+/// the machine's rules, and none of the replies is want of memory. A pass of the front end brings packets of the stream, one of
 /// the dvr packets that its caller plays.
 pub fn is_played<M: Machine<Call = Call, Answer = Answer, Entry = Told>, L: Ledger>(
     alloc: Global,

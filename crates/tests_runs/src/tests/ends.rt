@@ -18,8 +18,7 @@ pub const FIRST: Part = (b"\x47\x01\x00\x10", 184, 0);
 
 pub const SECOND: Part = (b"\x47\x01\x00\x11", 184, 0);
 
-/// Both ends of a session: what a read gives at most, which reads fail, what the sink holds, what a write takes at most, and which
-/// writes fail.
+/// Both ends of a session: the most that a read gives and a write takes, which of them fail, and what the sink holds.
 #[derive(Clone, Copy)]
 pub struct Ends {
     pub piece: u32,

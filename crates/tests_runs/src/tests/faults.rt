@@ -168,8 +168,7 @@ const MAKE: Session = Session {
     rows: &[(&[0], &[], 12, Status::WriteFault, "c0 open n0\nc")],
 };
 
-// A client of those three packets. The packets of a `feed` that finds a fault are those that were taken, and behind them comes the
-// end.
+// A client of those three packets. Where a `feed` finds a fault, the packets that were taken pass, and then the end.
 const READS: Session = Session {
     words: "steps --batch 1",
     script: "c0 open n0\nc0 pes n0 256 frontend tsdemux_tap 20 4\nfeed 2\nc0 drain n0 188\nstream\n",
@@ -297,8 +296,8 @@ const READS: Session = Session {
     ],
 };
 
-// A right report and its session: ten reads for the bytes of the first line, one for the report, one for the session, and one at the
-// end; and a write for each byte of the answer.
+// A right report and its session: ten reads for the first line, one for the report, one for the session, and one at the end; and
+// a write for each byte of the answer.
 const ANSWERS: Session = Session {
     words: "check",
     script: "report 40\ndvbemu 1\npackets=0 skipped=0 rest=0\nend\nstream\n",

@@ -25,8 +25,7 @@ const LAST: Part = (b"\x47\x1f\xff\x10", 184, 0);
 
 const ALL: &[Part] = &[ZEROTH, FIRST, OTHER, LAST];
 
-// A client attaches a tap of a demux node with these PIDs, or detaches it; then packets of the PIDs 0, 256, 257 and 8191 pass, and these
-// are recorded.
+// A client attaches a demux node's tap with these PIDs, or detaches it; of packets of PID 0, 256, 257, 8191 these are recorded.
 type Row = (u32, u32, Option<&'static [u16]>, &'static [Part]);
 
 static ROWS: [Row; 28] = [

@@ -113,7 +113,7 @@ fn is_held<R: AllocGlobal + Threads + Wait + Sync>(rt: &R, case: &Held) -> Optio
     Some(has_all && gate.has_kept_all() && case.entries.unwrap_or(entries) == entries)
 }
 
-// That two clients run beside each other and either may come first: the clauses allow a run that does one client after another, and
+// That two clients run beside each other and either may come first: the clauses allow a run that does one after the other, and
 // here the second comes before the first is done, or the other way round. Client 1 is held.
 const FIRST_COMES_FIRST: Held = Held {
     script: "c0 open n0\nc1 open n0\nstream\n",
@@ -202,8 +202,7 @@ const EACH_MOMENT_IS_A_READING_OF_ITS_OWN: Held = Held {
     ..ONCE
 };
 
-// A packet that is written in two pieces comes beside the stream, whose packet has the same PID. The feeder is held until the client is
-// through.
+// A packet that is written in two pieces comes beside the stream's of its PID. The feeder is held until the client is through.
 const PLAYS_BESIDE_THE_STREAM: Held = Held {
     script: "c0 open dvr\nc0 open n0\nc0 pes n0 256 dvr tsdemux_tap 20 0\nc0 start n0\n\
         c0 write dvr 47010010|0*192|\nc0 write dvr |0*176|\nc0 read n0 188\nc0 read n0 188\nstream\n",
@@ -223,8 +222,8 @@ const PLAYS_BESIDE_THE_STREAM: Held = Held {
     ..ONCE
 };
 
-// That each pass of a write has a moment of its own: the pass on the last node comes too late for a timeout of 30. The filter is set at 0,
-// the dvr node polled at 1, and the packet passes node 0 at 2.
+// That each pass of a write has a moment of its own: the pass on the last node comes too late for a timeout of 30. The filter is
+// set at 0, the dvr node polled at 1, and the packet passes node 0 at 2.
 const EACH_PASS_OF_A_WRITE_HAS_A_MOMENT: Held = Held {
     script: "c0 open dvr\nc0 open n31\nc0 section n31 256 30 4\nc0 write dvr 47010010|0*368|\nc0 read n31 1\nstream\n",
     replies: &[("c0 36 read", "timedout started=0 now=33 timeout=30")],
@@ -288,8 +287,7 @@ fn threads_run_in_the_order_that_a_gate_forces(rt: HostRuntime) {
     assert_eq!(rt; odd_held(&rt), None);
 }
 
-// A gate that lets each caller wait for some turns, which the caller, its step and the gate's number choose. By the number 0 nobody
-// waits.
+// A gate that lets each caller wait for some turns, by the caller, its step and the gate's number. By the number 0 nobody waits.
 #[derive(Drop)]
 struct ShufflingGate {
     number: u64,

@@ -34,7 +34,7 @@ fn command_of(alloc: Global, words: &[&str]) -> Result<Option<Command>, NoMemory
     read_words(alloc, &list)
 }
 
-// Words that no line of a file can have, since they are empty or have a space, and the numbers of sessions that are made, each with
+// Words that no line of a file can have, since they are empty or have a space, and numbers of sessions that are made, each with
 // the command that they name, or None where they are refused.
 static WORDS: [(&[&str], Option<Command>); 18] = [
     (&[""], None),

@@ -88,7 +88,7 @@ fn the_first_fault_is_named_with_its_line(rt: HostRuntime) {
     assert_eq!(rt; is_no_script(rt.alloc(), b'\n', 1_048_576), Ok(true));
 }
 
-// Scripts but for the line `stream`, and what their lines are printed as: lines that are spelled as they are printed; and lines of
+// Scripts but for the line `stream`, and what their lines are printed as: lines that are spelled so already; and lines of
 // requests, with other bytes in place of those that pad, places of zeros, and lines that ask for nothing.
 static PRINTED: [(&[u8], &[u8]); 2] = [
     (SPELLED, SPELLED),
