@@ -1,25 +1,22 @@
 //! Calls and replies of the demux nodes and the dvr node, and the definitions of what a node's history says.
 //!
-//! What a node is, is said by its history alone: the list of its calls with their responses. The definitions in specs/
-//! begin with the plain data (`Invocation`, `Response`, `History`), and go on to what was set (`Tenure`), what is collected
-//! from a start on (`Capture`), what the filter selects (`Items`, `Taps`), the bytes and what didn't fit (`Ledger`), the
-//! refusals, the answer to a call, and the legal and the accounted histories. Ledger, answer, legal and accounted are
-//! written once, over the `Rules` in which a demux node and the dvr node differ. None of them has a ring, an assembler or
-//! a state that is kept. Laws of them stand in `node_laws`, worked examples in `node_examples`.
+//! What a contract sees: a node as its history alone, the list of its calls with their responses. The definitions begin with
+//! plain data (`Invocation`, `Response`, `History`), and go on to what was set (`Tenure`), what is collected from a start on
+//! (`Capture`), what the filter selects (`Items`, `Taps`), the bytes and what didn't fit (`Ledger`), the refusals, the answer to
+//! a call, and the legal and the accounted histories. Ledger, answer, legal and accounted are written once, over the `Rules` in
+//! which the two kinds of node differ. `invocation_of` and `response_of` are what contracts see of a `Call` and a `Reply`,
+//! `params_of` and `pids_of` of `Params`. `Histories` are 33 lists of entries: on each node the clients' stand at their places,
+//! and the feeder's calls, which are kept once, at all others (`woven`). `Act`, `Entry` and `Outcome` are what a report tells of
+//! a call, of its reply and of a script's command.
 //!
-//! What a contract sees: `invocation_of` a `Call` and `response_of` a `Reply`; `params_of` and `pids_of` the `Params`; a
-//! `ByteBuf` as its count and its bytes; `Histories` as 33 lists of entries, each whole: on each node the clients' entries
-//! stand at their places, and the feeder's calls, which are kept once, at all others (`woven`). `Act`, `Entry` and `Outcome`
-//! are what a report tells of a call, of its reply and of a script's command.
+//! What is proved: each call of `ByteBuf` and of `Histories`; that each `name` is its text in `specs/Names.antt`; that an entry
+//! keeps its call (`KeptAct`) and the same response (`SharedReply`), whatever that is shared with; that `refusal` is the refusal
+//! that the answer of a history names. `node_laws` has laws of the definitions, `node_examples` worked examples.
 //!
-//! What is proved: each call of `ByteBuf` and of `Histories`, and that each `name` is its text in `specs/Names.antt`. What an
-//! entry keeps is its call (`KeptAct`) and the same response (`SharedReply`), whatever that is shared with.
-//! `refusal`, whose body is the table of calls and states, is the refusal that the answer of a history names.
-//!
-//! Sources: the Linux media API, chapter Digital TV demux, for calls, filters, states and errors; ISO/IEC 13818-1 for
-//! packets and sections; what these leave open is this project's rule, as are the numbers of `limits` but the flags other than
-//! KEEP, the PIDs and the PES types. `ByteBuf::new`, `ByteBuf::fitted`, `KeptAct::of`, `SharedReply::of` and
-//! `SharedReply::unshared` alone take memory.
+//! Limits: only `ByteBuf::new`, `ByteBuf::fitted`, `KeptAct::of`, `SharedReply::of` and `SharedReply::unshared` take memory.
+//! Sources: the Linux media API, Digital TV demux, for calls, filters, states and errors; ISO/IEC 13818-1 for packets and
+//! sections. What these leave open is this project's rule, as are the numbers of `limits` but the flags other than KEEP, the PIDs
+//! and the PES types.
 #![tactic(auto)]
 
 mod byte_buf;

@@ -1,26 +1,20 @@
 //! Batches: stretches of a stream's packets that pass the nodes together.
 //!
-//! A batch has 1 to 64 packets and the number of its first packet in the stream. It is made once, shared behind an
-//! `Arc`, and never changed or copied; it holds the memory of its packets and of an index of at most 128 places by PID.
-//! A `BatchRoom` gathers packets, as a cutter finds them, in the memory that becomes the batch's: so each packet is
-//! copied once, when it is put into the room. Others are copied into a batch that is made of them.
+//! A batch has 1 to 64 packets and the number of its first packet in the stream. It is shared behind an `Arc` and never changed.
+//! A `BatchRoom` gathers packets, as a cutter finds them, in the memory that becomes the batch's.
 //!
-//! What a contract sees: the record of `first` and the list of `packets`, each packet as the list of its bytes; a
-//! `BatchRoom` as the list of its packets and how many it has room for; a `PlaceSet` as a list of marks, one for each
-//! place.
+//! What a contract sees: the record of `first` and the list of `packets`, each packet as the list of its bytes; a `BatchRoom` as
+//! the list of its packets and how many it has room for; a `PlaceSet` as a list of marks, one for each place.
 //!
 //! What is proved: `Batch::of`, `Batch::of_slice` and `Batch::of_front` give the batch of these packets, or answer want of
-//! memory. `of_front` leaves just the packets behind the batch's in the room, and all of them where memory was refused.
-//! A room has at most 64 packets, and never more than there is room for. `first` and `count` are the first packet's
-//! number and the number of packets. `packet` gives the packet in a place and raises the counter of steps by one; `add_to`
-//! puts all packets behind others and raises it by one for each. `places` gives the places of the packets that a PID
-//! names, ascending: those that have it, and all for PID 0x2000. It takes no memory and no step, and neither do the calls
-//! of `PlaceSet`, which collects places: `add` adds those of the packets that a PID names, and `add_all` those of the
-//! packets that some PID of a set names. Every batch has 1 to 64 packets, each of 188 bytes with the sync byte in front.
+//! memory; `of_front` leaves just the other packets in the room, and all where memory was refused. `places` gives the places of
+//! the packets that a PID names, ascending: those that have it, and all for PID 0x2000. A `PlaceSet` collects such places: `add`
+//! for a PID, `add_all` for each PID of a set. Every packet has 188 bytes with the sync byte in front. `packet` raises the
+//! counter of steps by one, `add_to`, which puts all packets behind others, by one for each, and there is no other way to a
+//! packet's bytes: so the counter bounds how many were looked at.
 //!
-//! There is no other way to the bytes of a packet than these two, so the counter of steps bounds how many were looked at.
-//!
-//! The number of packets in a batch and the counting of steps are this project's rules. The tests stand in `tests_low`.
+//! What is only tested, in `tests_low`: the places of the PIDs of a batch of 64 packets. The size of a batch and the steps are
+//! this project's rules.
 #![tactic(auto)]
 
 mod index;
