@@ -211,7 +211,7 @@ module _ (may : ℕ → Bool) (client : ℕ) (script : Scripted) (ds : List Done
   once i e at =
       let s = there (i + 1) e at in
       let before = at_place (calls_in ds) i (let low = slice_get_within (calls_in ds) (i + 1) e at in omega (arith, low)) in
-      let front : replies (take (i + 1) (calls_in ds)) ≡ replies (take i (calls_in ds)) ++ before.0.response ∷ [] = rw (add-one i) (ap replies (take_next (calls_in ds) i before.0 before.1) ∙ map-append (λ (e : LogEntry). e.response) (take i (calls_in ds)) (before.0 ∷ [])) in
+      let front : replies (take (i + 1) (calls_in ds)) ≡ replies (take i (calls_in ds)) ++ before.0.response ∷ [] = ap (λ n. replies (take n (calls_in ds))) (add-one i) ∙ (ap replies (take_next (calls_in ds) i before.0 before.1) ∙ map-append (λ (e : LogEntry). e.response) (take i (calls_in ds)) (before.0 ∷ [])) in
       ap (λ (o : Option Standing). waits_after o (replies (take (i + 1) (calls_in ds)))) s.is
       ∙ (ap (λ (rs : List Response). waits_after (Some s.at) rs) front
       ∙ (last_counts (Some s.at) (replies (take i (calls_in ds))) before.0.response
