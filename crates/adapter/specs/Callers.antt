@@ -1,8 +1,6 @@
 -- What a contract sees of the feeder and of a client.
 use Rattle.std.specs.Prelude.{◌≡◌, ℕ, ◌+◌, ◌<◌, ◌^◌, List, [], ◌∷◌, length, slice_get, Some}
-use Rattle.atomic_table.specs.Seated.{TableId}
-use Rattle.node_lock.specs.declared.view.View.{View}
-use Rattle.dmx_calls.specs.History.{Entry}
+use Rattle.adapter.specs.Imports.{Entry, TableId, View}
 use Rattle.adapter.specs.Rows.{Fits, AreSamePasses, IsFreshRow}
 
 -- its number, how many calls it may make, and its passes of the nodes 0 to 32

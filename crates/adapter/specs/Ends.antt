@@ -1,11 +1,6 @@
 -- The histories of the 33 nodes, once all passes of each were joined.
 use Rattle.std.specs.Prelude.{◌≡◌, ◌≤◌, ℕ, List, length, slice_index, map}
-use Rattle.atomic_table.specs.Seated.{TableId}
-use Rattle.node_lock.specs.declared.view.View.{View}
-use Rattle.node_lock.specs.Passes.{HasJust}
-use Rattle.dmx_calls.specs.declared.limits.TheConstants.{DEMUX_NODES}
-use Rattle.dmx_calls.specs.History.{Entry}
-use Rattle.dmx_calls.specs.Entries.{caller_of}
+use Rattle.adapter.specs.Imports.{DEMUX_NODES, Entry, HasJust, TableId, View, caller_of}
 use Rattle.adapter.specs.Rows.{column, all_calls, EachBegins}
 use Rattle.adapter.specs.Callers.{Caller}
 use Rattle.adapter.specs.Nodes.{IsLegalAt}

@@ -1,8 +1,6 @@
 -- The histories by place, and the logs of the callers (this project's own).
 use Rattle.std.specs.Prelude.{ℕ, ◌≡◌, ◌≤◌, ◌<◌, ◌+◌, Bool, List, [], ◌++◌, length, reverse, get_or, filter, nat_eq, Some, slice_get}
-use Rattle.std.specs.List.{flat_map, All}
-use Rattle.std.specs.List.Sorted.{IsPermutation, IsNonDecreasingBy}
-use Rattle.dmx_calls.specs.declared.limits.TheConstants.{DEMUX_NODES}
+use Rattle.adapter.specs.Imports.{All, DEMUX_NODES, IsNonDecreasingBy, IsPermutation, flat_map}
 use Rattle.dmx_calls.specs.declared.log.Entry.{Entry as ToldEntry}
 
 -- the entry is one of this node

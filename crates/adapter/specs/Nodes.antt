@@ -1,17 +1,7 @@
 -- The nodes 0 to 32: the demux nodes, and the dvr node last. A history has the
 -- oldest entry first here, as that of a lock.
 use Rattle.std.specs.Prelude.{ℕ, Bool, false, List, reverse, slice_index_or}
-use Rattle.ts_batch.specs.Batch.{Packets}
-use Rattle.atomic_table.specs.Seated.{TableId}
-use Rattle.node_lock.specs.declared.lock.Held.{Held}
-use Rattle.node_lock.specs.declared.view.View.{View}
-use Rattle.dmx_calls.specs.declared.params.Input.TheVariants.{Frontend}
-use Rattle.dmx_calls.specs.Invocation.{Pass, End}
-use Rattle.dmx_calls.specs.Response.{Passed}
-use Rattle.dmx_calls.specs.History.{Entry, entry_of}
-use Rattle.dmx_calls.specs.Entries.{caller_of}
-use Rattle.dmx_calls.specs.Rules.{rules_at}
-use Rattle.dmx_calls.specs.Legal.{IsLegalFor}
+use Rattle.adapter.specs.Imports.{End, Entry, Frontend, Held, IsLegalFor, Packets, Pass, Passed, TableId, View, caller_of, entry_of, rules_at}
 use Rattle.adapter.specs.Rows.{OneCalls, OneMisses, OneLooks, AllCall}
 
 -- a legal history of the node of this number

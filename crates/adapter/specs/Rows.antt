@@ -1,12 +1,6 @@
 -- Rows of passes: a caller has one pass of each lock. A pass is a pair: its lock, and what it knows.
 use Rattle.std.specs.Prelude.{◌≡◌, ℕ, ◌+◌, ◌<◌, ◌≤◌, ◌^◌, Bool, true, false, List, [], ◌∷◌, ◌++◌, length, slice_get, slice_index, set, Some}
-use Rattle.std.specs.Option.{option_to_list}
-use mathlib.Core.List.{IsPrefix}
-use Rattle.atomic_table.specs.Seated.{TableId}
-use Rattle.node_lock.specs.declared.lock.Held.{Held}
-use Rattle.node_lock.specs.declared.view.View.{View}
-use Rattle.lemmas.specs.Lists.{Has}
-use Rattle.node_lock.specs.Passes.{KnowsItsCalls, IsSamePass, IsFresh, IsWhole, HasJust}
+use Rattle.adapter.specs.Imports.{Has, HasJust, Held, IsFresh, IsPrefix, IsSamePass, IsWhole, KnowsItsCalls, TableId, View, option_to_list}
 
 module _ {N : Type 0} where
   -- there is a pass for each lock, and the pass in each place is one of the lock there

@@ -1,8 +1,6 @@
 //! A client of the adapter.
 ghost use Rattle.std.specs.Prelude.{◌≡◌, ℕ, ◌+◌, ◌<◌, ◌≤◌, List, length, IfOk, IfErr};
-ghost use Rattle.dmx_calls.specs.declared.limits.TheConstants.{DEMUX_NODES as nodes};
-ghost use Rattle.dmx_calls.specs.Back.{GivesBack};
-ghost use Rattle.dmx_calls.specs.Entries.{told, packets_of};
+ghost use Rattle.adapter.specs.Imports.{DEMUX_NODES as nodes, GivesBack, packets_of, told};
 ghost use Rattle.adapter.specs.Rows.{Fits};
 ghost use Rattle.adapter.specs.Nodes.{MakesEntry, MakesNoEntry, Looks};
 ghost use Rattle.adapter.specs.Callers.{IsSameCaller};

@@ -1,7 +1,6 @@
 //! How the locks are made, and how their passes are dealt to the feeder and the clients.
 ghost use Rattle.std.specs.Prelude.{◌≡◌, ℕ, ◌++◌, ◌∷◌, [], ◌+◌, ◌<◌, ◌≤◌, ◌^◌, length, vec_len, OnOk, IfOk, Some};
-ghost use Rattle.node_lock.specs.Passes.{AreFresh};
-ghost use Rattle.dmx_calls.specs.declared.limits.TheConstants.{DEMUX_NODES as nodes};
+ghost use Rattle.adapter.specs.Imports.{AreFresh, DEMUX_NODES as nodes};
 ghost use Rattle.adapter.specs.Rows.{AllDealt, AreFreshRows};
 ghost use Rattle.adapter.specs.Inside.Making.{AreLastFirst, AreFreshClients};
 

@@ -1,12 +1,7 @@
 //! The passes of one caller: one of each node.
 ghost use Rattle.std.specs.Prelude.{◌≡◌, ℕ, ◌+◌, ◌*◌, ◌<◌, ◌≤◌, List, length, [], ◌∷◌, ◌++◌, map, IfOk, IfErr};
-ghost use Rattle.dmx_calls.specs.declared.limits.TheConstants.{DEMUX_NODES as nodes, NODES};
-ghost use Rattle.dmx_calls.specs.Back.{GivesBack};
-ghost use Rattle.dmx_calls.specs.Entries.{told, caller_of, packets_of};
-ghost use Rattle.dmx_calls.specs.History.{entry_of};
+ghost use Rattle.adapter.specs.Imports.{DEMUX_NODES as nodes, Frontend, GivesBack, NODES, Passed, caller_of, entry_of, packets_of, told};
 ghost use Rattle.dmx_calls.specs.Invocation as asks;
-ghost use Rattle.dmx_calls.specs.Response.{Passed};
-ghost use Rattle.dmx_calls.specs.declared.params.Input.TheVariants.{Frontend};
 ghost use Rattle.adapter.specs.Rows.{Fits, MayCallAt, MayCall, OneCalls, OneMisses, OneLooks, AllCall, AllJoin};
 ghost use Rattle.adapter.specs.Nodes.{IsLegalAt, is_in};
 

@@ -2,9 +2,7 @@
 pub mod laws;
 
 ghost use Rattle.std.specs.Prelude.{◌≡◌, ◌+◌, ◌<◌, ◌++◌, ℕ, [], length, map, get_or, IfOk, OnOk};
-ghost use Rattle.std.specs.List.{All};
-ghost use Rattle.dmx_calls.specs.declared.limits.TheConstants.{DEMUX_NODES};
-ghost use Rattle.dmx_calls.specs.Histories.{histories_of};
+ghost use Rattle.adapter.specs.Imports.{All, DEMUX_NODES, histories_of};
 ghost use Rattle.adapter.specs.Merging.{AreOnNodes, AreByPlace, IsDealt, AreDealt, AreSorted};
 
 use dmx_calls::limits::NODES;

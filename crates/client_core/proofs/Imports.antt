@@ -3,6 +3,7 @@ pub use Rattle.client_core.specs.Clock.{Clock, HasFollowed, last_pcr, pcr_of, un
 pub use Rattle.client_core.specs.Commands.{Doing, IsRequestInRange, IsRequestOf, Slots, called, commands_among, commands_in, commands_of, done, done_at, done_by_slot, done_on, ends_drain, ends_wait, once, opened, passed, plays_of, read_until, stands, through, told, written}
 pub use Rattle.client_core.specs.Deeds.{Batches, IsDeedInRange, IsDeedOf, batch_at, deed_of}
 pub use Rattle.client_core.specs.Events.{Ended, Progress, Standing, next_event, next_of_line, no_slots, progress, progress_from, reading_on, slots_after, standing_at, waits_after, waits_on, with_ended}
+pub use Rattle.client_core.specs.Imports.{Again, Attach as AttachTap, Busy, Command as CommandLine, Cut, Cuts, Cutting, DEMUX_NODES, Detach as DetachTap, Done, Dvr, Feed, HasVerb, IsInRange, IsPacket, IsTargetInRange, IsVerbInRange, IsWantInRange, Keep as KeepTap, Line, Node, Of188, Open, Outcome, Packets, Read, Ready, Response, Scripted, Slot, TapChange, Target, Verb, Want, bytes_counted, flat_map, fresh, option_and_then, option_or, response_of, writes_of}
 pub use Rattle.client_core.specs.Inside.Clocks.{AreFew, HasFollowedNode, HaveFollowed, NodeClock, counter_in, counter_of, uncalled}
 pub use Rattle.client_core.specs.Inside.Core.{CanBegin, Core, HasTaken, IsAfter, IsCommandInRange, IsCommandOf, IsLate, IsMade, IsSound, ahead, behind, coming, coming_from, next_of, one_if_some, waits_with}
 pub use Rattle.client_core.specs.Inside.More.{OneReplyMore, added_by}
@@ -27,20 +28,8 @@ pub use Rattle.client_core.specs.declared.task.Next.{Next}
 pub use Rattle.client_core.specs.declared.task.Next.TheVariants.{Still, Through}
 pub use Rattle.client_core.specs.declared.task.Task.{Task}
 pub use Rattle.client_core.specs.declared.task.Task.TheVariants.{Call, OpenFrom, Play}
-pub use Rattle.client_script.specs.Grammar.{IsInRange, IsTargetInRange, IsVerbInRange, IsWantInRange}
-pub use Rattle.client_script.specs.Script.{HasVerb, HasWrite, Scripted, writes_of}
-pub use Rattle.client_script.specs.declared.line.Line.{Line}
-pub use Rattle.client_script.specs.declared.line.Line.TheVariants.{Command as CommandLine, Feed, Tick}
-pub use Rattle.client_script.specs.declared.line.Target.{Target}
-pub use Rattle.client_script.specs.declared.line.Target.TheVariants.{Dvr, Node, Slot}
-pub use Rattle.client_script.specs.declared.line.Verb.{Verb}
-pub use Rattle.client_script.specs.declared.line.Want.{Want}
-pub use Rattle.client_script.specs.declared.line.Want.TheVariants.{Open, Read}
-pub use Rattle.dmx_calls.specs.Calls.{response_of}
-pub use Rattle.dmx_calls.specs.Response.{Again, Busy, Done, Ready, Response, TapChange}
-pub use Rattle.dmx_calls.specs.declared.limits.TheConstants.{DEMUX_NODES}
-pub use Rattle.dmx_calls.specs.declared.outcome.Outcome.{Outcome}
-pub use Rattle.dmx_calls.specs.declared.reply.Tap.TheVariants.{Attach as AttachTap, Detach as DetachTap, Keep as KeepTap}
+pub use Rattle.client_script.specs.Script.{HasWrite}
+pub use Rattle.client_script.specs.declared.line.Line.TheVariants.{Tick}
 pub use Rattle.lemmas.proofs.Options.{same_some}
 pub use Rattle.std.proofs.Common.{Bool, List, None, Option, Some, [], ap, arith, drop, false, inl, inr, length, length-append, map, nat_eq, refl, replicate, rules, subst, suc, sym, take, true, vec_capacity, zero, ℕ, ◌*◌, ◌++◌, ◌+◌, ◌-◌, ◌<◌, ◌∙◌, ◌∷◌, ◌≡◌, ◌≢◌, ◌≤◌, ◌⊎◌}
 pub use Rattle.std.proofs.Math.Seq.{drop-append-add, drop-append_seam, take-add, take-append_seam, take-length}
@@ -50,15 +39,12 @@ pub use Rattle.std.proofs.lemmas.Grind.{common_steps, flat_map-append}
 pub use Rattle.std.proofs.lemmas.List.{append-nil, append_assoc, drop-drop, get_or-set_other, get_or-set_same, get_or_default, length-drop, length-set, length-take-le, map-append, nil_from_length, take-append-drop, take-append-le, take_all}
 pub use Rattle.std.proofs.lemmas.List.Elements.{All-append, All-cons, All-get_or, All-head, All-more, All-nil, All-replicate, All-set, All-tail, All-weaker}
 pub use Rattle.std.proofs.lemmas.Option.{none-some, slice_get-get_or}
-pub use Rattle.std.specs.List.{All, flat_map}
-pub use Rattle.std.specs.Option.{IfNone, IfSome, option_and_then, option_or}
+pub use Rattle.std.specs.List.{All}
+pub use Rattle.std.specs.Option.{IfNone, IfSome}
 pub use Rattle.std.specs.Prelude.{IsSome, if◌then◌else◌, nat_lt, option_map, slice_get, slice_index_or, slice_set}
-pub use Rattle.ts_batch.specs.Batch.{Packets}
 pub use Rattle.ts_packet.proofs.CutLemmas.{cut-append, cut-rest, cut_after-is_rest, cut_after-size}
 pub use Rattle.ts_packet.proofs.PieceLemmas.{has-pieces}
-pub use Rattle.ts_packet.specs.Cut.{Cut, join, only_rest}
-pub use Rattle.ts_packet.specs.Cutting.{Cuts, Cutting, IsRest, bytes_counted, fresh}
-pub use Rattle.ts_packet.specs.Fields.{IsPacket}
+pub use Rattle.ts_packet.specs.Cut.{join, only_rest}
+pub use Rattle.ts_packet.specs.Cutting.{IsRest}
 pub use Rattle.ts_packet.specs.Pieces.{IsPiece, Piece, bytes_of, packet, packets_of, skipped}
 pub use Rattle.ts_packet.specs.declared.size.PacketSize.{PacketSize}
-pub use Rattle.ts_packet.specs.declared.size.PacketSize.TheVariants.{Of188}

@@ -2,12 +2,7 @@
 -- and 2.4.3.5, where the first byte of a packet is byte 0. That the clock of a stream is the last that one of its
 -- packets has, whatever that packet's PID, is this project's rule.
 use Rattle.std.specs.Prelude.{◌≡◌, ℕ, ◌+◌, ◌*◌, ◌/◌, ◌%◌, Bool, ◌&&◌, List, [], ◌∷◌, drop, slice_index, nat_lt, Option, Some, None, if◌then◌else◌}
-use Rattle.std.specs.Option.{option_or}
-use Rattle.byteorder.specs.Endian.{big_number}
-use Rattle.ts_packet.specs.Cut.{cut}
-use Rattle.ts_packet.specs.Cutting.{Cutting, fresh, Cuts}
-use Rattle.ts_packet.specs.Fields.{bit, has_adaptation}
-use Rattle.ts_packet.specs.declared.size.PacketSize.TheVariants.{Of188}
+use Rattle.client_core.specs.Imports.{Cuts, Cutting, Of188, big_number, bit, cut, fresh, has_adaptation, option_or}
 
 -- PCR_flag: the bit of weight 16 in byte 5, where there is an adaptation field whose length, in byte 4, has room for
 -- the byte of flags and the six bytes of the clock

@@ -1,9 +1,6 @@
 -- What commands do, by what their client plays (this project's own).
 use Rattle.std.specs.Prelude.{ℕ, ◌≡◌, ◌≤◌, true, List, Option, None, is_some, slice_index_or, IsSome}
-use Rattle.dmx_calls.specs.declared.limits.TheConstants.{LARGEST_READ}
-use Rattle.ts_batch.specs.Batch.{Packets}
-use Rattle.client_script.specs.Grammar.{IsWantInRange}
-use Rattle.client_script.specs.declared.line.Verb.{Verb}
+use Rattle.client_core.specs.Imports.{IsWantInRange, LARGEST_READ, Packets, Verb}
 use Rattle.client_script.specs.declared.line.Verb.TheVariants as verb
 use Rattle.client_core.specs.declared.deed.Deed.{Deed}
 use Rattle.client_core.specs.declared.deed.Deed.TheVariants.{Once, ReadWait, Drain, GetStc, Write}

@@ -1,10 +1,7 @@
 -- The events of one client: its calls, one after another, by the replies that it gets (this project's own).
 use Rattle.std.specs.Prelude.{ℕ, false, List, [], ◌∷◌, Option, Some, None, option_map, nat_lt, nat_eq, replicate, slice_set, if◌then◌else◌}
-use Rattle.dmx_calls.specs.declared.limits.TheConstants.{DEMUX_NODES}
-use Rattle.dmx_calls.specs.Response.{Response, Again}
-use Rattle.client_script.specs.Script.{Scripted}
+use Rattle.client_core.specs.Imports.{Again, DEMUX_NODES, Read, Response, Scripted}
 use Rattle.client_core.specs.declared.command.Command.{Command}
-use Rattle.client_script.specs.declared.line.Want.TheVariants.{Read}
 use Rattle.client_core.specs.declared.event.Event.{Event}
 use Rattle.client_core.specs.declared.event.Request.{Request}
 use Rattle.client_core.specs.declared.event.Request.TheVariants.{Own}

@@ -1,21 +1,7 @@
 -- Worked examples: what clients ask for by replies that were worked out by hand.
 use Rattle.std.specs.Prelude.{◌≡◌, ℕ, ◌+◌, List, [], ◌∷◌, ◌++◌, map, replicate, take, drop, Option, Some, None, true, false}
-use Rattle.std.specs.List.{range_with_len, flat_map}
-use Rattle.dmx_calls.specs.declared.params.PesParams.{PesParams}
-use Rattle.dmx_calls.specs.declared.params.Input.TheVariants.{Frontend}
-use Rattle.dmx_calls.specs.declared.params.Output.TheVariants.{TsTap, TsdemuxTap}
-use Rattle.dmx_calls.specs.declared.reply.Errno.TheVariants.{Ebadf}
-use Rattle.dmx_calls.specs.declared.reply.PollError.TheVariants.{Quiet}
-use Rattle.dmx_calls.specs.declared.reply.Tap.TheVariants.{Keep as KeepTap, Attach as AttachTap, Detach as DetachTap}
-use Rattle.dmx_calls.specs.Response.{Response, Done, Busy, Refused, Data, Again, Overflow, TimedOut, Ready, Passed}
-use Rattle.client_script.specs.Script.{Scripted, plain}
-use Rattle.client_script.specs.declared.line.Line.{Line}
-use Rattle.client_script.specs.declared.line.Line.TheVariants.{Feed, Command}
-use Rattle.client_script.specs.declared.line.Target.TheVariants.{Node, Slot, Dvr}
-use Rattle.client_script.specs.declared.line.Verb.TheVariants.{Once, ReadWait, Drain, GetStc, Write}
-use Rattle.client_script.specs.declared.line.Want.TheVariants.{Open, Close, Pes, Start, Stop, Size, Read, Poll}
+use Rattle.client_core.specs.Imports.{Again, Attach as AttachTap, Busy, Close, Command, Data, Detach as DetachTap, Done, Drain, Dvr, Ebadf, Feed, Frontend, GetStc, Keep as KeepTap, Line, Node, Once, Open, Outcome, Overflow, Passed, Pes, PesParams, Poll, Quiet, Read, ReadWait, Ready, Refused, Response, Scripted, Size, Slot, Start, Stop, TimedOut, TsTap, TsdemuxTap, Write, flat_map, plain, range_with_len}
 use Rattle.client_core.specs.declared.event.Request.TheVariants.{Own, Attach as AskAttach, Detach as AskDetach, Pass as AskPass}
-use Rattle.dmx_calls.specs.declared.outcome.Outcome.{Outcome}
 use Rattle.dmx_calls.specs.declared.outcome.OutcomeKind.TheVariants.{Done as WasDone, Emfile, Unbound, Stc, NoStc}
 use Rattle.client_core.specs.Events.{next_event, waits_on}
 use Rattle.client_core.specs.Outcomes.{outcomes}

@@ -1,10 +1,7 @@
 -- What became of the commands of a client (this project's own).
 use Rattle.std.specs.Prelude.{ℕ, List, Option, Some, None, map, take}
-use Rattle.dmx_calls.specs.Response.{Response}
-use Rattle.dmx_calls.specs.declared.outcome.OutcomeKind.{OutcomeKind}
+use Rattle.client_core.specs.Imports.{Outcome, OutcomeKind, Response, Scripted}
 use Rattle.dmx_calls.specs.declared.outcome.OutcomeKind.TheVariants.{Done, Emfile, Unbound, Stc, NoStc}
-use Rattle.dmx_calls.specs.declared.outcome.Outcome.{Outcome}
-use Rattle.client_script.specs.Script.{Scripted}
 use Rattle.client_core.specs.declared.task.Ending.{Ending}
 use Rattle.client_core.specs.declared.task.Ending.TheVariants.{AllBusy, NoNode, Asked}
 use Rattle.client_core.specs.Events.{Ended, progress}

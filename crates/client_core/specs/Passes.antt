@@ -1,10 +1,6 @@
 -- The packets that a client plays, on each demux node (this project's own).
 use Rattle.std.specs.Prelude.{ℕ, ◌≡◌, ◌<◌, true, List, [], ◌∷◌, ◌++◌, Option, Some, None, nat_eq, slice_index_or, if◌then◌else◌}
-use Rattle.dmx_calls.specs.declared.limits.TheConstants.{DEMUX_NODES}
-use Rattle.dmx_calls.specs.Response.{Response, Ready}
-use Rattle.client_script.specs.Script.{Scripted}
-use Rattle.client_script.specs.declared.line.Target.{Target}
-use Rattle.client_script.specs.declared.line.Target.TheVariants.{Slot}
+use Rattle.client_core.specs.Imports.{DEMUX_NODES, Ready, Response, Scripted, Slot, Target}
 use Rattle.client_core.specs.declared.deed.Deed.{Deed}
 use Rattle.client_core.specs.declared.deed.Deed.TheVariants.{Write}
 use Rattle.client_core.specs.declared.command.Command.{Command}

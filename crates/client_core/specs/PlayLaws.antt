@@ -1,8 +1,6 @@
 -- What holds of the batches of writes.
 use Rattle.std.specs.Prelude.{◌≡◌, ℕ, ◌+◌, ◌<◌, ◌≤◌, List, [], length, take, drop, slice_get, All, Option, Some, None, IfSome}
-use Rattle.std.specs.List.{flat_map}
-use Rattle.ts_packet.specs.Fields.{IsPacket}
-use Rattle.ts_batch.specs.Batch.{Packets}
+use Rattle.client_core.specs.Imports.{IsPacket, Packets, flat_map}
 use Rattle.client_core.specs.Plays.{batch_of, plays, cut_of, most_bytes}
 
 -- the packets of a batch, if there is one

@@ -2,10 +2,7 @@
 -- ISO/IEC 13818-1, 2.4.3.2, and packets are found as in a stream; that a write's packets pass as one batch is this
 -- project's rule.
 use Rattle.std.specs.Prelude.{◌≡◌, ℕ, ◌+◌, List, [], ◌∷◌, ◌++◌, length, Option, Some, None}
-use Rattle.std.specs.List.{flat_map}
-use Rattle.ts_packet.specs.Cut.{Cut, cut}
-use Rattle.ts_packet.specs.declared.size.PacketSize.TheVariants.{Of188}
-use Rattle.ts_batch.specs.Batch.{Packets}
+use Rattle.client_core.specs.Imports.{Cut, Of188, Packets, cut, flat_map}
 
 -- the batch of these packets, the first of which has this number; none where there is no packet
 abbrev pub batch_of : (first : ℕ) → List (List ℕ) → Option Packets

@@ -1,12 +1,7 @@
 -- The system time counter that a client finds on a node: the clock of what it has read there itself (this project's own;
 -- counters and types of filters are numbered as in linux/dvb/dmx.h, DMX_GET_STC and enum dmx_ts_pes).
 use Rattle.std.specs.Prelude.{ℕ, ◌+◌, ◌*◌, ◌==◌, Bool, true, false, ◌&&◌, List, [], ◌∷◌, ◌++◌, Option, Some, None, nat_le, nat_eq, if◌then◌else◌}
-use Rattle.dmx_calls.specs.declared.params.Output.{Output}
-use Rattle.dmx_calls.specs.declared.params.Output.TheVariants.{TsdemuxTap}
-use Rattle.dmx_calls.specs.Response.{Response, Done, Data, Overflow}
-use Rattle.client_script.specs.Script.{Scripted}
-use Rattle.client_script.specs.declared.line.Want.{Want}
-use Rattle.client_script.specs.declared.line.Want.TheVariants.{Open, Close, Section, Pes, Start, Size}
+use Rattle.client_core.specs.Imports.{Close, Data, Done, Open, Output, Overflow, Pes, Response, Scripted, Section, Size, Start, TsdemuxTap, Want}
 use Rattle.client_core.specs.declared.event.Event.{Event}
 use Rattle.client_core.specs.declared.event.Request.{Request}
 use Rattle.client_core.specs.declared.event.Request.TheVariants.{Own}

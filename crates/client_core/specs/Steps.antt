@@ -1,12 +1,7 @@
 -- What a command does, by small steps, as the code does it: it begins with a task, which stands before a call; after the
 -- reply it goes on with the next task, or is through (this project's own). It is the same as `done`.
 use Rattle.std.specs.Prelude.{ℕ, ◌≡◌, ◌+◌, List, [], ◌∷◌, Option, Some, None, nat_lt, slice_index_or, if◌then◌else◌}
-use Rattle.dmx_calls.specs.declared.limits.TheConstants.{DEMUX_NODES}
-use Rattle.dmx_calls.specs.declared.reply.Tap.TheVariants.{Keep as KeepTap, Attach as AttachTap, Detach as DetachTap}
-use Rattle.dmx_calls.specs.Response.{Response, TapChange, Done, Busy, Ready}
-use Rattle.client_script.specs.declared.line.Target.{Target}
-use Rattle.client_script.specs.declared.line.Target.TheVariants.{Node, Slot, Dvr}
-use Rattle.client_script.specs.declared.line.Want.TheVariants.{Open, Poll, Read}
+use Rattle.client_core.specs.Imports.{Attach as AttachTap, Busy, DEMUX_NODES, Detach as DetachTap, Done, Dvr, Keep as KeepTap, Node, Open, Poll, Read, Ready, Response, Slot, TapChange, Target}
 use Rattle.client_core.specs.declared.deed.Deed.{Deed}
 use Rattle.client_core.specs.declared.deed.Deed.TheVariants as deed
 use Rattle.client_core.specs.declared.event.Event.{Event}

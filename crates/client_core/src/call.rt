@@ -1,8 +1,7 @@
 // The calls that clients make.
 
 ghost use Rattle.std.specs.Prelude.{◌≡◌, ◌⊎◌, ℕ, Some, IfOk, IsErr};
-ghost use Rattle.dmx_calls.specs.Calls.{invocation_of};
-ghost use Rattle.client_script.specs.declared.line.Want.TheVariants.{Read as AskRead};
+ghost use Rattle.client_core.specs.Imports.{Read as AskRead, invocation_of};
 ghost use Rattle.client_core.specs.declared.event.Request.TheVariants.{Own, Pass};
 ghost use Rattle.client_core.specs.Commands.{call_of as call_at, pass_of as pass_at, own_call, IsRequestInRange, IsRequestOf, IsFresh};
 

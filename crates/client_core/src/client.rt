@@ -1,12 +1,7 @@
 // The client machine.
 ghost use Rattle.std.specs.Prelude.{◌≡◌, ℕ, ◌+◌, ◌*◌, ◌<◌, ◌≤◌, ◌^◌, List, [], ◌∷◌, ◌++◌, length, true, false, Some, None, IsSome, IsNone, IfSome, IfOk, All, ◌↔◌, MatchOption, vec_capacity};
-ghost use Rattle.dmx_calls.specs.declared.limits.TheConstants.{DEMUX_NODES as nodes};
-ghost use Rattle.dmx_calls.specs.Calls.{response_of};
-ghost use Rattle.dmx_calls.specs.Response.{Response};
-ghost use Rattle.client_script.specs.Grammar.{IsInRange};
-ghost use Rattle.client_script.specs.Script.{Scripted, writes_of};
+ghost use Rattle.client_core.specs.Imports.{DEMUX_NODES as nodes, IsInRange, Response, Scripted, option_map, response_of, writes_of};
 ghost use Rattle.client_core.specs.Plays.{HasPlayed};
-ghost use Rattle.std.specs.Option.{option_map};
 ghost use Rattle.client_core.specs.Deeds.{batch_at};
 ghost use Rattle.client_core.specs.Commands.{commands_among, commands_of, IsRequestInRange, IsRequestOf};
 ghost use Rattle.client_core.specs.Events.{next_event, reading_on, waits_on, next_of_line};

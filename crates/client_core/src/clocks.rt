@@ -1,7 +1,6 @@
 // The clocks of what a client reads, and the counters that it asks for.
 ghost use Rattle.std.specs.Prelude.{◌≡◌, ℕ, ◌+◌, ◌<◌, ◌≤◌, ◌^◌, List, [], ◌++◌, length, replicate, Some, IfOk, OnOk, true, if◌then◌else◌};
-ghost use Rattle.dmx_calls.specs.Calls.{response_of};
-ghost use Rattle.ts_packet.specs.Cutting.{bytes_counted};
+ghost use Rattle.client_core.specs.Imports.{bytes_counted, response_of};
 ghost use Rattle.client_core.specs.Clock.{HasFollowed};
 ghost use Rattle.client_core.specs.Stc.{Exchange, begins_anew as begins_by, type_of as type_by, set_by_call, bytes_after, type_after, with_reply, is_counter as is_counter_by};
 ghost use Rattle.client_core.specs.Inside.Clocks.{uncalled, counter_of, counter_in, HaveFollowed, AreFew};

@@ -1,7 +1,6 @@
 // A client's commands, done by the replies that come.
 ghost use Rattle.std.specs.Prelude.{◌≡◌, ◌≢◌, ℕ, ◌+◌, ◌<◌, ◌≤◌, ◌^◌, List, [], ◌∷◌, ◌++◌, drop, length, Some, None, IsSome, IfSome, IfNone, All, vec_capacity};
-ghost use Rattle.dmx_calls.specs.Calls.{response_of};
-ghost use Rattle.dmx_calls.specs.Response.{Response};
+ghost use Rattle.client_core.specs.Imports.{Response, response_of};
 ghost use Rattle.client_core.specs.Events.{slots_after};
 ghost use Rattle.client_core.specs.Outcomes.{stc_kind as stc_kind_of, kind_by};
 ghost use Rattle.client_core.specs.Inside.Clocks.{counter_in};

@@ -1,7 +1,6 @@
 // What a command does.
 ghost use Rattle.std.specs.Prelude.{◌≡◌, length};
-ghost use Rattle.client_script.specs.Script.{HasVerb};
-ghost use Rattle.client_script.specs.Grammar.{IsVerbInRange};
+ghost use Rattle.client_core.specs.Imports.{HasVerb, IsVerbInRange};
 ghost use Rattle.client_core.specs.Deeds.{deed_of as deed_by, IsDeedInRange, IsDeedOf};
 
 use crate::dvr_play::Plays;

@@ -1,7 +1,8 @@
 -- The words of others that the proofs of this crate use.
-pub use Rattle.byteorder.specs.Endian.{big_bytes, little_bytes}
+pub use Rattle.byteorder.specs.Endian.{little_bytes}
 pub use Rattle.byteorder.specs.Numbers.{little_number-reads_back}
 pub use Rattle.client_script.specs.Grammar.{IsInRange, IsPlain, IsPlainVerb, IsTargetInRange, IsVerbInRange, alone, command_in, count_in, dvr_named, in_line, is_passed_over, meaning, name_of, number_in, pes_in, pid_in, section_in, some_said, target_of, whole_in}
+pub use Rattle.client_script.specs.Imports.{All, GetStc as StcRequest, IsFilter, LARGEST_READ, Place, Request, SectionFilter, argument_of, big_bytes, client_named, client_text, count_by, decimal, flat_map, hex_bytes, hex_text, input_text, is_word, number_of, option_map, output_text, place_named, position, range_with_len, slice_split}
 pub use Rattle.client_script.specs.Inside.Part.{FallsInto, HasNoFeed, IsSearched, Passes}
 pub use Rattle.client_script.specs.Places.{filter_in}
 pub use Rattle.client_script.specs.Requests.{request_in, request_number_in, verb_of, want_of}
@@ -26,15 +27,8 @@ pub use Rattle.client_script.specs.declared.said.Said.TheVariants.{Asks, Writes}
 pub use Rattle.client_script.specs.declared.wanted.NumberName.{NumberName}
 pub use Rattle.client_script.specs.declared.wanted.NumberName.TheVariants.{Flags, N, PesType, Pid, Timeout}
 pub use Rattle.client_script.specs.declared.wanted.Wanted.TheVariants.{Byte}
-pub use Rattle.dmx_abi.specs.Written.{argument_of, number_of}
 pub use Rattle.dmx_abi.specs.declared.numbers.TheConstants.{GET_STC}
-pub use Rattle.dmx_abi.specs.declared.request.Request.{Request}
-pub use Rattle.dmx_abi.specs.declared.request.Request.TheVariants.{GetStc as StcRequest}
-pub use Rattle.dmx_calls.specs.Names.{input_text, output_text}
-pub use Rattle.dmx_calls.specs.declared.limits.TheConstants.{LARGEST_READ}
 pub use Rattle.filter_match.specs.Places.{place_at, with_place}
-pub use Rattle.filter_match.specs.declared.filter.Place.{Place}
-pub use Rattle.filter_match.specs.declared.filter.SectionFilter.{SectionFilter}
 pub use Rattle.std.proofs.Common.{Bool, List, [], add-one, ap, append-nil, append_assoc, arith, codes, cond, drop, false, fold, get_or, inl, inr, length, length-append, map, nat_eq, refl, rules, subst, suc, sym, take, take-add, true, zero, ℕ, ◌%◌, ◌*◌, ◌++◌, ◌+◌, ◌-◌, ◌/◌, ◌<◌, ◌^◌, ◌∙◌, ◌∷◌, ◌≡◌, ◌≢◌, ◌≤◌, ◌⊎◌}
 pub use Rattle.std.proofs.Math.Nat.{mod-lt}
 pub use Rattle.std.proofs.Math.Seq.{drop-append-add, drop-cons, take-append-add, take-append_seam}
@@ -47,10 +41,9 @@ pub use Rattle.std.proofs.lemmas.List.FromFn.{map-range_with_len_more}
 pub use Rattle.std.proofs.lemmas.List.Quantifiers.{position-Some}
 pub use Rattle.std.proofs.lemmas.List.Splits.{length-slice_split, slice_split-cons_no, slice_split-cons_yes, slice_split_at, slice_split_first, slice_split_none}
 pub use Rattle.std.proofs.lemmas.List.Sums.{sum_by-cons}
-pub use Rattle.std.specs.Fmt.{decimal}
 pub use Rattle.std.specs.Int.{byte_at, bytes_low_first}
-pub use Rattle.std.specs.List.{All, count_by, flat_map, onto_first, position, position_or_len, range_with_len, slice_split}
-pub use Rattle.std.specs.Option.{option_and_then, option_map}
+pub use Rattle.std.specs.List.{onto_first, position_or_len}
+pub use Rattle.std.specs.Option.{option_and_then}
 pub use Rattle.std.specs.Prelude.{Err, IfSome, IsSome, None, Ok, Option, Result, Some, if◌then◌else◌, is_none, nat_lt, replicate, slice_index_or, slice_set, sum, ◌==◌}
 pub use Rattle.text_forms.proofs.Decimals.{number_between-decimal}
 pub use Rattle.text_forms.proofs.Filters.{with_place-IsFilter, zeros-IsFilter}
@@ -59,7 +52,5 @@ pub use Rattle.text_forms.proofs.HexWords.{hex_bytes-hex_text}
 pub use Rattle.text_forms.proofs.NamesRead.{client_named-client_text}
 pub use Rattle.text_forms.proofs.Visible.{AreVisible, IsVisible, behind-visible, decimal-visible, hex_text-visible, input_text-visible, output_text-visible, place_text-visible, visible_by_test}
 pub use Rattle.text_forms.proofs.WordsRead.{input_named-input_text, output_named-output_text}
-pub use Rattle.text_forms.specs.Hex.{digit_text, hex_bytes, hex_text}
-pub use Rattle.text_forms.specs.Names.{client_named, client_text}
-pub use Rattle.text_forms.specs.Places.{IsFilter, filter_places, filter_words, place_named}
-pub use Rattle.text_forms.specs.Words.{is_word}
+pub use Rattle.text_forms.specs.Hex.{digit_text}
+pub use Rattle.text_forms.specs.Places.{filter_places, filter_words}

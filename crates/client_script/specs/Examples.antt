@@ -1,10 +1,6 @@
 -- Worked examples: what the grammar gives for lines and scripts that were worked out by hand from the rules.
 use Rattle.std.specs.Prelude.{◌≡◌, ℕ, List, [], ◌∷◌, ◌++◌, map, replicate, Option, Some, None, Result, Ok, Err, codes}
-use Rattle.std.specs.List.{flat_map}
-use Rattle.std.specs.Option.{option_map}
-use Rattle.dmx_calls.specs.declared.params.Input.TheVariants.{Frontend}
-use Rattle.dmx_calls.specs.declared.params.Output.TheVariants.{TsTap, TsdemuxTap}
-use Rattle.text_forms.specs.Numbers.{number_between}
+use Rattle.client_script.specs.Imports.{Frontend, TsTap, TsdemuxTap, flat_map, number_between, option_map}
 use Rattle.client_script.specs.Words.{next_as}
 use Rattle.client_script.specs.Grammar.{meaning}
 use Rattle.client_script.specs.Script.{grammar, no_writes, plain, split}

@@ -1,11 +1,6 @@
 -- What the lines of a script ask for, word by word (this project's own).
 use Rattle.std.specs.Prelude.{ℕ, ◌+◌, ◌-◌, ◌≤◌, ◌==◌, Bool, true, List, [], ◌∷◌, length, Option, Some, None, Result, Ok, Err, if◌then◌else◌, codes}
-use Rattle.std.specs.Option.{option_map, option_or}
-use Rattle.dmx_calls.specs.declared.limits.TheConstants.{LARGEST_READ}
-use Rattle.text_forms.specs.Numbers.{number_between}
-use Rattle.text_forms.specs.Words.{is_word, input_named, output_named}
-use Rattle.text_forms.specs.Names.{client_named, demux_named, slot_named}
-use Rattle.text_forms.specs.Places.{IsFilter}
+use Rattle.client_script.specs.Imports.{IsFilter, LARGEST_READ, client_named, demux_named, input_named, is_word, number_between, option_map, option_or, output_named, slot_named}
 use Rattle.client_script.specs.Words.{Reading, and_then, mapped, or_fault, next_as, word_in, words_of}
 use Rattle.client_script.specs.Places.{filter_in}
 use Rattle.client_script.specs.Requests.{ioctl_in}

@@ -1,3 +1,4 @@
+pub mod Imports
 pub mod Examples
 pub mod Grammar
 pub mod Places

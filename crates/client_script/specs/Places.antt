@@ -1,9 +1,6 @@
 -- How words name the bytes of a section filter (this project's own).
 use Rattle.std.specs.Prelude.{ℕ, zero, suc, ◌+◌, List, [], ◌∷◌, Ok}
-use Rattle.filter_match.specs.declared.filter.SectionFilter.{SectionFilter}
-use Rattle.filter_match.specs.declared.filter.Place.{Place}
-use Rattle.filter_match.specs.Places.{filter_with}
-use Rattle.text_forms.specs.Places.{place_named}
+use Rattle.client_script.specs.Imports.{Place, SectionFilter, filter_with, place_named}
 use Rattle.client_script.specs.Words.{Reading, and_then, mapped, or_fault}
 use Rattle.client_script.specs.declared.fault.FaultKind.TheVariants.{Bytes}
 use Rattle.client_script.specs.declared.wanted.Wanted.TheVariants.{Byte}

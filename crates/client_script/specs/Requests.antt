@@ -2,19 +2,8 @@
 -- structures of requests are dmx_abi's, those of inputs and outputs linux/dvb/dmx.h's; how words spell them is this
 -- project's own.
 use Rattle.std.specs.Prelude.{ℕ, ◌==◌, List, [], Option, Some, None, length, if◌then◌else◌, codes}
-use Rattle.std.specs.Option.{option_map}
-use Rattle.std.specs.Result.{result_ok}
-use Rattle.byteorder.specs.Endian.{big_number}
-use Rattle.dmx_abi.specs.Layout.{argument_len}
-use Rattle.dmx_abi.specs.Decoded.{decoded}
-use Rattle.dmx_abi.specs.declared.request.Request.{Request}
+use Rattle.client_script.specs.Imports.{Decoder, Dvr, Frontend, Input, Output, Request, Tap, TsTap, TsdemuxTap, argument_len, big_number, decoded, hex_bytes, is_word, option_map, result_ok}
 use Rattle.dmx_abi.specs.declared.request.Request.TheVariants as request
-use Rattle.dmx_calls.specs.declared.params.Input.{Input}
-use Rattle.dmx_calls.specs.declared.params.Input.TheVariants.{Frontend, Dvr}
-use Rattle.dmx_calls.specs.declared.params.Output.{Output}
-use Rattle.dmx_calls.specs.declared.params.Output.TheVariants.{Decoder, Tap, TsTap, TsdemuxTap}
-use Rattle.text_forms.specs.Hex.{hex_bytes}
-use Rattle.text_forms.specs.Words.{is_word}
 use Rattle.client_script.specs.Words.{Reading, and_then, or_fault, next_as}
 use Rattle.client_script.specs.declared.fault.FaultKind.TheVariants.{Number, Name, Bytes}
 use Rattle.client_script.specs.declared.wanted.Wanted.TheVariants.{Request as RequestNumber, Argument}

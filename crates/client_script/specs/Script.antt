@@ -1,8 +1,6 @@
 -- What a script says, and how a session's input falls into a script and a stream (this project's own).
 use Rattle.std.specs.Prelude.{◌≡◌, ℕ, ◌+◌, ◌≤◌, ◌<◌, ◌==◌, Bool, List, [], ◌∷◌, ◌++◌, length, take, drop, max, fold, replicate, nat_eq, slice_index_or, slice_set, Option, Some, None, Result, Ok, Err, if◌then◌else◌, codes}
-use Rattle.std.specs.List.{All, slice_split, count_by, flat_map, range_with_len}
-use Rattle.std.specs.Option.{option_map}
-use Rattle.text_forms.specs.Words.{is_word}
+use Rattle.client_script.specs.Imports.{All, count_by, flat_map, is_word, option_map, range_with_len, slice_split}
 use Rattle.client_script.specs.Grammar.{meaning, IsInRange}
 use Rattle.client_script.specs.Writes.{IsWritten}
 use Rattle.client_script.specs.declared.said.Said.{Said}

@@ -1,17 +1,7 @@
 -- The one spelling of a line (this project's own). Numbers are decimal, but for those of requests. What a request asks by
 -- a call is spelled as the command that makes the call.
 use Rattle.std.specs.Prelude.{ℕ, ◌+◌, List, [], ◌∷◌, ◌++◌, Some, codes}
-use Rattle.std.specs.Fmt.{decimal}
-use Rattle.byteorder.specs.Endian.{big_bytes}
-use Rattle.dmx_abi.specs.Written.{number_of, argument_of}
-use Rattle.dmx_abi.specs.declared.request.Request.{Request}
-use Rattle.dmx_abi.specs.declared.request.Request.TheVariants.{GetStc as StcRequest}
-use Rattle.dmx_calls.specs.Names.{input_text, output_text}
-use Rattle.text_forms.specs.Hex.{hex_text}
-use Rattle.text_forms.specs.Names.{client_text, demux_text, slot_text}
-use Rattle.text_forms.specs.Places.{filter_text}
-use Rattle.dmx_calls.specs.declared.params.SectionParams.{SectionParams}
-use Rattle.dmx_calls.specs.declared.params.PesParams.{PesParams}
+use Rattle.client_script.specs.Imports.{GetStc as StcRequest, PesParams, Request, SectionParams, argument_of, big_bytes, client_text, decimal, demux_text, filter_text, hex_text, input_text, number_of, output_text, slot_text}
 use Rattle.client_script.specs.Script.{Scripted, with_said, written_by}
 use Rattle.client_script.specs.declared.said.Said.{Said}
 use Rattle.client_script.specs.declared.said.Said.TheVariants.{Asks, Writes}

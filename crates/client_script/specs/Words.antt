@@ -1,6 +1,6 @@
 -- The words of a line, and what words in their places spell (this project's own).
 use Rattle.std.specs.Prelude.{◌≡◌, ℕ, ◌==◌, List, [], ◌∷◌, Option, Some, None, Result, Ok, Err}
-use Rattle.std.specs.List.{slice_split}
+use Rattle.client_script.specs.Imports.{slice_split}
 use Rattle.client_script.specs.declared.fault.FaultKind.{FaultKind}
 use Rattle.client_script.specs.declared.fault.FaultKind.TheVariants.{Count}
 use Rattle.client_script.specs.declared.wanted.Wanted.{Wanted}

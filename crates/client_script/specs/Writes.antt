@@ -1,7 +1,6 @@
 -- The bytes that a client writes to the dvr device by one line (this project's own).
 use Rattle.std.specs.Prelude.{ℕ, ◌≤◌, ◌<◌, ◌==◌, List, length, Option, None, if◌then◌else◌}
-use Rattle.std.specs.List.{All}
-use Rattle.text_forms.specs.Hex.{hex_bytes}
+use Rattle.client_script.specs.Imports.{All, hex_bytes}
 
 -- the most bytes of a write: those of 64 packets
 abbrev pub most_written : ℕ

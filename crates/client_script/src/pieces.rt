@@ -1,7 +1,6 @@
 // The pieces of bytes between the bytes that part them.
 ghost use Rattle.std.specs.Prelude.{◌≡◌, ◌+◌, ◌<◌, ◌==◌, [], ◌∷◌, length, IfSome};
-ghost use Rattle.std.specs.List.{slice_split, position};
-ghost use Rattle.std.specs.Option.{option_map_or};
+ghost use Rattle.client_script.specs.Imports.{option_map_or, position, slice_split};
 
 /// Where the first `mark` stands.
 pub fn place_of(mark: u8, bytes: &[u8]) -> Option<usize>

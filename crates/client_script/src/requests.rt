@@ -1,7 +1,6 @@
 // Requests of programs as commands, and the words that spell them.
 ghost use Rattle.std.specs.Prelude.{◌≡◌, ◌≤◌, Some, None, IfOk, IfSome, MatchOption};
-ghost use Rattle.dmx_abi.specs.Layout.{argument_len as argument_len_of};
-ghost use Rattle.text_forms.specs.Places.{IsSixteenBytes, IsFilter};
+ghost use Rattle.client_script.specs.Imports.{IsFilter, IsSixteenBytes, argument_len as argument_len_of};
 ghost use Rattle.client_script.specs.Words.{Reads};
 ghost use Rattle.client_script.specs.Grammar.{IsWantInRange, IsVerbInRange};
 ghost use Rattle.client_script.specs.Requests.{input_of as input_by, output_of as output_by, pes_of as pes_by, want_of as want_by, verb_of as verb_by, request_number as number_of_word, argument_named as argument_of_word, request_number_in, request_in, ioctl_in};

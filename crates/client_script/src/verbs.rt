@@ -1,10 +1,9 @@
 // What a line asks for, word by word.
 ghost use Rattle.std.specs.Prelude.{◌≡◌, ◌≤◌, IfOk};
-ghost use Rattle.text_forms.specs.Words.{input_named as input_of_word, output_named as output_of_word};
+ghost use Rattle.client_script.specs.Imports.{LARGEST_READ as MOST_READ, input_named as input_of_word, output_named as output_of_word};
 ghost use Rattle.client_script.specs.Words.{Reads, next_as};
 ghost use Rattle.client_script.specs.Grammar.{number_in, pid_in, count_in, target_of, name_of, section_in, pes_in, verb_in, command_in, dvr_named, write_in, asked_in, line_in, IsWantInRange, IsVerbInRange, IsTargetInRange, IsInRange, IsSaidInRange};
 ghost use Rattle.client_script.specs.declared.fault.FaultKind.TheVariants.{Name as NoName, Target as NoTarget, Command as NoCommand};
-ghost use Rattle.dmx_calls.specs.declared.limits.TheConstants.{LARGEST_READ as MOST_READ};
 ghost use Rattle.client_script.specs.declared.wanted.NumberName.TheVariants.{N as CountName};
 ghost use Rattle.client_script.specs.declared.wanted.Wanted.TheVariants.{Input as InputWanted, Output as OutputWanted, Target as TargetWanted, Dvr as DvrWanted};
 

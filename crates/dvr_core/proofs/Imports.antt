@@ -4,27 +4,21 @@ pub use Rattle.dmx_calls.proofs.Ledgers.{answered_more, edge_cleared, ledger_nex
 pub use Rattle.dmx_calls.proofs.Nodes.{dvr_capture_stays}
 pub use Rattle.dmx_calls.proofs.Reading.{read_each}
 pub use Rattle.dmx_calls.proofs.Unaccepted.{dvr_same}
-pub use Rattle.dmx_calls.specs.Answer.{ReadTerms, expired_of, is_for_anybody, is_owned_by, is_same_size, most_bytes, read_response, read_terms, refusal_to, response_to}
-pub use Rattle.dmx_calls.specs.Calls.{invocation_of, response_of}
+pub use Rattle.dmx_calls.specs.Answer.{ReadTerms, expired_of, is_owned_by, is_same_size, most_bytes, read_response, read_terms, refusal_to}
 pub use Rattle.dmx_calls.specs.Capture.{dvr_begins, dvr_capture}
-pub use Rattle.dmx_calls.specs.Facts.{Facts, Ledger, facts, ledger_at, ledger_of}
-pub use Rattle.dmx_calls.specs.History.{Entry, Event, History, Since, accepted, also, entry_of, event}
-pub use Rattle.dmx_calls.specs.Invocation.{AddPid, Attach, Close, Detach, End, Invocation, Open, Pass, Poll, Read, RemovePid, SetFilter, SetPes, SetSize, Start, Stop}
+pub use Rattle.dmx_calls.specs.Facts.{Ledger, ledger_at, ledger_of}
+pub use Rattle.dmx_calls.specs.History.{Event, Since, accepted, also, event}
+pub use Rattle.dmx_calls.specs.Invocation.{AddPid, RemovePid, SetFilter, SetPes, Start, Stop}
 pub use Rattle.dmx_calls.specs.Items.{is_named, packets_in}
 pub use Rattle.dmx_calls.specs.Ledger.{answered, answered_in, is_overflow, over, total}
-pub use Rattle.dmx_calls.specs.Legal.{May}
 pub use Rattle.dmx_calls.specs.Refusal.{is_bad_argument, is_for_filters}
-pub use Rattle.dmx_calls.specs.Response.{Again, Busy, Data, Done, NoMemory, Overflow, Passed, Refused, Response, is_accepted}
-pub use Rattle.dmx_calls.specs.Rules.{dvr}
-pub use Rattle.dmx_calls.specs.Taps.{Tap, detached_by, is_tapped, tap_after, tap_names}
-pub use Rattle.dmx_calls.specs.Tenure.{Empty, Params, closes, dvr_size, has_ended, is_end, opens, size_in, tenure}
-pub use Rattle.dmx_calls.specs.declared.limits.TheConstants.{DEMUX_NODES, DVR_SIZE}
-pub use Rattle.dmx_calls.specs.declared.node.NodeKind.TheVariants.{Dvr}
-pub use Rattle.dmx_calls.specs.declared.params.Input.{Input}
-pub use Rattle.dmx_calls.specs.declared.params.Input.TheVariants.{Frontend}
+pub use Rattle.dmx_calls.specs.Response.{Again, Busy, Data, Done, NoMemory, Overflow, Refused}
+pub use Rattle.dmx_calls.specs.Taps.{is_tapped, tap_after}
+pub use Rattle.dmx_calls.specs.Tenure.{Params, closes, dvr_size, has_ended, is_end, opens, size_in, tenure}
 pub use Rattle.dmx_calls.specs.declared.reply.Errno.{Errno}
 pub use Rattle.dmx_calls.specs.declared.reply.Errno.TheVariants.{Ebadf, Einval}
 pub use Rattle.dmx_calls.specs.declared.reply.Tap.TheVariants.{Keep as KeepTap}
+pub use Rattle.dvr_core.specs.Imports.{Attach, Causes, Close, CoherentIn, DEMUX_NODES, DVR_SIZE, Detach, Dvr, Empty, End, Entry, Facts, Frontend, History, Input, Invocation, May, Open, Pass, Passed, Poll, Read, Response, SetSize, Tap, begun as begun_ledger, detached_by, dvr, entry_of, facts, invocation_of, is_accepted, is_for_anybody, is_in, list_any, range_with_len, response_of, response_to, tap_names, terms_of, total_of, with_items, with_response}
 pub use Rattle.dvr_core.specs.Inside.CoreView.{core_view}
 pub use Rattle.dvr_core.specs.Inside.Gives.{Gives, settled}
 pub use Rattle.dvr_core.specs.Inside.KeptView.{knows_in, reply_to}
@@ -40,9 +34,8 @@ pub use Rattle.node_buffer.proofs.Named.{named-next, named-skip, none-named}
 pub use Rattle.node_buffer.proofs.Owners.{gives_granted, holds}
 pub use Rattle.node_buffer.proofs.ReadCausing.{Readable, expired_either}
 pub use Rattle.node_buffer.proofs.Silences.{Silent, accepted_of, as_done, as_passed, as_ready, dropping, dropping_unless, nothing_of, quiet_of}
-pub use Rattle.node_buffer.specs.Causes.{Causes}
-pub use Rattle.node_buffer.specs.Inside.Capturing.{begun as begun_ledger, read_by, terms_of, with_item, with_items, with_response}
-pub use Rattle.node_buffer.specs.Inside.Coherent.{Coherent, CoherentIn, total_of}
+pub use Rattle.node_buffer.specs.Inside.Capturing.{read_by, with_item}
+pub use Rattle.node_buffer.specs.Inside.Coherent.{Coherent}
 pub use Rattle.std.proofs.Common.{Bool, List, None, Option, Some, [], add-one, add-zero, ap, arith, drop, false, get_or, inl, inr, length, length-append, map, refl, replicate, rules, set, subst, suc, sym, take, true, zero, zero-add, ℕ, ◌*◌, ◌++◌, ◌+◌, ◌-◌, ◌<◌, ◌||◌, ◌∙◌, ◌∷◌, ◌≡◌, ◌≤◌}
 pub use Rattle.std.proofs.Math.Bool.{or-false}
 pub use Rattle.std.proofs.Math.Nat.{sub-add_cancel, sub_self}
@@ -53,6 +46,4 @@ pub use Rattle.std.proofs.lemmas.List.{append-nil, drop_all, take_all}
 pub use Rattle.std.proofs.lemmas.List.Folds.{list_any_more}
 pub use Rattle.std.proofs.lemmas.List.Sums.{count_by_more_no, count_by_more_yes}
 pub use Rattle.std.proofs.lemmas.Option.{get_or_from_slice_get, slice_get-get_or}
-pub use Rattle.std.specs.List.{list_any, range_with_len}
 pub use Rattle.std.specs.Prelude.{count_by, filter, if◌then◌else◌, nat_eq, not, option_map, slice_get, unwrap_or}
-pub use Rattle.ts_batch.specs.Places.{is_in}

@@ -1,9 +1,6 @@
 -- How many packets of a batch the dvr node looks at, worked out by hand: 64 packets, three of which have PID 256.
 use Rattle.std.specs.Prelude.{ℕ, ◌+◌, ◌/◌, ◌%◌, ◌≡◌, List, [], ◌∷◌, ◌++◌, Option, None, replicate}
-use Rattle.dmx_calls.specs.declared.params.Input.TheVariants.{Frontend}
-use Rattle.dmx_calls.specs.declared.limits.TheConstants.{DEMUX_NODES}
-use Rattle.dmx_calls.specs.Invocation.{Pass, Read}
-use Rattle.dmx_calls.specs.Taps.{Tap}
+use Rattle.dvr_core.specs.Imports.{DEMUX_NODES, Frontend, Pass, Read, Tap}
 use Rattle.dvr_core.specs.Tapped.{attached}
 use Rattle.dvr_core.specs.Looks.{named_packets}
 

@@ -1,3 +1,4 @@
+pub mod Imports
 pub mod Tapped
 pub mod Looks
 pub mod Examples

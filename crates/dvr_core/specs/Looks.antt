@@ -1,7 +1,6 @@
 -- Which packets of a call the dvr node looks at.
 use Rattle.std.specs.Prelude.{ℕ, List, Option, count_by}
-use Rattle.dmx_calls.specs.Invocation.{Invocation, Pass}
-use Rattle.dmx_calls.specs.Taps.{Tap}
+use Rattle.dvr_core.specs.Imports.{Invocation, Pass, Tap}
 use Rattle.dvr_core.specs.Tapped.{some_names}
 
 -- how many packets of a call some tap names; only a Pass has any

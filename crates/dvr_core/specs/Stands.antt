@@ -1,10 +1,6 @@
 -- What it means that the dvr node stands for a history.
 use Rattle.std.specs.Prelude.{ℕ, ◌≡◌, List, length, Option}
-use Rattle.dmx_calls.specs.History.{History}
-use Rattle.dmx_calls.specs.Taps.{Tap}
-use Rattle.dmx_calls.specs.Rules.{dvr}
-use Rattle.dmx_calls.specs.Facts.{Facts, facts}
-use Rattle.dmx_calls.specs.Legal.{IsLegalDvr}
+use Rattle.dvr_core.specs.Imports.{Facts, History, IsLegalDvr, Tap, dvr, facts}
 use Rattle.dvr_core.specs.Tapped.{taps_of}
 
 -- what a contract sees of the dvr node: how many calls were made on it, what its history says to the next one, and

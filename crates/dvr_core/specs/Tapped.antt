@@ -1,12 +1,6 @@
 -- The taps of the dvr node, as a list with one place for each demux node.
 use Rattle.std.specs.Prelude.{ℕ, zero, suc, Bool, List, [], ◌∷◌, map, filter, Option, Some, if◌then◌else◌}
-use Rattle.std.specs.List.{list_any, range_with_len}
-use Rattle.dmx_calls.specs.declared.params.Input.{Input}
-use Rattle.dmx_calls.specs.declared.params.Input.TheVariants.{Frontend}
-use Rattle.dmx_calls.specs.declared.limits.TheConstants.{DEMUX_NODES}
-use Rattle.dmx_calls.specs.History.{History}
-use Rattle.dmx_calls.specs.Items.{is_same_input}
-use Rattle.dmx_calls.specs.Taps.{Tap, detached_by, tap_of, tap_names}
+use Rattle.dvr_core.specs.Imports.{DEMUX_NODES, Frontend, History, Input, Tap, detached_by, is_same_input, list_any, range_with_len, tap_names, tap_of}
 
 -- the taps that a history says
 unfoldable pub taps_of : History → List (Option Tap)

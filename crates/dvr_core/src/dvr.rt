@@ -1,16 +1,7 @@
 // The dvr node, its one call, and the call of its feeder alone.
 
 ghost use Rattle.std.specs.Prelude.{◌≡◌, ◌≤◌, ◌<◌, ◌+◌, ◌^◌, ◌∷◌, [], false, None};
-ghost use Rattle.dmx_calls.specs.declared.node.NodeKind.TheVariants.{Dvr};
-ghost use Rattle.dmx_calls.specs.History.{History, entry_of};
-ghost use Rattle.dmx_calls.specs.Invocation.{Pass};
-ghost use Rattle.dmx_calls.specs.Response.{Passed, is_accepted};
-ghost use Rattle.dmx_calls.specs.Rules.{dvr};
-ghost use Rattle.dmx_calls.specs.Legal.{May};
-ghost use Rattle.dmx_calls.specs.Calls.{invocation_of, response_of};
-ghost use Rattle.dmx_calls.specs.Back.{GivesBack};
-ghost use Rattle.node_buffer.specs.Inside.Coherent.{CoherentIn};
-ghost use Rattle.node_buffer.specs.Causes.{Causes};
+ghost use Rattle.dvr_core.specs.Imports.{Causes, CoherentIn, Dvr, GivesBack, History, May, Pass, Passed, dvr, entry_of, invocation_of, is_accepted, response_of};
 ghost use Rattle.dvr_core.specs.Inside.Gives.{Gives};
 ghost use Rattle.dvr_core.specs.Looks.{named_packets};
 ghost use Rattle.dvr_core.specs.Inside.Step.{next};

@@ -5,14 +5,7 @@
 // call looks at its moment: 0 stands for those that play no part.
 
 ghost use Rattle.std.specs.Prelude.{◌≡◌, ◌≤◌, ◌<◌, ◌+◌, ◌^◌, false, count_by, None};
-ghost use Rattle.dmx_calls.specs.declared.node.NodeKind.TheVariants.{Dvr};
-ghost use Rattle.dmx_calls.specs.Invocation.{Open, Close, Pass, End, Attach, Detach};
-ghost use Rattle.dmx_calls.specs.Response.{Passed};
-ghost use Rattle.dmx_calls.specs.Answer.{is_for_anybody};
-ghost use Rattle.dmx_calls.specs.Calls.{invocation_of, response_of};
-ghost use Rattle.dmx_calls.specs.Back.{GivesBack};
-ghost use Rattle.node_buffer.specs.Inside.Coherent.{CoherentIn};
-ghost use Rattle.node_buffer.specs.Inside.Gives.{is_close};
+ghost use Rattle.dvr_core.specs.Imports.{Attach, Close, CoherentIn, Detach, Dvr, End, GivesBack, Open, Pass, Passed, invocation_of, is_close, is_for_anybody, response_of};
 ghost use Rattle.dvr_core.specs.Inside.Gives.{Gives};
 ghost use Rattle.dvr_core.specs.Inside.Step.{next};
 ghost use Rattle.dvr_core.specs.Tapped.{some_names};

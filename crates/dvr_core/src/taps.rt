@@ -1,9 +1,7 @@
 // The taps of the dvr node: at most one for each demux node.
 
 ghost use Rattle.std.specs.Prelude.{◌≡◌, ℕ, List, true, false, Some, None, replicate, slice_get};
-ghost use Rattle.dmx_calls.specs.declared.limits.TheConstants.{DEMUX_NODES as nodes};
-ghost use Rattle.dmx_calls.specs.Taps.{detached_by};
-ghost use Rattle.ts_batch.specs.Places.{is_in};
+ghost use Rattle.dvr_core.specs.Imports.{DEMUX_NODES as nodes, detached_by, is_in};
 ghost use Rattle.dvr_core.specs.Tapped.{attached, detached, some_names};
 
 use dmx_calls::limits::DEMUX_NODES;

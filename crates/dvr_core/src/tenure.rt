@@ -5,17 +5,7 @@
 // has no tap of its own, so no Done tells of one.
 
 ghost use Rattle.std.specs.Prelude.{◌≡◌, ◌≤◌, ℕ, Bool, true, false, List, Option, IfOk, Some};
-ghost use Rattle.dmx_calls.specs.declared.node.NodeKind.TheVariants.{Dvr};
-ghost use Rattle.dmx_calls.specs.declared.limits.TheConstants.{DVR_SIZE as size_of_open};
-ghost use Rattle.dmx_calls.specs.Invocation.{Close, SetSize, Read, Poll};
-ghost use Rattle.dmx_calls.specs.Tenure.{Empty};
-ghost use Rattle.dmx_calls.specs.Taps.{Tap as TapValue};
-ghost use Rattle.dmx_calls.specs.Answer.{is_for_anybody};
-ghost use Rattle.dmx_calls.specs.Calls.{invocation_of, response_of};
-ghost use Rattle.dmx_calls.specs.Back.{GivesBack};
-ghost use Rattle.node_buffer.specs.Inside.Capturing.{terms_of as terms_by, begun};
-ghost use Rattle.node_buffer.specs.Inside.Coherent.{CoherentIn, total_of};
-ghost use Rattle.node_buffer.specs.Inside.Gives.{owner_refusal, is_close};
+ghost use Rattle.dvr_core.specs.Imports.{Close, CoherentIn, DVR_SIZE as size_of_open, Dvr, Empty, GivesBack, Poll, Read, SetSize, Tap as TapValue, begun, invocation_of, is_close, is_for_anybody, owner_refusal, response_of, terms_of as terms_by, total_of};
 ghost use Rattle.dvr_core.specs.Inside.Gives.{Gives};
 ghost use Rattle.dvr_core.specs.Inside.Step.{next};
 

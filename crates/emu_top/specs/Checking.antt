@@ -1,18 +1,6 @@
 -- What `check` is asked, and what it answers (this project's own).
 use Rattle.std.specs.Prelude.{◌≡◌, ◌⊎◌, ⊤, ℕ, ◌+◌, ◌<◌, ◌≤◌, Bool, true, false, List, [], ◌∷◌, length, take, drop, nat_le, Option, Some, None, Result, Ok, Err, IfSome, if◌then◌else◌, codes}
-use Rattle.std.specs.Io.KnownBytes.{Consumes}
-use Rattle.emu_io.specs.Causes.{Rose}
-use Rattle.emu_io.specs.Ends.{SourceEnd}
-use Rattle.ts_packet.specs.Cut.{cut}
-use Rattle.ts_packet.specs.declared.size.PacketSize.{PacketSize}
-use Rattle.ts_watch.specs.Head.{head_of}
-use Rattle.text_forms.specs.Words.{is_word}
-use Rattle.text_forms.specs.Numbers.{number_between}
-use Rattle.client_script.specs.declared.fault.FaultKind.{FaultKind}
-use Rattle.client_script.specs.declared.fault.FaultKind.TheVariants.{Number, NoStream}
-use Rattle.client_script.specs.declared.fault.ScriptFault.{ScriptFault}
-use Rattle.client_script.specs.Script.{split, grammar, whole_lines, Parsed, Scripted}
-use Rattle.report_check.specs.Right.{IsReportOfRun}
+use Rattle.emu_top.specs.Imports.{Consumes, FaultKind, IsReportOfRun, NoStream, Number, PacketSize, Parsed, Rose, ScriptFault, Scripted, SourceEnd, cut, grammar, head_of, is_word, number_between, split, whole_lines}
 use Rattle.emu_top.specs.Session.{IsSession, ReadsTo}
 use Rattle.emu_top.specs.declared.status.Status.{Status}
 use Rattle.emu_top.specs.declared.status.Status.TheVariants.{Script, TooLong, ReadFault, NoMemory, Ok as Done, Wrong}

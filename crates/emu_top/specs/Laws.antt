@@ -1,10 +1,6 @@
 -- Laws of what is written.
 use Rattle.std.specs.Prelude.{ℕ, ◌≤◌, Bool, false, List}
-use Rattle.ts_packet.specs.Cut.{cut}
-use Rattle.ts_packet.specs.declared.size.PacketSize.{PacketSize}
-use Rattle.ts_watch.specs.Head.{head_of}
-use Rattle.client_script.specs.Script.{Scripted}
-use Rattle.report_check.specs.Right.{IsReportOfRun}
+use Rattle.emu_top.specs.Imports.{IsReportOfRun, PacketSize, Scripted, cut, head_of}
 use Rattle.emu_top.specs.Session.{IsSerialOutput, IsThreadOutput}
 
 -- What is written for a session on one thread, all of which was read, is the report of a run of it: `check` answers `yes` to it.

@@ -1,14 +1,6 @@
 -- What a call of the program does: by its words, by what source and sink tell before and after, and by its status.
 use Rattle.std.specs.Prelude.{◌≡◌, ◌⊎◌, ℕ, ◌+◌, ◌<◌, ◌≤◌, Bool, true, false, List, length, take, Option, Some, None, Ok, Err, IfSome}
-use Rattle.std.specs.Io.KnownBytes.{Appends, Keeps}
-use Rattle.emu_io.specs.Causes.{Rose}
-use Rattle.emu_io.specs.Ends.{SourceEnd, SinkEnd}
-use Rattle.ts_packet.specs.declared.size.PacketSize.{PacketSize}
-use Rattle.client_script.specs.Script.{split, grammar, Parsed}
-use Rattle.command_words.specs.declared.Command.{Command}
-use Rattle.command_words.specs.declared.Command.TheVariants.{Steps, Run, Make, SelfTest, Check}
-use Rattle.command_words.specs.Meant.{meant}
-use Rattle.ts_make.specs.Made.{made}
+use Rattle.emu_top.specs.Imports.{Appends, Check, Command, Keeps, Make, PacketSize, Parsed, Rose, Run, SelfTest, SinkEnd, SourceEnd, Steps, grammar, made, meant, split}
 use Rattle.emu_top.specs.Session.{Output, IsSerialOutput, IsThreadOutput, IsSums, Makes, GivesUp, HasFault, FailsEarly}
 use Rattle.emu_top.specs.Checking.{Declines, Judges, SettlesAnswer, answer_text, asked, script_asked}
 use Rattle.emu_top.specs.declared.status.Status.{Status}

@@ -1,38 +1,9 @@
 -- What is read of a session, and what is to be written for it.
 use Rattle.std.specs.Prelude.{◌≡◌, ◌⊎◌, ⊤, ℕ, ◌+◌, ◌<◌, ◌≤◌, ◌^◌, ◌++◌, Bool, true, false, List, [], length, map, filter_map, slice_get, Option, Some, None, Ok, Err, IfSome}
-use Rattle.std.specs.Io.KnownBytes.{Consumes, IsAtEnd}
-use Rattle.emu_io.specs.Causes.{Rose}
-use Rattle.emu_io.specs.Ends.{SourceEnd}
-use Rattle.ts_packet.specs.Cut.{cut}
-use Rattle.ts_packet.specs.declared.size.PacketSize.{PacketSize}
-use Rattle.ts_packet.specs.declared.size.PacketSize.TheVariants.{Of188}
-use Rattle.ts_watch.specs.Head.{told_head, head_of}
-use Rattle.dmx_calls.specs.Log.{LogEntry}
-use Rattle.dmx_calls.specs.declared.limits.TheConstants.{DEMUX_NODES}
-use Rattle.dmx_calls.specs.declared.outcome.Outcome.{Outcome}
-use Rattle.client_script.specs.declared.fault.ScriptFault.{ScriptFault}
-use Rattle.client_script.specs.declared.fault.ScriptError.{ScriptError}
+use Rattle.emu_top.specs.Imports.{Consumes, DEMUX_NODES, IsAccountedRun, IsAtEnd, IsRun, IsScript, IsWholeRun, Left, LogEntry, NoMemory as NoMemoryToRun, Of188, Outcome, PacketSize, Pulling, Pulls, Rose, ScriptError, ScriptFault, Scripted, SourceEnd, Stop, TooLong as RunTooLong, all_commands, batch_at, batches_by, bytes_written, clients_in, cut, grammar, head_of, histories_in, made, most_calls, outcomes_in, played_writes, plays_of, replies, report_of, sources, split, summary_of, told_by, told_head}
 use Rattle.client_script.specs.declared.fault.ScriptError.TheVariants.{Fault, NoMemory as NoMemoryToRead}
-use Rattle.client_script.specs.Script.{clients_in, split, grammar, IsScript, Scripted}
-use Rattle.client_core.specs.Commands.{plays_of}
-use Rattle.client_core.specs.Deeds.{batch_at}
-use Rattle.client_core.specs.Passes.{played_writes}
-use Rattle.client_core.specs.declared.stop.Stop.{Stop}
-use Rattle.client_core.specs.declared.stop.Stop.TheVariants.{NoMemory as NoMemoryToRun, TooLong as RunTooLong}
-use Rattle.script_run.specs.Budget.{most_calls, all_commands, bytes_written}
-use Rattle.script_run.specs.IsRun.{IsRun, replies, sources}
-use Rattle.script_run.specs.Passing.{batches_by}
-use Rattle.script_run.specs.WholeRun.{IsWholeRun}
-use Rattle.feed_pull.specs.Pulling.{Pulling, Pulls}
-use Rattle.serial_core.specs.declared.run.Left.{Left}
 use Rattle.serial_core.specs.SerialRun.{Run, IsSerialRun}
-use Rattle.serial_core.specs.Left.{histories_in, outcomes_in}
-use Rattle.serial_core.specs.Runs.{IsAccountedRun}
-use Rattle.report_text.specs.Report.{report_of}
-use Rattle.report_text.specs.Summary.{summary_of}
 use Rattle.report_read.specs.Ranges.{IsInRange}
-use Rattle.report_check.specs.Completed.{told_by}
-use Rattle.ts_make.specs.Made.{made}
 use Rattle.emu_top.specs.declared.status.Status.{Status}
 use Rattle.emu_top.specs.declared.status.Status.TheVariants.{Script, TooLong, ReadFault, NoMemory}
 

@@ -1,7 +1,6 @@
 // The report in front of a session.
 ghost use Rattle.std.specs.Prelude.{◌≡◌, ℕ, ◌+◌, ◌<◌, ◌≤◌, List, length, IfOk, IfErr, IfSome, IfNone, IsErrOf};
-ghost use Rattle.std.specs.Io.KnownBytes.{Consumes, IsAtEnd};
-ghost use Rattle.client_script.specs.declared.fault.FaultKind.TheVariants.{Number as NumberKind};
+ghost use Rattle.emu_top.specs.Imports.{Consumes, IsAtEnd, Number as NumberKind};
 ghost use Rattle.emu_top.specs.Checking.{Declines, EndsInLine, HasFirstFault, in_front, size_of};
 ghost use Rattle.emu_top.specs.Inside.Asking.{AsksFor, Begins};
 ghost use Rattle.emu_top.specs.Inside.Part.{HasReadCause};

@@ -1,14 +1,6 @@
 // What a run left fits its types: the range of a number is known where it is read. Nothing is done with what is read.
 ghost use Rattle.std.specs.Prelude.{◌≡◌, ◌<◌, ◌≤◌, ◌+◌, ◌^◌, List, Some, length, map, slice_get};
-ghost use Rattle.std.specs.List.{All};
-ghost use Rattle.dmx_calls.specs.declared.limits.TheConstants.{DEMUX_NODES as nodes_of_demux};
-ghost use Rattle.dmx_calls.specs.declared.log.Act.TheVariants.{SetFilter as SetFilterAct, SetPes as SetPesAct};
-ghost use Rattle.dmx_calls.specs.Calls.{response_of, told_entry};
-ghost use Rattle.dmx_calls.specs.Histories.{pass_act};
-ghost use Rattle.dmx_calls.specs.Log.{LogEntry};
-ghost use Rattle.text_forms.specs.Places.{IsFilter, IsSixteenBytes};
-ghost use Rattle.ts_watch.specs.Head.{told_head};
-ghost use Rattle.report_read.specs.Ranges.{IsActInRange, IsEntryInRange, IsOutcomeInRange, IsResponseInRange, IsRowInRange, IsTallyInRange, IsTapInRange};
+ghost use Rattle.emu_top.specs.Imports.{All, DEMUX_NODES as nodes_of_demux, IsActInRange, IsEntryInRange, IsFilter, IsOutcomeInRange, IsResponseInRange, IsRowInRange, IsSixteenBytes, IsTallyInRange, IsTapInRange, LogEntry, SetFilter as SetFilterAct, SetPes as SetPesAct, pass_act, response_of, told_entry, told_head};
 ghost use Rattle.emu_top.specs.Inside.Fitting.{AreFitting};
 
 use dmx_calls::limits::DEMUX_NODES;

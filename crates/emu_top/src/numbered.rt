@@ -1,9 +1,6 @@
 // The session of a number, run in memory.
 ghost use Rattle.std.specs.Prelude.{◌≡◌, ℕ, ◌<◌, ◌≤◌, min, List, length, take, Some, IfOk, IfErr};
-ghost use Rattle.std.specs.declared.option.Option.{Option};
-ghost use Rattle.std.specs.Io.{ReadsAtMost};
-ghost use Rattle.std.specs.Io.KnownBytes.{ReadConsumes};
-ghost use Rattle.emu_io.specs.Causes.{HasCause};
+ghost use Rattle.emu_top.specs.Imports.{HasCause, Option, ReadConsumes, ReadsAtMost};
 ghost use Rattle.emu_top.specs.Session.{IsSums};
 
 use crate::Status;

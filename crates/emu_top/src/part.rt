@@ -1,7 +1,6 @@
 // The script part of a source.
 ghost use Rattle.std.specs.Prelude.{◌≡◌, ◌⊎◌, ℕ, ◌+◌, ◌<◌, ◌≤◌, List, length, None, OnErr, IfOk, IfSome, IsErrOf};
-ghost use Rattle.std.specs.Io.KnownBytes.{Consumes, IsAtEnd};
-ghost use Rattle.client_script.specs.Script.{script_len, whole_lines, most_bytes};
+ghost use Rattle.emu_top.specs.Imports.{Consumes, IsAtEnd, most_bytes, script_len, whole_lines};
 ghost use Rattle.emu_top.specs.Inside.Part.{HasReadCause, IsUnended};
 
 use client_script::{MOST_BYTES, ScriptPart};

@@ -1,8 +1,6 @@
 // A session and its run on one thread.
 ghost use Rattle.std.specs.Prelude.{◌≡◌, ℕ, ◌+◌, ◌-◌, ◌^◌, ◌<◌, ◌≤◌, List, length, IfOk, IfErr, IfSome, IsErrOf};
-ghost use Rattle.client_script.specs.Script.{script_len, whole_lines, most_bytes};
-ghost use Rattle.emu_io.specs.Ends.{SourceEnd};
-ghost use Rattle.feed_pull.specs.declared.fault.Reading.TheVariants.{Going};
+ghost use Rattle.emu_top.specs.Imports.{Going, SourceEnd, most_bytes, script_len, whole_lines};
 ghost use Rattle.emu_top.specs.Session.{Holds, IsFaultIn, Refuses, Runs, Takes, status_of_error, status_of_stop};
 
 use crate::Status;

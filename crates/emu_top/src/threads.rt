@@ -1,7 +1,6 @@
 // The run of a session by threads.
 ghost use Rattle.std.specs.Prelude.{◌≡◌, ℕ, ◌+◌, ◌-◌, ◌^◌, ◌<◌, ◌≤◌, List, IfOk, IfErr};
-ghost use Rattle.emu_io.specs.Ends.{SourceEnd};
-ghost use Rattle.feed_pull.specs.declared.fault.Reading.TheVariants.{Going};
+ghost use Rattle.emu_top.specs.Imports.{Going, SourceEnd};
 ghost use Rattle.emu_top.specs.Session.{Holds, IsThreadOutput, Makes, Refuses, Takes};
 ghost use Rattle.emu_top.specs.Inside.Reporting.{report_over};
 

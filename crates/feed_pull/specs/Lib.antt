@@ -1,3 +1,4 @@
+pub mod Imports
 pub mod Pulling
 pub mod Steps
 pub mod Streams

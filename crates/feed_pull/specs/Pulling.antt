@@ -1,10 +1,6 @@
 -- What a contract sees of a puller, and what it stands for.
 use Rattle.std.specs.Prelude.{◌≡◌, ◌≢◌, ℕ, ◌+◌, ◌*◌, ◌<◌, ◌≤◌, Bool, true, false, List, [], ◌++◌, length, Result, None, Some, Ok, Err}
-use Rattle.std.specs.declared.option.Option.{Option}
-use Rattle.ts_packet.specs.Cut.{cut}
-use Rattle.ts_packet.specs.Cutting.{Cutting, fresh, bytes_counted, IsRest, Cuts}
-use Rattle.ts_packet.specs.declared.size.PacketSize.{PacketSize}
-use Rattle.ts_watch.specs.Watching.{Watching, Watched}
+use Rattle.feed_pull.specs.Imports.{Cuts, Cutting, IsRest, Option, PacketSize, Watched, Watching, bytes_counted, cut, fresh}
 use Rattle.feed_pull.specs.declared.fault.Reading.{Reading}
 use Rattle.feed_pull.specs.declared.fault.Reading.TheVariants.{Going, Ended, Failed, TooMany}
 use Rattle.feed_pull.specs.declared.fault.PullFault.{PullFault}

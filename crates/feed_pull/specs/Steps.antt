@@ -1,10 +1,6 @@
 -- The steps of a pull.
 use Rattle.std.specs.Prelude.{◌≡◌, ◌≢◌, ◌⊎◌, ℕ, ◌+◌, ◌-◌, ◌*◌, ◌<◌, ◌≤◌, List, [], ◌++◌, length}
-use Rattle.std.specs.Io.KnownBytes.{Consumes, IsAtEnd}
-use Rattle.emu_io.specs.Ends.{SourceEnd}
-use Rattle.ts_packet.specs.Cut.{cut}
-use Rattle.ts_packet.specs.Cutting.{Cuts}
-use Rattle.ts_watch.specs.Watching.{Watched}
+use Rattle.feed_pull.specs.Imports.{Consumes, Cuts, IsAtEnd, SourceEnd, Watched, cut}
 use Rattle.feed_pull.specs.declared.fault.Reading.{Reading}
 use Rattle.feed_pull.specs.declared.fault.Reading.TheVariants.{Going, Ended, Failed, TooMany}
 use Rattle.feed_pull.specs.Pulling.{Pulling, Pulls}

@@ -1,7 +1,6 @@
 -- What pulls take from a source, and the stream that is made of it.
 use Rattle.std.specs.Prelude.{◌≡◌, ℕ, List, []}
-use Rattle.std.specs.Io.KnownBytes.{Consumes}
-use Rattle.emu_io.specs.Ends.{SourceEnd}
+use Rattle.feed_pull.specs.Imports.{Consumes, SourceEnd}
 use Rattle.feed_pull.specs.Pulling.{Pulling, Pulls}
 use Rattle.feed_pull.specs.Steps.{Carries, Follows}
 

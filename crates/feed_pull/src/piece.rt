@@ -1,7 +1,6 @@
 // The piece of a stream that was read last.
 ghost use Rattle.std.specs.Prelude.{◌≡◌, ℕ, ◌<◌, ◌≤◌, List, [], length, take, drop, OnErr, OnOk, IfOk};
-ghost use Rattle.std.specs.Io.KnownBytes.{Consumes, IsAtEnd};
-ghost use Rattle.emu_io.specs.Causes.{HasCause};
+ghost use Rattle.feed_pull.specs.Imports.{Consumes, HasCause, IsAtEnd};
 
 use emu_io::{Failed, Source};
 use std::alloc::{AllocError as NoMemory, Global};

@@ -1,10 +1,6 @@
 // Pulls batches of packets from a source.
 ghost use Rattle.std.specs.Prelude.{◌≡◌, ◌≢◌, ◌⊎◌, ℕ, ◌+◌, ◌-◌, ◌*◌, ◌^◌, ◌<◌, ◌≤◌, ◌↔◌, List, [], ◌++◌, length, take, drop, min, max, OnOk, OnErr, IfOk, IfSome, IfNone, IsTrue, IsFalse, MatchOption, vec_len};
-ghost use Rattle.std.specs.Io.KnownBytes.{Consumes, IsAtEnd};
-ghost use Rattle.ts_packet.specs.Cut.{cut};
-ghost use Rattle.ts_packet.specs.Cutting.{IsTally};
-ghost use Rattle.ts_watch.specs.Watching.{Watched};
-ghost use Rattle.ts_watch.specs.Head.{told_head, head_of};
+ghost use Rattle.feed_pull.specs.Imports.{Consumes, IsAtEnd, IsTally, Watched, cut, head_of, told_head};
 ghost use Rattle.feed_pull.specs.Pulling.{Pulling, IsPulling, Pulls, IsDone, HasGivenAll, HasWatchedAll, HadFewer, IsNearEnd, fault_of, has_failed, given_by};
 ghost use Rattle.feed_pull.specs.Steps.{Goes, Gathers, Follows, work, HasGiven, ReadsNothing, Carries, with_room};
 

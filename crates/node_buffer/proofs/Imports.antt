@@ -2,22 +2,18 @@
 pub use Rattle.dmx_calls.proofs.Ledgers.{PlacedIn, ledger_next, over_none, rest_of-end}
 pub use Rattle.dmx_calls.proofs.Pieces.{drop_past_first}
 pub use Rattle.dmx_calls.proofs.Reading.{read_each}
-pub use Rattle.dmx_calls.specs.Answer.{answer_by, answered_of, done_dropping, expired_of, first_of, is_for_anybody, is_owned_by, is_section, most_bytes, open_response, read_response, read_terms, refusal_to, response_of_read, response_to, response_unless, timed_out_of}
-pub use Rattle.dmx_calls.specs.Facts.{Facts, Ledger, ledger_at, rest_of, rest_of_item, unread_of}
-pub use Rattle.dmx_calls.specs.History.{History, Since, entry_of, event, is_empty}
-pub use Rattle.dmx_calls.specs.Invocation.{AddPid, Attach, Close, Detach, End, Invocation, Open, Pass, Poll, Read, RemovePid, SetFilter, SetPes, SetSize, Start, Stop}
-pub use Rattle.dmx_calls.specs.Items.{timeout_of}
-pub use Rattle.dmx_calls.specs.Ledger.{Misfit, answered, answered_in, edge_of, is_overflow, keeps, over}
-pub use Rattle.dmx_calls.specs.Legal.{is_done, takes_memory}
-pub use Rattle.dmx_calls.specs.Response.{Again, Busy, Data, Done, NoMemory, Overflow, Passed, Ready, Refused, Response, TapChange, TimedOut, is_accepted}
+pub use Rattle.dmx_calls.specs.Answer.{done_dropping, first_of, is_for_anybody, is_owned_by, most_bytes, open_response, read_response, read_terms, response_to, response_unless, timed_out_of}
+pub use Rattle.dmx_calls.specs.Facts.{ledger_at, rest_of, rest_of_item, unread_of}
+pub use Rattle.dmx_calls.specs.History.{History, Since, entry_of, event}
+pub use Rattle.dmx_calls.specs.Invocation.{AddPid, Attach, Detach, End, Pass, Poll, RemovePid, SetFilter, SetPes, Start, Stop}
+pub use Rattle.dmx_calls.specs.Ledger.{answered, answered_in, edge_of, is_overflow, over}
+pub use Rattle.dmx_calls.specs.Response.{Done, Passed, TapChange, is_accepted}
 pub use Rattle.dmx_calls.specs.Rules.{Rules, tells_timeout}
-pub use Rattle.dmx_calls.specs.Tenure.{Empty, Params, Pes, Section, tenure}
-pub use Rattle.dmx_calls.specs.declared.node.NodeKind.{NodeKind}
-pub use Rattle.dmx_calls.specs.declared.reply.Errno.{Errno}
+pub use Rattle.dmx_calls.specs.Tenure.{Pes, tenure}
 pub use Rattle.dmx_calls.specs.declared.reply.Errno.TheVariants.{Ebadf}
-pub use Rattle.dmx_calls.specs.declared.reply.PollError.{PollError}
 pub use Rattle.dmx_calls.specs.declared.reply.Tap.TheVariants.{Keep as KeepTap}
 pub use Rattle.node_buffer.specs.Causes.{Causes, ReadCauses, ReadCausesBy, TakesMemory, gives_bytes, gives_no_bytes}
+pub use Rattle.node_buffer.specs.Imports.{Again, Busy, Close, Data, Empty, Errno, Facts, Invocation, Ledger, Misfit, NoMemory, NodeKind, Open, Overflow, Params, PollError, Read, Ready, Refused, Response, Section, SetSize, TimedOut, answer_by, answered_of, expired_of, is_done, is_empty, is_section, keeps, refusal_to, response_of_read, section_length, takes_memory, timeout_of}
 pub use Rattle.node_buffer.specs.Inside.BufferView.{CaptureHolds, RingFits, ledger_of, misfit_of}
 pub use Rattle.node_buffer.specs.Inside.Capturing.{expiring, front_length, is_due, read_by, rest_with, terms_of, with_item, with_item_by, with_items, with_kept, with_lost, with_misfit, with_response}
 pub use Rattle.node_buffer.specs.Inside.Coherent.{Coherent, UnreadFits, total_of}
@@ -25,7 +21,7 @@ pub use Rattle.node_buffer.specs.Inside.Gives.{GivesBy, OrNoMemory, owner_refusa
 pub use Rattle.node_buffer.specs.declared.buffer.Capture.{Capture}
 pub use Rattle.node_buffer.specs.declared.buffer.Lost.{Lost}
 pub use Rattle.node_buffer.specs.declared.filter.Terms.{Terms}
-pub use Rattle.section_parse.specs.Sections.{IsSection, section_length}
+pub use Rattle.section_parse.specs.Sections.{IsSection}
 pub use Rattle.std.proofs.Common.{Bool, List, None, Option, Some, [], add-one, add-zero, add_assoc, ap, append_assoc, arith, bit_and, drop, false, get_or, inl, inr, length, length-append, length-drop, length-take, min, one-add, refl, rules, subst, suc, sym, take, true, zero, zero-add, ℕ, ◌*◌, ◌++◌, ◌+◌, ◌-◌, ◌<◌, ◌||◌, ◌∙◌, ◌∷◌, ◌≡◌, ◌≤◌}
 pub use Rattle.std.proofs.Math.Seq.{drop-append_seam, drop-nil, take-append-add}
 pub use Rattle.std.proofs.lemmas.Bool.{cases_lt}

@@ -1,3 +1,4 @@
+pub mod Imports
 pub mod Causes
 pub mod Ring
 pub mod Inside

@@ -1,11 +1,7 @@
 // A ring, and what is kept of the capture whose bytes it holds: its ledger, and what it keeps of its filter.
 
 ghost use Rattle.std.specs.Prelude.{[], ◌++◌, min, take, drop, ◌≡◌, ◌≤◌, ◌<◌, ◌+◌, ◌-◌, ◌^◌, length, Option, Some, None, option_map, IfOk, OnErr, if◌then◌else◌, nat_lt, slice_index, IfSome, is_some, not, ◌&&◌, false};
-ghost use Rattle.dmx_calls.specs.declared.limits.TheConstants.{SMALLEST_SIZE, LARGEST_SIZE};
-ghost use Rattle.dmx_calls.specs.Calls.{response_of};
-ghost use Rattle.dmx_calls.specs.Response.{Ready};
-ghost use Rattle.dmx_calls.specs.Tenure.{Empty};
-ghost use Rattle.dmx_calls.specs.Answer.{is_readable, pending, answered_of};
+ghost use Rattle.node_buffer.specs.Imports.{Empty, LARGEST_SIZE, Ready, SMALLEST_SIZE, answered_of, is_readable, pending, response_of};
 ghost use Rattle.node_buffer.specs.Inside.Capturing.{begun, terms_of as terms_by, is_due as due, expiring, state_by, with_item, with_stop, with_response, read_by, over_in, front_length as front_by};
 ghost use Rattle.node_buffer.specs.Inside.Coherent.{CoherentIn, total_of};
 ghost use Rattle.node_buffer.specs.Inside.BufferView.{misfit_of, ledger_of, pending_by, told_by};

@@ -7,38 +7,28 @@ pub use Rattle.dmx_calls.proofs.Ledgers.{any_more, edge_then, fresh, items-fresh
 pub use Rattle.dmx_calls.proofs.Nodes.{demux_keeps}
 pub use Rattle.dmx_calls.proofs.Reading.{read_each}
 pub use Rattle.dmx_calls.proofs.Unaccepted.{demux_same}
-pub use Rattle.dmx_calls.specs.Answer.{ReadTerms, answered_of, expired_of, is_owned_by, is_readable, is_section, most_bytes, pending, read_response, read_terms, refusal_to, response_to, with_call}
-pub use Rattle.dmx_calls.specs.Calls.{invocation_of, params_of, pids_of, response_of}
-pub use Rattle.dmx_calls.specs.Capture.{begins, capture, has_flag, is_stopped, stops}
-pub use Rattle.dmx_calls.specs.Facts.{Facts, Ledger, facts, has_had_its_section, ledger_at, ledger_of, rest_of, rest_of_item, state_of, state_of_filter, state_of_ledger, unread_of}
-pub use Rattle.dmx_calls.specs.History.{Entry, Event, History, Since, entry_of, event}
-pub use Rattle.dmx_calls.specs.Invocation.{AddPid, Attach, Close, Detach, End, Invocation, Open, Pass, Poll, Read, RemovePid, SetFilter, SetPes, SetSize, Start, Stop}
-pub use Rattle.dmx_calls.specs.Items.{clock_of, is_named, is_oneshot, is_same_input, item_of, items, offered, packets_in, packets_of, pes_items, selected, selects, timeout_of}
+pub use Rattle.dmx_calls.specs.Answer.{ReadTerms, answered_of, expired_of, is_owned_by, is_readable, most_bytes, pending, read_response, read_terms, refusal_to, with_call}
+pub use Rattle.dmx_calls.specs.Capture.{begins, is_stopped, stops}
+pub use Rattle.dmx_calls.specs.Facts.{ledger_at, ledger_of, rest_of, rest_of_item, state_of_ledger, unread_of}
+pub use Rattle.dmx_calls.specs.History.{event}
+pub use Rattle.dmx_calls.specs.Invocation.{Attach, Detach}
+pub use Rattle.dmx_calls.specs.Items.{clock_of, item_of, packets_of, pes_items, selected, selects}
 pub use Rattle.dmx_calls.specs.Ledger.{Misfit, answered, edge, edge_of, keeps, over}
-pub use Rattle.dmx_calls.specs.Legal.{May}
 pub use Rattle.dmx_calls.specs.Refusal.{add_refusal, is_allocated, is_pes}
-pub use Rattle.dmx_calls.specs.Response.{Again, Busy, Data, Done, NoMemory, Overflow, Passed, Ready, Refused, Response, TimedOut, is_accepted}
-pub use Rattle.dmx_calls.specs.Rules.{demux, expired}
-pub use Rattle.dmx_calls.specs.Tenure.{Empty, Params, Pes, Section, has_ended, is_end, owner, params, pids, setting, size, tenure}
-pub use Rattle.dmx_calls.specs.declared.limits.TheConstants.{IMMEDIATE_START}
-pub use Rattle.dmx_calls.specs.declared.node.NodeKind.TheVariants.{Demux}
+pub use Rattle.dmx_calls.specs.Response.{Again, Busy, Data, Done, NoMemory, Overflow, Ready, Refused, TimedOut}
+pub use Rattle.dmx_calls.specs.Rules.{expired}
+pub use Rattle.dmx_calls.specs.Tenure.{has_ended, is_end, owner, setting, size, tenure}
 pub use Rattle.dmx_calls.specs.declared.node.State.TheVariants.{Go}
-pub use Rattle.dmx_calls.specs.declared.params.Input.{Input}
-pub use Rattle.dmx_calls.specs.declared.params.Input.TheVariants.{Frontend}
-pub use Rattle.dmx_calls.specs.declared.params.Output.{Output}
-pub use Rattle.dmx_calls.specs.declared.params.Output.TheVariants.{Decoder, Tap, TsTap, TsdemuxTap}
 pub use Rattle.dmx_calls.specs.declared.params.Params.{Params as SetParams}
 pub use Rattle.dmx_calls.specs.declared.params.Params.TheVariants.{Empty as EmptySet, Pes as PesSet, Section as SectionSet}
 pub use Rattle.dmx_calls.specs.declared.params.PesParams.{PesParams}
 pub use Rattle.dmx_calls.specs.declared.params.SectionParams.{SectionParams}
 pub use Rattle.dmx_calls.specs.declared.reply.Errno.{Errno}
 pub use Rattle.dmx_calls.specs.declared.reply.Errno.TheVariants.{Ebadf, Einval}
-pub use Rattle.dmx_calls.specs.declared.reply.Tap.TheVariants.{Keep as KeepTap}
 pub use Rattle.item_select.proofs.Selected.{Selects-begun, all-selects, once-spent, spent-selects}
-pub use Rattle.item_select.specs.Items.{Choice, Packets, given_by}
-pub use Rattle.item_select.specs.Selecting.{Follows, Selecting, Selects, after_offer, all_given, begun as begun_selecting, bytes_held, is_once, items_found, kept_after}
+pub use Rattle.item_select.specs.Items.{given_by}
+pub use Rattle.item_select.specs.Selecting.{Follows, is_once}
 pub use Rattle.item_select.specs.declared.selector.Give.{Give}
-pub use Rattle.item_select.specs.declared.selector.Give.TheVariants.{Payload, Whole}
 pub use Rattle.lemmas.proofs.Lists.{all_front}
 pub use Rattle.node_buffer.proofs.Accepted.{dropping_accepted, read_accepted}
 pub use Rattle.node_buffer.proofs.Answering.{read_is}
@@ -50,11 +40,10 @@ pub use Rattle.node_buffer.proofs.ReadCausing.{Readable, expired_either, still_b
 pub use Rattle.node_buffer.proofs.Readings.{answered-expired, expired_at, then_answered, total-expired, total-read}
 pub use Rattle.node_buffer.proofs.Rests.{rest_before, rest_none, rest_read}
 pub use Rattle.node_buffer.proofs.Silences.{Silent, accepted_of, as_done, as_passed, as_ready, dropping, dropping_unless, nothing_of, quiet_of, untold_of}
-pub use Rattle.node_buffer.specs.Causes.{Causes}
-pub use Rattle.node_buffer.specs.Inside.Capturing.{expiring, front_length, is_due, read_by, rest_behind, terms_of, with_items, with_response, with_stop}
-pub use Rattle.node_buffer.specs.Inside.Coherent.{Coherent, CoherentIn, total_of}
-pub use Rattle.node_buffer.specs.Inside.Gives.{GivesBy, OrNoMemory}
+pub use Rattle.node_buffer.specs.Inside.Capturing.{expiring, front_length, is_due, read_by, rest_behind, terms_of, with_response, with_stop}
+pub use Rattle.node_buffer.specs.Inside.Coherent.{Coherent}
 pub use Rattle.node_buffer.specs.declared.filter.Terms.{Terms}
+pub use Rattle.node_core.specs.Imports.{AddPid, Causes, Choice, Close, CoherentIn, Decoder, Demux, Empty, End, Entry, Event, Facts, Frontend, GivesBy, History, IMMEDIATE_START, Input, Invocation, Keep as KeepTap, Ledger, May, Open, OrNoMemory, Output, Packets, Params, Pass, Passed, Payload, Pes, Poll, Read, RemovePid, Response, Section, Selecting, Selects, SetFilter, SetPes, SetSize, Since, Start, Stop, Tap, TsTap, TsdemuxTap, Whole, after_offer, all_given, begun as begun_selecting, bytes_held, capture, demux, entry_of, facts, has_flag, has_had_its_section, invocation_of, is_accepted, is_named, is_oneshot, is_same_input, is_section, items, items_found, kept_after, offered, packets_in, params, params_of, pids, pids_of, response_of, response_to, state_of, state_of_filter, timeout_of, total_of, with_items, with_pid, without_pid}
 pub use Rattle.node_core.specs.Inside.CoreView.{core_view}
 pub use Rattle.node_core.specs.Inside.Gives.{Gives, settled}
 pub use Rattle.node_core.specs.Inside.KeptView.{knows_in, knows_of, reply_to}
@@ -64,7 +53,6 @@ pub use Rattle.node_core.specs.Offers.{HasSelected, choice_by, choice_of, input_
 pub use Rattle.node_core.specs.Stands.{CoreValue, StandsFor}
 pub use Rattle.node_core.specs.declared.kept.Kept.{Kept}
 pub use Rattle.node_core.specs.declared.tenure.Tenure.{Tenure}
-pub use Rattle.pid_set.specs.Pids.{with_pid, without_pid}
 pub use Rattle.pid_set.specs.declared.set.TheConstants.{ALL_PACKETS}
 pub use Rattle.section_parse.proofs.WholeLists.{are_whole}
 pub use Rattle.section_parse.specs.Inside.Keeping.{Assembly, cleared, joins_last, longer, opened, repeats_last, taken}

@@ -1,3 +1,4 @@
+pub mod Imports
 pub mod Offers
 pub mod Looks
 pub mod Stands

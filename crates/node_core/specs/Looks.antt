@@ -1,8 +1,6 @@
 -- Which packets of a call a node looks at.
 use Rattle.std.specs.Prelude.{ℕ, count_by}
-use Rattle.dmx_calls.specs.Invocation.{Invocation, Pass}
-use Rattle.dmx_calls.specs.Items.{is_named}
-use Rattle.dmx_calls.specs.Facts.{Facts}
+use Rattle.node_core.specs.Imports.{Facts, Invocation, Pass, is_named}
 
 -- how many packets of a call the node's PIDs name; only a Pass has any
 abbrev pub named_packets : Facts → Invocation → ℕ

@@ -1,17 +1,6 @@
 -- What a node's history offers to its selector.
 use Rattle.std.specs.Prelude.{ℕ, ◌≡◌, Bool, true, List, [], ◌∷◌, ◌++◌, filter, Some}
-use Rattle.dmx_calls.specs.declared.params.Input.{Input}
-use Rattle.dmx_calls.specs.declared.params.Input.TheVariants.{Frontend}
-use Rattle.dmx_calls.specs.declared.params.Output.{Output}
-use Rattle.dmx_calls.specs.declared.params.Output.TheVariants.{Decoder, Tap, TsTap, TsdemuxTap}
-use Rattle.dmx_calls.specs.declared.limits.TheConstants.{CHECK_CRC}
-use Rattle.dmx_calls.specs.History.{Event, History, Since}
-use Rattle.dmx_calls.specs.Tenure.{Params, Empty, Section, Pes, params, pids}
-use Rattle.dmx_calls.specs.Capture.{has_flag, capture}
-use Rattle.dmx_calls.specs.Items.{is_oneshot, is_named, packets_in, offered, items}
-use Rattle.item_select.specs.declared.selector.Give.TheVariants.{Payload, Whole}
-use Rattle.item_select.specs.Items.{Choice, Nothing, Sections, Packets}
-use Rattle.item_select.specs.Selecting.{Selecting, Selects}
+use Rattle.node_core.specs.Imports.{CHECK_CRC, Choice, Decoder, Empty, Event, Frontend, History, Input, Nothing, Output, Packets, Params, Payload, Pes, Section, Sections, Selecting, Selects, Since, Tap, TsTap, TsdemuxTap, Whole, capture, has_flag, is_named, is_oneshot, items, offered, packets_in, params, pids}
 
 -- what a filter of this output selects for the demux node
 abbrev pub choice_by : Output → Choice

@@ -1,10 +1,6 @@
 -- What it means that a node stands for a history.
 use Rattle.std.specs.Prelude.{ℕ, ◌≡◌, length}
-use Rattle.dmx_calls.specs.History.{History}
-use Rattle.dmx_calls.specs.Rules.{demux}
-use Rattle.dmx_calls.specs.Facts.{Facts, facts}
-use Rattle.dmx_calls.specs.Legal.{IsLegal}
-use Rattle.item_select.specs.Selecting.{Selecting}
+use Rattle.node_core.specs.Imports.{Facts, History, IsLegal, Selecting, demux, facts}
 use Rattle.node_core.specs.Offers.{HasSelected}
 
 -- what a contract sees of a demux node: its number, how many calls were made on it, what its history says to the

@@ -1,10 +1,7 @@
 // A node's filter: which packets it takes, and what its selector is to select.
 
 ghost use Rattle.std.specs.Prelude.{◌≡◌};
-ghost use Rattle.dmx_calls.specs.Calls.{params_of};
-ghost use Rattle.dmx_calls.specs.Capture.{has_flag};
-ghost use Rattle.dmx_calls.specs.Items.{is_same_input};
-ghost use Rattle.item_select.specs.Selecting.{begun};
+ghost use Rattle.node_core.specs.Imports.{begun, has_flag, is_same_input, params_of};
 ghost use Rattle.node_core.specs.Offers.{choice_of, input_of};
 
 use dmx_calls::limits::{CHECK_CRC, IMMEDIATE_START};

@@ -4,14 +4,7 @@
 // what holds of it, and `bytes` bounds the bytes of its capture. Pass and End don't look at their caller, so 0 stands for it.
 
 ghost use Rattle.std.specs.Prelude.{◌≡◌, ◌≢◌, ◌≤◌, ◌<◌, ◌+◌, ◌^◌, false};
-ghost use Rattle.dmx_calls.specs.declared.node.NodeKind.TheVariants.{Demux};
-ghost use Rattle.dmx_calls.specs.Invocation.{Open, Close, Pass, End};
-ghost use Rattle.dmx_calls.specs.Response.{Passed};
-ghost use Rattle.dmx_calls.specs.Facts.{state_of};
-ghost use Rattle.dmx_calls.specs.Answer.{is_for_anybody};
-ghost use Rattle.dmx_calls.specs.Calls.{invocation_of, response_of};
-ghost use Rattle.dmx_calls.specs.Back.{GivesBack};
-ghost use Rattle.node_buffer.specs.Inside.Gives.{is_close};
+ghost use Rattle.node_core.specs.Imports.{Close, Demux, End, GivesBack, Open, Pass, Passed, invocation_of, is_close, is_for_anybody, response_of, state_of};
 ghost use Rattle.node_core.specs.Looks.{named_packets};
 ghost use Rattle.node_core.specs.Inside.Sound.{IsSound};
 ghost use Rattle.node_core.specs.Inside.Gives.{Gives};

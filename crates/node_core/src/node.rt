@@ -1,17 +1,7 @@
 // A demux node, its one call, and the call of its feeder alone.
 
 ghost use Rattle.std.specs.Prelude.{◌≡◌, ◌≢◌, ◌≤◌, ◌<◌, ◌+◌, ◌^◌, ◌∷◌, [], false};
-ghost use Rattle.dmx_calls.specs.declared.node.NodeKind.TheVariants.{Demux};
-ghost use Rattle.dmx_calls.specs.declared.limits.TheConstants.{DEMUX_NODES};
-ghost use Rattle.dmx_calls.specs.History.{History, entry_of};
-ghost use Rattle.dmx_calls.specs.Invocation.{Pass};
-ghost use Rattle.dmx_calls.specs.Response.{Passed, is_accepted};
-ghost use Rattle.dmx_calls.specs.Rules.{demux};
-ghost use Rattle.dmx_calls.specs.Facts.{state_of};
-ghost use Rattle.dmx_calls.specs.Legal.{May};
-ghost use Rattle.dmx_calls.specs.Calls.{invocation_of, response_of};
-ghost use Rattle.dmx_calls.specs.Back.{GivesBack};
-ghost use Rattle.node_buffer.specs.Causes.{Causes};
+ghost use Rattle.node_core.specs.Imports.{Causes, DEMUX_NODES, Demux, GivesBack, History, May, Pass, Passed, demux, entry_of, invocation_of, is_accepted, response_of, state_of};
 ghost use Rattle.node_core.specs.Looks.{named_packets};
 ghost use Rattle.node_core.specs.Inside.Sound.{IsSound};
 ghost use Rattle.node_core.specs.Inside.Gives.{Gives};

@@ -4,17 +4,8 @@
 // a stream that has ended and for one that hasn't.
 
 ghost use Rattle.std.specs.Prelude.{◌≡◌, ◌≤◌, [], Bool, true, false, IfOk, Some, None, if◌then◌else◌};
-ghost use Rattle.dmx_calls.specs.declared.node.NodeKind.TheVariants.{Demux};
-ghost use Rattle.dmx_calls.specs.declared.limits.TheConstants.{DEMUX_SIZE, IMMEDIATE_START};
-ghost use Rattle.dmx_calls.specs.Invocation.{Close, SetFilter, SetPes, AddPid, RemovePid, Start, Stop, SetSize, Read, Poll};
-ghost use Rattle.dmx_calls.specs.Capture.{has_flag};
-ghost use Rattle.dmx_calls.specs.Facts.{state_of_filter};
-ghost use Rattle.dmx_calls.specs.Answer.{is_for_anybody, done_dropping};
-ghost use Rattle.dmx_calls.specs.Calls.{invocation_of, response_of, params_of, pids_of};
-ghost use Rattle.dmx_calls.specs.Back.{GivesBack};
-ghost use Rattle.item_select.specs.Selecting.{begun as begun_selecting};
+ghost use Rattle.node_core.specs.Imports.{AddPid, Close, DEMUX_SIZE, Demux, GivesBack, IMMEDIATE_START, Poll, Read, RemovePid, SetFilter, SetPes, SetSize, Start, Stop, begun as begun_selecting, done_dropping, has_flag, invocation_of, is_close, is_for_anybody, owner_refusal, params_of, pids_of, response_of, state_of_filter};
 ghost use Rattle.node_buffer.specs.Inside.Capturing.{terms_of as terms_by, begun};
-ghost use Rattle.node_buffer.specs.Inside.Gives.{owner_refusal, is_close};
 ghost use Rattle.node_core.specs.Offers.{choice_of};
 ghost use Rattle.node_core.specs.Inside.Gives.{Gives};
 ghost use Rattle.node_core.specs.Inside.Sound.{HasFewPids};

@@ -1,10 +1,7 @@
 -- The dvr node. Caller 1 is its owner; taps are attached by callers 1 and 2.
 use Rattle.std.specs.Prelude.{[], ◌∷◌, false}
-use Rattle.dmx_calls.specs.Invocation.{Read, Attach, Detach}
-use Rattle.dmx_calls.specs.Response.{Data, Again}
-use Rattle.dmx_calls.specs.Rules.{dvr}
+use Rattle.node_examples.specs.Imports.{Again, Attach, Data, Detach, Plays, Read, dvr}
 use Rattle.node_examples.specs.Words.{opened, client_0, client_1, fed, done, packet}
-use Rattle.node_laws.specs.Plays.{Plays}
 
 -- a late Detach of a former owner doesn't touch the newer tap
 abbrev pub TwoOwnersInTurn : Type 0

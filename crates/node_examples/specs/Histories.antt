@@ -1,13 +1,7 @@
 -- Histories that are made of the feeder's calls and the clients' entries.
 use Rattle.std.specs.Prelude.{ℕ, ◌≡◌, List, [], ◌∷◌}
-use Rattle.dmx_calls.specs.declared.histories.Fed.{Fed}
-use Rattle.dmx_calls.specs.declared.params.Input.TheVariants.{Frontend}
-use Rattle.dmx_calls.specs.declared.reply.Tap.TheVariants.{Keep as KeepTap}
-use Rattle.dmx_calls.specs.Response.{Response, Done, Data, Passed}
-use Rattle.dmx_calls.specs.declared.log.Act.{Act}
+use Rattle.node_examples.specs.Imports.{Act, Data, Done, Fed, Frontend, Keep as KeepTap, LogEntry, Passed, Response, feeder_acts, woven}
 use Rattle.dmx_calls.specs.declared.log.Act.TheVariants.{Open as OpenAct, Read as ReadAct, Pass as PassAct, End as EndAct}
-use Rattle.dmx_calls.specs.Log.{LogEntry}
-use Rattle.dmx_calls.specs.Histories.{feeder_acts, woven}
 
 -- two batches pass, of 64 packets and of 1
 abbrev pub two_batches : List Fed

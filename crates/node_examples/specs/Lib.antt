@@ -1,3 +1,4 @@
+pub mod Imports
 pub mod Words
 pub mod Overflows
 pub mod Timeouts

@@ -1,16 +1,7 @@
 -- Overflows. A buffer of size n holds n - 1 bytes.
 use Rattle.std.specs.Prelude.{[], ◌∷◌, ◌≡◌, length, Some, None, option_map, false}
-use Rattle.dmx_calls.specs.History.{History}
-use Rattle.dmx_calls.specs.Capture.{capture}
-use Rattle.dmx_calls.specs.Items.{items}
-use Rattle.dmx_calls.specs.Ledger.{total, answered, over}
-use Rattle.dmx_calls.specs.Answer.{answer}
-use Rattle.dmx_calls.specs.declared.params.Output.TheVariants.{TsdemuxTap}
-use Rattle.dmx_calls.specs.Invocation.{Start, SetSize, Read}
-use Rattle.dmx_calls.specs.Response.{Again, Overflow}
-use Rattle.dmx_calls.specs.Rules.{demux}
+use Rattle.node_examples.specs.Imports.{Again, History, Overflow, Plays, Read, SetSize, Start, TsdemuxTap, answer, answered, capture, demux, items, over, total}
 use Rattle.node_examples.specs.Words.{opened, client_0, fed, done, pes, packet}
-use Rattle.node_laws.specs.Plays.{Plays}
 
 abbrev pub ItemLargerThanTheRing : Type 0
 ItemLargerThanTheRing = Plays demux (

@@ -1,19 +1,8 @@
 -- Every call in every state, and every refusal.
 use Rattle.std.specs.Prelude.{ℕ, ◌≡◌, List, [], ◌∷◌, ◌++◌, map, replicate, reverse, true, false}
-use Rattle.std.specs.List.{range_with_len}
-use Rattle.dmx_calls.specs.declared.node.State.{State}
+use Rattle.node_examples.specs.Imports.{AddPid, Again, Attach, Busy, Close, Data, Decoder, Detach, Done, Ebadf, Ebusy, Einval, End, Enospc, Frontend, History, Invocation, Keep as KeepTap, Open, Pass, Passed, Poll, Read, Ready, Refused, RemovePid, Response, SetSize, Start, State, Stop, Tap, TimedOut, TsdemuxTap, answer, demux, dvr, entry_of, facts, range_with_len, state_of}
 use Rattle.dmx_calls.specs.declared.node.State.TheVariants.{Free, Allocated, Set, Go, Done as IsDone, TimedOut as IsTimedOut}
-use Rattle.dmx_calls.specs.declared.params.Input.TheVariants.{Frontend}
-use Rattle.dmx_calls.specs.declared.params.Output.TheVariants.{Decoder, Tap, TsdemuxTap}
-use Rattle.dmx_calls.specs.declared.reply.Errno.TheVariants.{Ebadf, Ebusy, Einval, Enospc}
 use Rattle.dmx_calls.specs.declared.reply.PollError.TheVariants.{Quiet, TimedOut as TimeoutPending}
-use Rattle.dmx_calls.specs.Invocation.{Invocation, Open, Close, AddPid, RemovePid, Start, Stop, SetSize, Read, Poll, Pass, End, Attach, Detach}
-use Rattle.dmx_calls.specs.declared.reply.Tap.TheVariants.{Keep as KeepTap}
-use Rattle.dmx_calls.specs.Response.{Response, Done, Busy, Refused, Data, Again, TimedOut, Ready, Passed}
-use Rattle.dmx_calls.specs.History.{History, entry_of}
-use Rattle.dmx_calls.specs.Rules.{demux, dvr}
-use Rattle.dmx_calls.specs.Facts.{facts, state_of}
-use Rattle.dmx_calls.specs.Answer.{answer}
 use Rattle.node_examples.specs.Words.{opened, client_0, fed_at, done, pes, pes_with, section, packet, unit_packet, section_a}
 
 -- ------ one line a call, one column a state

@@ -1,11 +1,7 @@
 -- Timeouts of section filters.
 use Rattle.std.specs.Prelude.{◌-◌, ◌^◌, [], ◌∷◌, false}
-use Rattle.dmx_calls.specs.declared.reply.Errno.TheVariants.{Ebadf}
-use Rattle.dmx_calls.specs.Invocation.{Start, Stop, Read}
-use Rattle.dmx_calls.specs.Response.{Refused, Again}
-use Rattle.dmx_calls.specs.Rules.{demux}
+use Rattle.node_examples.specs.Imports.{Again, Ebadf, Plays, Read, Refused, Start, Stop, demux}
 use Rattle.node_examples.specs.Words.{opened, client_0, client_1, done, section}
-use Rattle.node_laws.specs.Plays.{Plays}
 
 -- a refused call's moment counts for nothing, and so does a moment after Stop
 abbrev pub NotExpired : Type 0

@@ -1,11 +1,6 @@
 -- The words of the worked examples.
 use Rattle.std.specs.Prelude.{ℕ, ◌+◌, ◌-◌, ◌/◌, ◌%◌, List, [], ◌∷◌, ◌++◌, length, replicate, set}
-use Rattle.dmx_calls.specs.declared.params.Input.TheVariants.{Frontend}
-use Rattle.dmx_calls.specs.declared.params.Output.{Output}
-use Rattle.dmx_calls.specs.Invocation.{Invocation, Open, SetFilter, SetPes, Pass}
-use Rattle.dmx_calls.specs.declared.reply.Tap.TheVariants.{Keep as KeepTap}
-use Rattle.dmx_calls.specs.Response.{Response, Done, Passed}
-use Rattle.dmx_calls.specs.History.{Entry, entry_of}
+use Rattle.node_examples.specs.Imports.{Done, Entry, Frontend, Invocation, Keep as KeepTap, Open, Output, Pass, Passed, Response, SetFilter, SetPes, entry_of}
 
 -- ------ callers
 

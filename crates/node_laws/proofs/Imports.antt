@@ -3,17 +3,16 @@ pub use Rattle.dmx_calls.proofs.Going.{begun, more, owner_after, owner_some, ten
 pub use Rattle.dmx_calls.proofs.Ledgers.{answered_more, edge_cleared, joined_more, over_cleared, over_more, total_more}
 pub use Rattle.dmx_calls.proofs.Nodes.{Goes, Keeps, anew, demux_keeps, dvr_keeps, gone, onward}
 pub use Rattle.dmx_calls.proofs.Reading.{read_each}
-pub use Rattle.dmx_calls.specs.Accounted.{AllFit, DropsRest, Fits, IsAccounted}
-pub use Rattle.dmx_calls.specs.Answer.{ReadTerms, answer, done_dropping, expired_of, is_for_anybody, is_owned_by, most_bytes, open_response, read_terms, refusal_to, response_of_read, response_to, response_unless, with_call}
+pub use Rattle.dmx_calls.specs.Accounted.{AllFit, DropsRest, Fits}
+pub use Rattle.dmx_calls.specs.Answer.{ReadTerms, done_dropping, expired_of, is_for_anybody, is_owned_by, most_bytes, open_response, read_terms, refusal_to, response_of_read, response_to, response_unless, with_call}
 pub use Rattle.dmx_calls.specs.Capture.{capture, dvr_capture, started, stops, unstopped}
 pub use Rattle.dmx_calls.specs.Facts.{Facts, Ledger, facts, ledger_at, ledger_of, unread_of}
-pub use Rattle.dmx_calls.specs.History.{Entry, Event, History, Since, after_of, brought_by, entry_of, event, is_empty}
-pub use Rattle.dmx_calls.specs.Invocation.{AddPid, Attach, Close, Detach, End, Invocation, Open, Pass, Poll, Read, RemovePid, SetFilter, SetPes, SetSize, Start, Stop, brought}
+pub use Rattle.dmx_calls.specs.History.{Event, after_of, entry_of, is_empty}
+pub use Rattle.dmx_calls.specs.Invocation.{AddPid, Attach, Close, Detach, End, Invocation, Open, Pass, Poll, RemovePid, SetFilter, SetPes, SetSize, Start, Stop, brought}
 pub use Rattle.dmx_calls.specs.Items.{Expiry, clock_of, expiry_at, expiry_in, is_named, is_oneshot, is_same_input, item_of, offered_of, packets_in, packets_of, pes_items, picked, selected, selects, timeout_of}
-pub use Rattle.dmx_calls.specs.Ledger.{Misfit, answered, answered_in, edge, edge_of, is_overflow, joined, keeps, misfit, misfit_at, over_in, total}
-pub use Rattle.dmx_calls.specs.Legal.{IsLegalFor, May, is_done}
-pub use Rattle.dmx_calls.specs.Response.{Again, Busy, Data, Done, NoMemory, Overflow, Passed, Ready, Refused, Response, TapChange, TimedOut, is_accepted}
-pub use Rattle.dmx_calls.specs.Rules.{Rules, demux, dvr}
+pub use Rattle.dmx_calls.specs.Ledger.{edge, edge_of, is_overflow, joined, keeps, misfit, misfit_at, over_in}
+pub use Rattle.dmx_calls.specs.Legal.{is_done}
+pub use Rattle.dmx_calls.specs.Response.{Again, Busy, Data, Done, NoMemory, Overflow, Passed, Ready, TapChange, TimedOut, is_accepted}
 pub use Rattle.dmx_calls.specs.Taps.{is_tapped, tapped}
 pub use Rattle.dmx_calls.specs.Tenure.{Empty, Params, Pes, Section, closes, opens, params, pids, tenure}
 pub use Rattle.dmx_calls.specs.declared.params.Input.{Input}
@@ -23,10 +22,10 @@ pub use Rattle.dmx_calls.specs.declared.params.Output.TheVariants.{Decoder, Tap,
 pub use Rattle.dmx_calls.specs.declared.params.PesParams.{PesParams}
 pub use Rattle.dmx_calls.specs.declared.params.SectionParams.{SectionParams}
 pub use Rattle.dmx_calls.specs.declared.reply.Errno.{Errno}
-pub use Rattle.dmx_calls.specs.declared.reply.Errno.TheVariants.{Ebadf}
 pub use Rattle.dmx_calls.specs.declared.reply.Tap.TheVariants.{Keep as KeepTap}
 pub use Rattle.lemmas.proofs.Lists.{all_behind, all_front}
 pub use Rattle.node_laws.specs.Bytes.{AnswersFitThePackets, OverflowNamesAByte, bytes_answered}
+pub use Rattle.node_laws.specs.Imports.{All, Ebadf, Entry, History, IsAccounted, IsLegalFor, IsPacket, May, Misfit, Read, Refused, Response, Rules, Since, answer, answered, answered_in, brought_by, demux, dvr, event, total}
 pub use Rattle.node_laws.specs.Laws.{ItemsOnlyGrow, LegalIsAccounted, OverflowNeedsMore, PlayedIsLegal}
 pub use Rattle.node_laws.specs.Owning.{AreOthers, HasRead, OthersDoNotRead, OthersLeaveTheOwner, ReadersCallBetween}
 pub use Rattle.node_laws.specs.Plays.{answers}
@@ -39,8 +38,8 @@ pub use Rattle.std.proofs.lemmas.List.{append-nil, drop-append-le, reverse-appen
 pub use Rattle.std.proofs.lemmas.List.Elements.{All-append, All-filter, All-head, All-tail}
 pub use Rattle.std.proofs.lemmas.List.Folds.{concat-append}
 pub use Rattle.std.proofs.lemmas.List.Sums.{sum_by-cons}
-pub use Rattle.std.specs.List.{All, concat, list_any}
+pub use Rattle.std.specs.List.{concat, list_any}
 pub use Rattle.std.specs.Option.{IfSome, MatchOption, option_or}
 pub use Rattle.std.specs.Prelude.{filter, filter_map, if◌then◌else◌, is_some, nat_eq, nat_le, nat_lt, option_map, sum_by, ◌≢◌}
-pub use Rattle.ts_packet.specs.Fields.{IsPacket, has_payload, payload_start}
+pub use Rattle.ts_packet.specs.Fields.{has_payload, payload_start}
 pub use native.Mathlib.Decide.{dec_le}

@@ -1,11 +1,6 @@
 -- How many bytes a node answers, beside the packets that its passes bring.
 use Rattle.std.specs.Prelude.{ℕ, ◌≡◌, ◌+◌, ◌*◌, ◌<◌, ◌≤◌, Some, [], ◌∷◌, length}
-use Rattle.std.specs.List.{All}
-use Rattle.ts_packet.specs.Fields.{IsPacket}
-use Rattle.dmx_calls.specs.History.{History, event, brought_by}
-use Rattle.dmx_calls.specs.Rules.{Rules}
-use Rattle.dmx_calls.specs.Ledger.{Misfit, answered_in, answered, total, over}
-use Rattle.dmx_calls.specs.Legal.{IsLegalFor}
+use Rattle.node_laws.specs.Imports.{All, History, IsLegalFor, IsPacket, Misfit, Rules, answered, answered_in, brought_by, event, over, total}
 
 -- the bytes that the responses of a history give or name as lost
 abbrev pub bytes_answered : History → ℕ

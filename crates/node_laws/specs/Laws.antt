@@ -1,10 +1,6 @@
 -- Laws of histories.
 use Rattle.std.specs.Prelude.{ℕ, ◌<◌, ◌≡◌, List, ◌++◌, reverse, Some}
-use Rattle.dmx_calls.specs.History.{Entry, History, Since}
-use Rattle.dmx_calls.specs.Rules.{Rules}
-use Rattle.dmx_calls.specs.Ledger.{Misfit, over}
-use Rattle.dmx_calls.specs.Legal.{IsLegalFor}
-use Rattle.dmx_calls.specs.Accounted.{IsAccounted}
+use Rattle.node_laws.specs.Imports.{Entry, History, IsAccounted, IsLegalFor, Misfit, Rules, Since, over}
 use Rattle.node_laws.specs.Plays.{Plays}
 
 -- Each byte of each capture of a legal history is given, named as lost or named as dropped, in its place.

@@ -1,3 +1,4 @@
+pub mod Imports
 pub mod Bytes
 pub mod Laws
 pub mod Owning

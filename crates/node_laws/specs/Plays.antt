@@ -1,9 +1,6 @@
 -- Histories whose replies are those that the definitions give.
 use Rattle.std.specs.Prelude.{◌≡◌, List, [], ◌∷◌, map}
-use Rattle.dmx_calls.specs.Response.{Response}
-use Rattle.dmx_calls.specs.History.{Entry, History}
-use Rattle.dmx_calls.specs.Rules.{Rules}
-use Rattle.dmx_calls.specs.Answer.{answer}
+use Rattle.node_laws.specs.Imports.{Entry, History, Response, Rules, answer}
 
 -- the answers to the calls of these entries, the oldest first, each after the entries before it
 abbrev pub answers : Rules → History → List Entry → List Response

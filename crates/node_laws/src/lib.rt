@@ -13,11 +13,9 @@
 //! No code of the crate runs, so nothing of it is tested. All of it is this project's own.
 #![tactic(auto)]
 
-ghost use Rattle.dmx_calls.specs.Rules.{Rules, demux, dvr};
+ghost use Rattle.node_laws.specs.Imports.{FilledIsTheCall, PassesGoBy, Rules, UnacceptedChangesNothing, demux, dvr};
 ghost use Rattle.node_laws.specs.Owning.{OthersLeaveTheOwner, OthersDoNotRead, ReadersCallBetween};
 ghost use Rattle.node_laws.specs.Bytes.{AnswersFitThePackets, OverflowNamesAByte};
-ghost use Rattle.dmx_calls.specs.Log.{FilledIsTheCall};
-ghost use Rattle.dmx_calls.specs.Laws.{UnacceptedChangesNothing, PassesGoBy};
 ghost use Rattle.node_laws.specs.Laws.{LegalIsAccounted, PlayedIsLegal, ItemsOnlyGrow, OverflowNeedsMore};
 
 /// Each byte of each capture of a legal history is given, named as lost or named as dropped, in its place.

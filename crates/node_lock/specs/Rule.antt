@@ -2,15 +2,11 @@
 -- 1 the entries made. The one slot has the machine, or nothing. The list H, here `log`, is the history. A seat that was
 -- joined into another has the stage Spent, no ticket, no number and no call.
 use Rattle.std.specs.Prelude.{◌≡◌, ℕ, ◌+◌, ◌^◌, ◌<◌, ◌≤◌, List, [], ◌∷◌, length, Option, Some, None}
-use mathlib.Core.List.{IsPrefix}
-use mathlib.Core.Option.{none, some}
+use Rattle.node_lock.specs.Imports.{Has, IsPrefix, State, get_elem?, none, some}
 use mathlib.Core.Option as maybe
-use lib.ListN.{get_elem?}
-use Rattle.atomic_table.specs.Table.{State}
 use Rattle.node_lock.specs.declared.view.Stage.TheVariants.{Turn}
 use Rattle.node_lock.specs.declared.view.Miss.{Miss}
 use Rattle.node_lock.specs.declared.view.View.{View}
-use Rattle.lemmas.specs.Lists.{Has}
 use Rattle.node_lock.specs.Inside.Lists.{Once}
 use Rattle.node_lock.specs.Inside.Seats.{IsLive, HasTicket, out_of, calls_of, lefts}
 use Rattle.node_lock.specs.Passes.{Stands, KeptBegins}

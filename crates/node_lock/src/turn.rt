@@ -1,7 +1,6 @@
 //! The single steps of a seat, the wait for its turn, and the call that it makes then.
 ghost use Rattle.std.specs.Prelude.{◌≡◌, ℕ, ◌+◌, ◌<◌, ◌≤◌, ◌^◌, List, [], ◌∷◌, ◌++◌, length, Some, true, false, Option};
-ghost use mathlib.Core.Option.{none};
-ghost use Rattle.atomic_table.specs.Table.{step};
+ghost use Rattle.node_lock.specs.Imports.{none, step};
 ghost use Rattle.node_lock.specs.declared.view.Stage.TheVariants.{Free, Drawn, Turn};
 ghost use Rattle.node_lock.specs.Inside.Kinds.{drew, made, TellsDone, GetsTurn, Waits, GotTurn, Sees, TellsTry, TellsCalls};
 ghost use Rattle.node_lock.specs.Passes.{KnowsItsCalls};

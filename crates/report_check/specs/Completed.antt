@@ -1,16 +1,7 @@
 -- The histories of all nodes that a report stands for (this project's own). A report shows the nodes that a client called; on
 -- each other node the feeder was alone.
 use Rattle.std.specs.Prelude.{ℕ, zero, suc, ◌+◌, ◌-◌, List, [], ◌∷◌, filter, nat_eq, nat_lt, min, if◌then◌else◌}
-use Rattle.std.specs.List.{list_any}
-use Rattle.dmx_calls.specs.declared.limits.TheConstants.{DEMUX_NODES}
-use Rattle.dmx_calls.specs.declared.outcome.Outcome.{Outcome}
-use Rattle.dmx_calls.specs.declared.params.Input.TheVariants.{Frontend}
-use Rattle.dmx_calls.specs.declared.log.Act.TheVariants.{Pass as PassAct, End as EndAct}
-use Rattle.dmx_calls.specs.Histories.{feeder_entry}
-use Rattle.dmx_calls.specs.Log.{LogEntry}
-use Rattle.ts_watch.specs.Head.{StreamHead}
-use Rattle.report_text.specs.Entries.{is_of_client}
-use Rattle.report_text.specs.Told.{ToldNode, Told}
+use Rattle.report_check.specs.Imports.{DEMUX_NODES, End as EndAct, Frontend, LogEntry, Outcome, Pass as PassAct, StreamHead, Told, ToldNode, feeder_entry, is_of_client, list_any}
 
 -- ------ from histories to a report
 

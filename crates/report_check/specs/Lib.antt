@@ -1,3 +1,4 @@
+pub mod Imports
 pub mod Playing
 pub mod WalkLaws
 pub mod Walk

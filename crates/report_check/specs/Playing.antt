@@ -1,19 +1,6 @@
 -- What it means to play a told history on a machine (this project's own).
 use Rattle.std.specs.Prelude.{ℕ, ◌≡◌, ◌<◌, ◌≤◌, ◌+◌, ◌^◌, List, [], length, map, reverse, slice_index_or}
-use Rattle.std.specs.List.{All}
-use Rattle.ts_packet.specs.Fields.{IsPacket}
-use Rattle.dmx_calls.specs.declared.params.Input.{Input}
-use Rattle.dmx_calls.specs.declared.params.Input.TheVariants.{Frontend, Dvr}
-use Rattle.dmx_calls.specs.declared.call.Call.{Call}
-use Rattle.dmx_calls.specs.declared.reply.Answer.{Answer}
-use Rattle.dmx_calls.specs.declared.limits.TheConstants.{LARGEST_READ}
-use Rattle.dmx_calls.specs.declared.log.Act.{Act}
-use Rattle.dmx_calls.specs.declared.log.Act.TheVariants.{Read as ReadAct, Pass as PassAct}
-use Rattle.dmx_calls.specs.Entries.{told}
-use Rattle.dmx_calls.specs.History.{Entry}
-use Rattle.dmx_calls.specs.Legal.{IsLegalFor}
-use Rattle.dmx_calls.specs.Log.{LogEntry, Sources, filled_entry}
-use Rattle.dmx_calls.specs.Rules.{Rules}
+use Rattle.report_check.specs.Imports.{Act, All, Answer, Call, Dvr, Entry, Frontend, Input, IsLegalFor, IsPacket, LARGEST_READ, LogEntry, Pass as PassAct, Read as ReadAct, Rules, Sources, filled_entry, told}
 
 -- the packets of which a caller's passes bring some: those of the stream, for the front end, and those that the caller plays, by
 -- its number, for the dvr

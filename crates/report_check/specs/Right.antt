@@ -1,15 +1,6 @@
 -- Which reports are right for a script and a stream: those of a run of the script over the stream's packets (this project's own).
 use Rattle.std.specs.Prelude.{◌≡◌, ◌<◌, ℕ, List, length, slice_get, Some}
-use Rattle.dmx_calls.specs.declared.outcome.Outcome.{Outcome}
-use Rattle.dmx_calls.specs.Log.{LogEntry}
-use Rattle.ts_watch.specs.Head.{StreamHead}
-use Rattle.client_script.specs.Script.{clients_in, Scripted}
-use Rattle.client_core.specs.Outcomes.{outcomes}
-use Rattle.script_run.specs.IsRun.{IsRun, replies}
-use Rattle.report_text.specs.Report.{report_of}
-use Rattle.report_text.specs.Told.{Told}
-use Rattle.report_read.specs.Ranges.{IsInRange}
-use Rattle.report_read.specs.Report.{IsReport}
+use Rattle.report_check.specs.Imports.{IsInRange, IsReport, IsRun, LogEntry, Outcome, Scripted, StreamHead, Told, clients_in, outcomes, replies, report_of}
 use Rattle.report_check.specs.Completed.{told_by, completed}
 
 -- the histories are those of a run in batches of at most 64 packets, and `told` is what became of each client's commands in it,

@@ -1,13 +1,6 @@
 -- Laws of what a report tells.
 use Rattle.std.specs.Prelude.{◌≡◌, ℕ, true, List, [], ◌∷◌, length}
-use Rattle.dmx_calls.specs.declared.outcome.Outcome.{Outcome}
-use Rattle.dmx_calls.specs.Log.{LogEntry}
-use Rattle.ts_watch.specs.Head.{StreamHead}
-use Rattle.client_script.specs.Script.{Scripted}
-use Rattle.script_run.specs.IsRun.{IsRun}
-use Rattle.report_text.specs.Report.{report_of}
-use Rattle.report_text.specs.Told.{ToldNode, text_of}
-use Rattle.report_read.specs.Report.{are_rows}
+use Rattle.report_check.specs.Imports.{IsRun, LogEntry, Outcome, Scripted, StreamHead, ToldNode, are_rows, report_of, text_of}
 use Rattle.report_check.specs.Completed.{shown, told_by, completed}
 use Rattle.report_check.specs.Right.{IsReportOfRun, IsRightReport}
 

@@ -1,12 +1,6 @@
 -- What it means that the told entries of a client are what its commands ask for (this project's own).
 use Rattle.std.specs.Prelude.{◌≡◌, ℕ, ◌+◌, List, [], ◌∷◌, ◌++◌, length, map, filter, nat_eq, slice_get, slice_set, Some, None}
-use Rattle.dmx_calls.specs.Log.{LogEntry}
-use Rattle.dmx_calls.specs.Response.{Response}
-use Rattle.client_script.specs.Script.{Scripted}
-use Rattle.client_core.specs.Commands.{plays_of}
-use Rattle.client_core.specs.Events.{next_event}
-use Rattle.client_core.specs.Inside.Core.{Core, IsAfter}
-use Rattle.script_run.specs.IsRun.{IsEvent, replies}
+use Rattle.report_check.specs.Imports.{Core, IsAfter, IsEvent, LogEntry, Response, Scripted, next_event, plays_of, replies}
 
 -- ------ the queues of a client
 

@@ -1,9 +1,6 @@
 -- Laws of walks.
 use Rattle.std.specs.Prelude.{◌≡◌, ℕ, List, [], slice_get, Some}
-use Rattle.dmx_calls.specs.Log.{LogEntry}
-use Rattle.dmx_calls.specs.Response.{Response}
-use Rattle.client_script.specs.Script.{Scripted}
-use Rattle.script_run.specs.IsRun.{HasDone}
+use Rattle.report_check.specs.Imports.{HasDone, LogEntry, Response, Scripted}
 use Rattle.report_check.specs.Walk.{IsRest, queues_in}
 
 -- each entry stands on its node and at its place

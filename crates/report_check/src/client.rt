@@ -1,7 +1,6 @@
 // The clients' told entries.
 ghost use Rattle.std.specs.Prelude.{◌≡◌, ◌+◌, ◌≢◌, ◌<◌, ◌^◌, ◌∷◌, [], ℕ, length, map, true, false, IfOk, MatchOption};
-ghost use Rattle.dmx_calls.specs.declared.limits.TheConstants.{DEMUX_NODES as nodes_of_demux};
-ghost use Rattle.dmx_calls.specs.Calls.{told_entry};
+ghost use Rattle.report_check.specs.Imports.{DEMUX_NODES as nodes_of_demux, told_entry};
 ghost use Rattle.report_check.specs.Completed.{complete};
 ghost use Rattle.report_check.specs.Inside.Steps.{left_on};
 ghost use Rattle.report_check.specs.Inside.Parts.{told_nodes, dealt as dealt_to, IsDoneAs, AreDoneAs};

@@ -1,7 +1,6 @@
 // The feeder's calls on a node.
 ghost use Rattle.std.specs.Prelude.{◌≡◌, ◌≢◌, ◌<◌, ◌≤◌, [], ◌∷◌, ◌&&◌, length, map, true, false, MatchOption, IfSome};
-ghost use Rattle.dmx_calls.specs.Calls.{told_entry};
-ghost use Rattle.script_run.specs.IsRun.{steps_of};
+ghost use Rattle.report_check.specs.Imports.{steps_of, told_entry};
 ghost use Rattle.report_check.specs.Inside.Feeding.{step_of, passed_behind as passed_by, is_end as is_end_act, are_none, feeds, IsFedAlike};
 
 use dmx_calls::{Act, Entry, Input, KeptAct};

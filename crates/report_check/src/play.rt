@@ -1,7 +1,6 @@
 // The nodes' told entries, played again.
 ghost use Rattle.std.specs.Prelude.{◌≡◌, ◌<◌, ◌≤◌, ◌^◌, ℕ, length, map, true, IfOk, MatchOption, All};
-ghost use Rattle.dmx_calls.specs.declared.limits.TheConstants.{DEMUX_NODES as nodes_of_demux};
-ghost use Rattle.dmx_calls.specs.Calls.{told_entry};
+ghost use Rattle.report_check.specs.Imports.{DEMUX_NODES as nodes_of_demux, told_entry};
 ghost use Rattle.report_check.specs.Playing.{AreFewPackets, brought_from};
 ghost use Rattle.report_check.specs.Inside.Parts.{told_nodes, are_sound, IsPlayed};
 

@@ -1,8 +1,6 @@
 // The packets that the clients of a script play.
 ghost use Rattle.std.specs.Prelude.{◌≡◌, ◌<◌, ◌∷◌, ◌++◌, [], map, IfOk, OnOk, All};
-ghost use Rattle.std.specs.Option.{option_map};
-ghost use Rattle.client_core.specs.PlayLaws.{packets_in};
-ghost use Rattle.client_core.specs.Commands.{played};
+ghost use Rattle.report_check.specs.Imports.{option_map, packets_in, played};
 ghost use Rattle.report_check.specs.Playing.{AreFewPackets};
 ghost use Rattle.report_check.specs.Inside.Parts.{all_played as played_by_all};
 

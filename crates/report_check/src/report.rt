@@ -1,10 +1,6 @@
 // Whether a report is right.
 ghost use Rattle.std.specs.Prelude.{◌≡◌, ◌<◌, ◌^◌, length, map, true, false, IfOk, MatchOption, All};
-ghost use Rattle.ts_packet.specs.Fields.{IsPacket};
-ghost use Rattle.ts_watch.specs.Head.{told_head};
-ghost use Rattle.report_text.specs.Told.{text_of};
-ghost use Rattle.report_read.specs.Ranges.{IsInRange};
-ghost use Rattle.report_read.specs.Report.{IsInOrder, told_of};
+ghost use Rattle.report_check.specs.Imports.{IsInOrder, IsInRange, IsPacket, text_of, told_head, told_of};
 ghost use Rattle.report_check.specs.Completed.{completed};
 ghost use Rattle.report_check.specs.Right.{IsRunOf, IsRightReport};
 ghost use Rattle.report_check.specs.Inside.Parts.{HasPassed};

@@ -1,8 +1,6 @@
 -- Laws of reports.
 use Rattle.std.specs.Prelude.{◌≡◌}
-use Rattle.dmx_calls.specs.Log.{LogEntry}
-use Rattle.report_text.specs.Entries.{entry_text}
-use Rattle.report_text.specs.Told.{Told, text_of}
+use Rattle.report_read.specs.Imports.{LogEntry, Told, entry_text, text_of}
 use Rattle.report_read.specs.Ranges.{IsEntryInRange, IsInRange}
 
 -- an entry that a line tells is the only one

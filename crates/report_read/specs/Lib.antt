@@ -1,3 +1,4 @@
+pub mod Imports
 pub mod Ranges
 pub mod Report
 pub mod Laws

@@ -1,21 +1,8 @@
 -- What a report can tell: the numbers fit the types of the code, and no more bytes or PIDs stand in one place than a Read
 -- and a filter can have (this project's own).
 use Rattle.std.specs.Prelude.{◌≡◌, ℕ, ◌<◌, ◌≤◌, ◌^◌, List, length}
-use Rattle.std.specs.List.{All}
-use Rattle.pid_set.specs.Pids.{ArePids}
-use Rattle.ts_packet.specs.declared.cutter.Tally.{Tally}
-use Rattle.dmx_calls.specs.declared.limits.TheConstants.{DEMUX_NODES, LARGEST_READ}
-use Rattle.ts_watch.specs.declared.seen.PidRow.{PidRow}
-use Rattle.dmx_calls.specs.declared.outcome.Outcome.{Outcome}
-use Rattle.dmx_calls.specs.declared.outcome.OutcomeKind.{OutcomeKind}
-use Rattle.dmx_calls.specs.declared.outcome.OutcomeKind.TheVariants.{Stc}
-use Rattle.dmx_calls.specs.declared.log.Act.{Act}
-use Rattle.dmx_calls.specs.declared.log.Act.TheVariants.{Open as OpenAct, Close as CloseAct, SetFilter as SetFilterAct, SetPes as SetPesAct, AddPid as AddPidAct, RemovePid as RemovePidAct, Start as StartAct, Stop as StopAct, SetSize as SetSizeAct, Read as ReadAct, Poll as PollAct, Pass as PassAct, End as EndAct, Attach as AttachAct, Detach as DetachAct}
+use Rattle.report_read.specs.Imports.{Act, AddPid as AddPidAct, Again, All, ArePids, Attach as AttachAct, Busy, Close as CloseAct, DEMUX_NODES, Data, Detach as DetachAct, Done, End as EndAct, IsFilter, LARGEST_READ, LogEntry, NoMemory, Open as OpenAct, Outcome, OutcomeKind, Overflow, Pass as PassAct, Passed, PidRow, Poll as PollAct, Read as ReadAct, Ready, Refused, RemovePid as RemovePidAct, Response, SetFilter as SetFilterAct, SetPes as SetPesAct, SetSize as SetSizeAct, Start as StartAct, Stc, Stop as StopAct, Tally, TapChange, TimedOut, Told, ToldNode}
 use Rattle.dmx_calls.specs.declared.reply.Tap.TheVariants.{Keep as KeepTap, Attach as AttachTap, Detach as DetachTap}
-use Rattle.dmx_calls.specs.Response.{Response, Done, Busy, Refused, NoMemory, Data, Again, Overflow, TimedOut, Ready, Passed, TapChange}
-use Rattle.dmx_calls.specs.Log.{LogEntry}
-use Rattle.text_forms.specs.Places.{IsFilter}
-use Rattle.report_text.specs.Told.{ToldNode, Told}
 
 -- ------ calls
 -- the PIDs of a filter or a tap: an ascending set of at most 128

@@ -1,13 +1,6 @@
 -- Which texts are reports (this project's own).
 use Rattle.std.specs.Prelude.{◌≡◌, ◌≢◌, ℕ, suc, ◌&&◌, Bool, true, List, [], ◌∷◌, map, nat_eq, nat_le, nat_lt}
-use Rattle.std.specs.List.{list_any}
-use Rattle.dmx_calls.specs.declared.limits.TheConstants.{LARGEST_PID}
-use Rattle.ts_watch.specs.declared.seen.PidRow.{PidRow}
-use Rattle.dmx_calls.specs.Calls.{told_entry}
-use Rattle.ts_watch.specs.Head.{told_head}
-use Rattle.dmx_calls.specs.Log.{LogEntry}
-use Rattle.report_text.specs.Entries.{entry_text, is_of_client}
-use Rattle.report_text.specs.Told.{ToldNode, Told, text_of}
+use Rattle.report_read.specs.Imports.{LARGEST_PID, LogEntry, PidRow, Told, ToldNode, entry_text, is_of_client, list_any, text_of, told_entry, told_head}
 use Rattle.report_read.specs.declared.whole.Told.{Told as ReadReport}
 use Rattle.report_read.specs.Ranges.{IsEntryOf, IsInRange}
 

@@ -1,7 +1,6 @@
 // The clients with their commands.
 ghost use Rattle.std.specs.Prelude.{◌≡◌, map, IfOk, IfSome};
-ghost use Rattle.std.specs.List.{All};
-ghost use Rattle.std.specs.Option.{option_map};
+ghost use Rattle.report_read.specs.Imports.{All, option_map};
 ghost use Rattle.report_read.specs.Inside.Reading.{Reads};
 ghost use Rattle.report_read.specs.Ranges.{IsKindInRange, IsOutcomeInRange};
 ghost use Rattle.report_read.specs.Inside.Whole.{stc_in, kind_in, outcome_in, outcomes_in, client_number_in, client_in, clients_in};

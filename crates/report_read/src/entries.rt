@@ -1,10 +1,6 @@
 // The lines of a node.
 ghost use Rattle.std.specs.Prelude.{◌≡◌, ◌≢◌, ◌<◌, ◌≤◌, ◌+◌, ◌++◌, ◌∷◌, [], length, map, true, false, Some, None, IfOk, IfSome, MatchOption};
-ghost use Rattle.std.specs.List.{All};
-ghost use Rattle.std.specs.Option.{option_map};
-ghost use Rattle.dmx_calls.specs.Calls.{told_entry};
-ghost use Rattle.dmx_calls.specs.Log.{LogEntry};
-ghost use Rattle.report_text.specs.Entries.{entry_text};
+ghost use Rattle.report_read.specs.Imports.{All, LogEntry, entry_text, option_map, told_entry};
 ghost use Rattle.report_read.specs.Inside.Reading.{Reads, all_in, begins_number};
 ghost use Rattle.report_read.specs.Inside.Entries.{front_in, entry_in};
 ghost use Rattle.report_read.specs.Ranges.{IsActInRange, IsEntryOf};

@@ -1,9 +1,6 @@
 // The nodes with their entries.
 ghost use Rattle.std.specs.Prelude.{◌≡◌, ◌≤◌, map, IfOk, IfSome};
-ghost use Rattle.std.specs.List.{All};
-ghost use Rattle.dmx_calls.specs.declared.limits.TheConstants.{DEMUX_NODES};
-ghost use Rattle.std.specs.Option.{option_map};
-ghost use Rattle.dmx_calls.specs.Calls.{told_entry};
+ghost use Rattle.report_read.specs.Imports.{All, DEMUX_NODES, option_map, told_entry};
 ghost use Rattle.report_read.specs.Inside.Reading.{Reads};
 ghost use Rattle.report_read.specs.Ranges.{IsNodeInRange};
 ghost use Rattle.report_read.specs.Inside.Whole.{node_name_in, node_line_in, node_in, nodes_in};

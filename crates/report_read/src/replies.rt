@@ -1,11 +1,8 @@
 // Replies.
 ghost use Rattle.std.specs.Prelude.{◌≡◌, ◌+◌, ◌*◌, ◌≤◌, ◌++◌, length, true, false, Some, None, IfOk, IfSome, ◌<◌};
-ghost use Rattle.std.specs.List.{All};
+ghost use Rattle.report_read.specs.Imports.{All, Busy, option_map, response_of};
 ghost use Rattle.report_read.specs.Ranges.{IsTapInRange, IsResponseInRange};
-ghost use Rattle.std.specs.Option.{option_map};
-ghost use Rattle.dmx_calls.specs.Calls.{response_of};
 ghost use Rattle.report_read.specs.Inside.Reading.{Reads, made, bytes_in};
-ghost use Rattle.dmx_calls.specs.Response.{Busy};
 ghost use Rattle.report_read.specs.Inside.Parts.{tap_in, done_in, data_in, overflow_in, timed_out_in, ready_in, other_response_in, refusal_in, response_in, who_in};
 
 use crate::bytes::Bytes;

@@ -1,7 +1,6 @@
 // Sets of PIDs and filters.
 ghost use Rattle.std.specs.Prelude.{◌≡◌, Some, None, MatchOption, IfSome};
-ghost use Rattle.filter_match.specs.Places.{with_place};
-ghost use Rattle.text_forms.specs.Places.{HasBytes, IsFilter};
+ghost use Rattle.report_read.specs.Imports.{HasBytes, IsFilter, with_place};
 ghost use Rattle.report_read.specs.Ranges.{IsPidSet};
 ghost use Rattle.report_read.specs.Inside.Reading.{Reads};
 ghost use Rattle.report_read.specs.Inside.Parts.{pid_step, more_pids, pids_in, place_step, more_places, filter_in};

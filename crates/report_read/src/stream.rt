@@ -1,7 +1,6 @@
 // What a report says of the stream.
 ghost use Rattle.std.specs.Prelude.{◌≡◌, IfOk, IfSome};
-ghost use Rattle.std.specs.List.{All};
-ghost use Rattle.std.specs.Option.{option_map};
+ghost use Rattle.report_read.specs.Imports.{All, option_map};
 ghost use Rattle.report_read.specs.Inside.Reading.{Reads};
 ghost use Rattle.report_read.specs.Ranges.{IsTallyInRange, AreCountsInRange, IsRowInRange};
 ghost use Rattle.report_read.specs.Inside.Whole.{tally_in, counts_in, row_in, rows_in};

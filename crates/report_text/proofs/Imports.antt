@@ -1,15 +1,7 @@
 -- The words of others that the proofs of this crate use.
 pub use Rattle.dmx_calls.proofs.Weaving.{woven-length}
-pub use Rattle.dmx_calls.specs.Calls.{told_entry}
-pub use Rattle.dmx_calls.specs.Histories.{before_entry, feeder_acts, feeder_entries, feeder_entry, pass_act, woven, woven_from}
-pub use Rattle.dmx_calls.specs.Log.{LogEntry}
-pub use Rattle.dmx_calls.specs.Names.{input_text}
-pub use Rattle.dmx_calls.specs.Response.{Passed, Response}
-pub use Rattle.dmx_calls.specs.declared.histories.Fed.{Fed}
-pub use Rattle.dmx_calls.specs.declared.log.Act.{Act}
-pub use Rattle.dmx_calls.specs.declared.log.Act.TheVariants.{End as EndAct}
+pub use Rattle.dmx_calls.specs.Histories.{woven_from}
 pub use Rattle.dmx_calls.specs.declared.log.Entry.{Entry as ToldEntry}
-pub use Rattle.dmx_calls.specs.declared.outcome.Outcome.{Outcome}
 pub use Rattle.dmx_calls.specs.declared.reply.Errno.{Errno}
 pub use Rattle.dmx_calls.specs.declared.reply.Errno.TheVariants.{Ebadf, Ebusy, Einval, Enospc}
 pub use Rattle.dmx_calls.specs.declared.reply.PollError.{PollError}
@@ -17,6 +9,7 @@ pub use Rattle.dmx_calls.specs.declared.reply.PollError.TheVariants.{Overflow, Q
 pub use Rattle.lemmas.proofs.Lists.{any_of_map}
 pub use Rattle.report_text.specs.Acts.{act_text, next_pid_text}
 pub use Rattle.report_text.specs.Entries.{entry_text, histories_text, history_text, is_of_client}
+pub use Rattle.report_text.specs.Imports.{Act, Appends, End as EndAct, Fed, LogEntry, Outcome, Passed, Response, StreamHead, before_entry, feeder_acts, feeder_entries, feeder_entry, flat_map, input_text, list_any, node_text, pass_act, told_entry, told_head, woven}
 pub use Rattle.report_text.specs.Inside.Pieces.{Adds, AddsPart, AddsSome}
 pub use Rattle.report_text.specs.Inside.Sums.{AreAtMost, AreSums}
 pub use Rattle.report_text.specs.Inside.Turns.{BreaksBefore, Told, tail_text, turn}
@@ -35,8 +28,4 @@ pub use Rattle.std.proofs.lemmas.List.{flat_map_more, length-map, length-take, t
 pub use Rattle.std.proofs.lemmas.List.Sums.{sum_by-append, sum_by-cons, sum_by-take-drop}
 pub use Rattle.std.proofs.lemmas.Option.{slice_get-map, slice_get_read}
 pub use Rattle.std.proofs.lemmas.Result.{on_err_weaker, on_ok_weaker}
-pub use Rattle.std.specs.Io.KnownBytes.{Appends}
-pub use Rattle.std.specs.List.{flat_map, list_any}
 pub use Rattle.std.specs.Prelude.{Err, Ok, OnErr, OnOk, Option, Result, slice_index, vec_capacity, vec_len}
-pub use Rattle.text_forms.specs.Names.{node_text}
-pub use Rattle.ts_watch.specs.Head.{StreamHead, told_head}

@@ -1,9 +1,6 @@
 -- The lines of the report that tell the calls of a node (this project's own). Each line ends with a line feed.
 use Rattle.std.specs.Prelude.{ℕ, Bool, suc, List, [], ◌∷◌, ◌++◌, codes, nat_lt, if◌then◌else◌}
-use Rattle.std.specs.List.{flat_map, list_any}
-use Rattle.std.specs.Fmt.{decimal}
-use Rattle.dmx_calls.specs.Log.{LogEntry}
-use Rattle.text_forms.specs.Names.{who_text, node_text}
+use Rattle.report_text.specs.Imports.{LogEntry, decimal, flat_map, list_any, node_text, who_text}
 use Rattle.report_text.specs.Acts.{act_text}
 use Rattle.report_text.specs.Replies.{response_text}
 

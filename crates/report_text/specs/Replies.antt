@@ -1,11 +1,7 @@
 -- The text of a reply (this project's own).
 use Rattle.std.specs.Prelude.{ℕ, Bool, true, false, List, [], ◌∷◌, ◌++◌, codes}
-use Rattle.std.specs.Fmt.{decimal}
+use Rattle.report_text.specs.Imports.{Again, Busy, Data, Done, NoMemory, Overflow, Passed, Ready, Refused, Response, TapChange, TimedOut, decimal, errno_text, hex_text, pending_text, who_text}
 use Rattle.dmx_calls.specs.declared.reply.Tap.TheVariants.{Keep as KeepTap, Attach as AttachTap, Detach as DetachTap}
-use Rattle.dmx_calls.specs.Names.{errno_text, pending_text}
-use Rattle.dmx_calls.specs.Response.{Response, Done, Busy, Refused, NoMemory, Data, Again, Overflow, TimedOut, Ready, Passed, TapChange}
-use Rattle.text_forms.specs.Hex.{hex_text}
-use Rattle.text_forms.specs.Names.{who_text}
 use Rattle.report_text.specs.Acts.{pids_text}
 
 unfoldable pub flag_text : Bool → List ℕ

@@ -1,14 +1,7 @@
 -- The whole report (this project's own). Each line ends with a line feed, and numbers are decimal.
 use Rattle.std.specs.Prelude.{ℕ, suc, Bool, true, false, List, [], ◌∷◌, ◌++◌, codes}
-use Rattle.std.specs.List.{flat_map}
-use Rattle.std.specs.Fmt.{decimal}
-use Rattle.ts_packet.specs.declared.cutter.Tally.{Tally}
-use Rattle.ts_watch.specs.declared.seen.PidRow.{PidRow}
-use Rattle.dmx_calls.specs.declared.outcome.Outcome.{Outcome}
-use Rattle.dmx_calls.specs.declared.outcome.OutcomeKind.{OutcomeKind}
+use Rattle.report_text.specs.Imports.{LogEntry, Outcome, OutcomeKind, PidRow, StreamHead, Tally, decimal, flat_map}
 use Rattle.dmx_calls.specs.declared.outcome.OutcomeKind.TheVariants.{Done, Emfile, Unbound, Stc, NoStc}
-use Rattle.ts_watch.specs.Head.{StreamHead}
-use Rattle.dmx_calls.specs.Log.{LogEntry}
 use Rattle.report_text.specs.Entries.{histories_text}
 
 -- ------ the stream

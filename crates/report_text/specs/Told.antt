@@ -1,10 +1,6 @@
 -- What a report tells, and the report that tells it (this project's own).
 use Rattle.std.specs.Prelude.{ℕ, List, ◌++◌, codes}
-use Rattle.std.specs.List.{flat_map}
-use Rattle.dmx_calls.specs.declared.outcome.Outcome.{Outcome}
-use Rattle.ts_watch.specs.Head.{StreamHead}
-use Rattle.dmx_calls.specs.Log.{LogEntry}
-use Rattle.text_forms.specs.Names.{node_text}
+use Rattle.report_text.specs.Imports.{LogEntry, Outcome, StreamHead, flat_map, node_text}
 use Rattle.report_text.specs.Entries.{entry_text}
 use Rattle.report_text.specs.Report.{tally_text, row_text, clients_text, end_text}
 

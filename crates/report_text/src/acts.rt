@@ -1,9 +1,7 @@
 // The text of a call.
 ghost use Rattle.std.specs.Prelude.{◌++◌, codes, ◌+◌, ◌<◌, length};
-ghost use Rattle.std.specs.Fmt.{decimal};
-ghost use Rattle.dmx_calls.specs.Names.{input_text, output_text};
+ghost use Rattle.report_text.specs.Imports.{Appended, decimal, input_text, output_text};
 ghost use Rattle.report_text.specs.Acts.{act_text, pass_text, pes_text, pids_text, section_text};
-ghost use Rattle.text_forms.specs.Appended.{Appended};
 
 use dmx_calls::{Act, Input, KeptAct, Output, PesParams, SectionParams};
 use pid_set::Pids;

@@ -1,7 +1,6 @@
 // Text that goes to a sink in pieces, out of a buffer.
 ghost use Rattle.std.specs.Prelude.{◌≡◌, ℕ, ◌+◌, ◌<◌, ◌≤◌, [], length, take, IfOk, OnErr, OnOk, vec_len, vec_capacity};
-ghost use Rattle.std.specs.Io.KnownBytes.{Appends};
-ghost use Rattle.emu_io.specs.Causes.{HasCause};
+ghost use Rattle.report_text.specs.Imports.{Appends, HasCause};
 ghost use Rattle.report_text.specs.Inside.Pieces.{Adds, AddsPart};
 
 use emu_io::{Failed, Sink};

@@ -1,13 +1,8 @@
 // The lines that tell the calls of a node.
 ghost use Rattle.std.specs.Prelude.{◌≡◌, ◌+◌, ◌<◌, ◌++◌, map, codes};
-ghost use Rattle.std.specs.List.{list_any};
-ghost use Rattle.dmx_calls.specs.Calls.{told_entry};
-ghost use Rattle.dmx_calls.specs.Histories.{feeder_entry};
-ghost use Rattle.text_forms.specs.Names.{node_text};
-ghost use Rattle.dmx_calls.specs.declared.log.Act.TheVariants.{End as EndAct};
+ghost use Rattle.report_text.specs.Imports.{Appended, End as EndAct, feeder_entry, list_any, node_text, told_entry};
 ghost use Rattle.report_text.specs.Entries.{caller_text, entry_text, is_of_client};
 ghost use Rattle.report_text.specs.Inside.Turns.{tail_text, turn};
-ghost use Rattle.text_forms.specs.Appended.{Appended};
 
 use crate::acts::{add_act, add_field};
 use crate::feeder_line::{FeederLine, add_pass_tail};

@@ -1,8 +1,7 @@
 // Lines of the feeder without their places. They are the same on each node, so each is made once.
 ghost use Rattle.std.specs.Prelude.{◌≡◌, ◌+◌, ◌<◌, ◌≤◌, length, IfSome};
-ghost use Rattle.dmx_calls.specs.Histories.{pass_act};
+ghost use Rattle.report_text.specs.Imports.{Appended, pass_act};
 ghost use Rattle.report_text.specs.Inside.Turns.{tail_text};
-ghost use Rattle.text_forms.specs.Appended.{Appended};
 
 use crate::acts::{add_field, add_pass};
 use crate::replies::add_word;

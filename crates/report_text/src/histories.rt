@@ -1,10 +1,6 @@
 // The histories of the nodes, as they are written.
 ghost use Rattle.std.specs.Prelude.{◌+◌, ◌^◌, ◌<◌, ◌≤◌, ◌++◌, [], ℕ, length, map, drop, codes, IfOk, OnOk, OnErr};
-ghost use Rattle.std.specs.List.{flat_map};
-ghost use Rattle.emu_io.specs.Causes.{HasCause};
-ghost use Rattle.dmx_calls.specs.Calls.{told_entry};
-ghost use Rattle.dmx_calls.specs.Histories.{feeder_acts, feeder_entry, feeder_entries, woven};
-ghost use Rattle.text_forms.specs.Names.{node_text};
+ghost use Rattle.report_text.specs.Imports.{HasCause, feeder_acts, feeder_entries, feeder_entry, flat_map, node_text, told_entry, woven};
 ghost use Rattle.report_text.specs.Entries.{entry_text, history_text, histories_text};
 ghost use Rattle.report_text.specs.Inside.Pieces.{Adds, AddsPart, AddsSome};
 ghost use Rattle.report_text.specs.Inside.Turns.{turn, BreaksBefore, Told};

@@ -1,11 +1,7 @@
 // The text of a reply.
 ghost use Rattle.std.specs.Prelude.{◌≡◌, ◌++◌, codes, ◌+◌, ◌*◌, ◌<◌, ◌≤◌, length};
-ghost use Rattle.std.specs.Fmt.{decimal};
-ghost use Rattle.dmx_calls.specs.Calls.{response_of};
-ghost use Rattle.dmx_calls.specs.Names.{pending_text};
-ghost use Rattle.text_forms.specs.Names.{who_text};
+ghost use Rattle.report_text.specs.Imports.{Appended, decimal, pending_text, response_of, who_text};
 ghost use Rattle.report_text.specs.Replies.{data_text, flag_text, response_text, tap_text};
-ghost use Rattle.text_forms.specs.Appended.{Appended};
 
 use crate::acts::{add_field, add_pids};
 use dmx_calls::{LogTap, PollError, Reply, SharedReply, Span, Tap};

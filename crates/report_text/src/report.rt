@@ -1,10 +1,6 @@
 // The report, as it is written.
 ghost use Rattle.std.specs.Prelude.{◌≡◌, ◌+◌, ◌<◌, ◌++◌, [], map, codes, OnOk, OnErr, IsErrOf};
-ghost use Rattle.std.specs.List.{flat_map};
-ghost use Rattle.std.specs.Fmt.{decimal};
-ghost use Rattle.std.specs.Io.KnownBytes.{Appends};
-ghost use Rattle.emu_io.specs.Causes.{HasCause, raised};
-ghost use Rattle.ts_watch.specs.Head.{told_head};
+ghost use Rattle.report_text.specs.Imports.{Appends, HasCause, decimal, flat_map, raised, told_head};
 ghost use Rattle.report_text.specs.Report.{tally_text, row_text, outcome_text, client_text, clients_text, end_text, report_of};
 ghost use Rattle.report_text.specs.Inside.Pieces.{Adds, AddsPart};
 

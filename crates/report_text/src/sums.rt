@@ -1,9 +1,6 @@
 // The sums of a report in one line.
 ghost use Rattle.std.specs.Prelude.{◌≡◌, ◌*◌, ◌+◌, ◌^◌, ◌<◌, ◌≤◌, ◌++◌, length, map, take, drop, codes, IfOk, OnOk};
-ghost use Rattle.std.specs.Fmt.{decimal};
-ghost use Rattle.dmx_calls.specs.declared.limits.TheConstants.{DEMUX_NODES};
-ghost use Rattle.dmx_calls.specs.Calls.{response_of, told_entry};
-ghost use Rattle.ts_watch.specs.Head.{told_head};
+ghost use Rattle.report_text.specs.Imports.{DEMUX_NODES, decimal, response_of, told_entry, told_head};
 ghost use Rattle.report_text.specs.Inside.Sums.{AreSums, AreAtMost};
 ghost use Rattle.report_text.specs.Summary.{data_bytes as bytes_of_response, is_overflow as tells_overflow, bytes_read as bytes_of_entries, overflows as overflows_of_entries, summary_of};
 

@@ -1,8 +1,6 @@
 // The report that tells what another report told.
 ghost use Rattle.std.specs.Prelude.{◌≡◌, ◌++◌, map, IfOk, OnOk, codes};
-ghost use Rattle.std.specs.List.{flat_map};
-ghost use Rattle.dmx_calls.specs.Calls.{told_entry};
-ghost use Rattle.ts_watch.specs.Head.{told_head};
+ghost use Rattle.report_text.specs.Imports.{flat_map, told_entry, told_head};
 ghost use Rattle.report_text.specs.Entries.{entry_text};
 ghost use Rattle.report_text.specs.Told.{told_node_text, text_of};
 

@@ -1,9 +1,7 @@
 // The lines of a report but for those of the nodes.
 ghost use Rattle.std.specs.Prelude.{◌≡◌, ◌+◌, ◌<◌, ◌++◌, map, codes, OnOk};
-ghost use Rattle.std.specs.List.{flat_map};
-ghost use Rattle.std.specs.Fmt.{decimal};
+ghost use Rattle.report_text.specs.Imports.{Appended, decimal, flat_map};
 ghost use Rattle.report_text.specs.Report.{tally_text, row_text, kind_text, outcome_text, client_text, clients_text, end_text};
-ghost use Rattle.text_forms.specs.Appended.{Appended};
 
 use crate::acts::add_field;
 use dmx_calls::{Outcome, OutcomeKind};

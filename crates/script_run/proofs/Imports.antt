@@ -4,9 +4,9 @@ pub use Rattle.client_core.proofs.Following.{exchanges_more}
 pub use Rattle.client_core.proofs.Joining.{are_counted, are_joined, are_packets, are_placed, few_in}
 pub use Rattle.client_core.proofs.More.{one_reply_more, repeats_none, some_of}
 pub use Rattle.client_core.proofs.Passing.{by_calls, done_passes, event_in, first_and_rest, no_passes, own_write, passed_by, passes_behind, passes_by}
-pub use Rattle.client_core.specs.Commands.{Doing, Slots, call_of, commands_among, commands_in, commands_of, done, ends_drain, pass_of, played, plays_of, stands, through}
-pub use Rattle.client_core.specs.Deeds.{Batches, batch_at, deed_of}
-pub use Rattle.client_core.specs.Events.{Standing, next_event, no_slots, progress, progress_from, slots_after, waits_on}
+pub use Rattle.client_core.specs.Commands.{Doing, Slots, commands_among, commands_in, done, ends_drain, pass_of, stands, through}
+pub use Rattle.client_core.specs.Deeds.{deed_of}
+pub use Rattle.client_core.specs.Events.{Standing, no_slots, progress, progress_from, slots_after}
 pub use Rattle.client_core.specs.Inside.More.{added_by}
 pub use Rattle.client_core.specs.Passes.{pass_at, pass_in, passes_on, played_at, played_from, played_in, played_on}
 pub use Rattle.client_core.specs.PlayLaws.{StandsAmong, packets_in}
@@ -16,14 +16,12 @@ pub use Rattle.client_core.specs.Steps.{first}
 pub use Rattle.client_core.specs.declared.command.Command.{Command, Command as ClientCommand}
 pub use Rattle.client_core.specs.declared.deed.Deed.{Deed}
 pub use Rattle.client_core.specs.declared.deed.Deed.TheVariants.{Drain, GetStc, Once, ReadWait, Write}
-pub use Rattle.client_core.specs.declared.event.Event.{Event}
 pub use Rattle.client_core.specs.declared.event.Request.{Request}
 pub use Rattle.client_core.specs.declared.event.Request.TheVariants.{Own, Pass}
 pub use Rattle.client_core.specs.declared.task.Ending.{Ending}
 pub use Rattle.client_script.specs.Grammar.{IsInRange}
-pub use Rattle.client_script.specs.Script.{Scripted, clients_in, clients_of, named_among, named_by, named_in, writes_of}
-pub use Rattle.client_script.specs.declared.line.Line.{Line}
-pub use Rattle.client_script.specs.declared.line.Line.TheVariants.{Command as CommandLine, Feed, Tick}
+pub use Rattle.client_script.specs.Script.{clients_of, named_among, named_by, named_in, writes_of}
+pub use Rattle.client_script.specs.declared.line.Line.TheVariants.{Feed, Tick}
 pub use Rattle.client_script.specs.declared.line.Target.{Target}
 pub use Rattle.client_script.specs.declared.line.Target.TheVariants.{Dvr, Node, Slot}
 pub use Rattle.client_script.specs.declared.line.Verb.{Verb}
@@ -31,22 +29,17 @@ pub use Rattle.client_script.specs.declared.line.Want.TheVariants.{Open}
 pub use Rattle.dmx_calls.proofs.Nodes.{demux_keeps, dvr_keeps}
 pub use Rattle.dmx_calls.proofs.Reading.{read_each}
 pub use Rattle.dmx_calls.proofs.Telling.{fills}
-pub use Rattle.dmx_calls.specs.Accounted.{IsAccounted}
 pub use Rattle.dmx_calls.specs.Answer.{ReadTerms, expired_of, read_terms, refusal_to, response_of_read, response_unless, with_call}
 pub use Rattle.dmx_calls.specs.Facts.{ledger_at, ledger_of}
 pub use Rattle.dmx_calls.specs.History.{Entry, History, Since, brought_by, entry_of, event}
 pub use Rattle.dmx_calls.specs.Invocation.{Invocation, brought}
 pub use Rattle.dmx_calls.specs.Ledger.{answered_in}
-pub use Rattle.dmx_calls.specs.Legal.{IsLegalFor, May}
-pub use Rattle.dmx_calls.specs.Log.{IsFrom, LogEntry, Sources, act_of, filled, filled_act, filled_entry}
-pub use Rattle.dmx_calls.specs.Response.{Again, Busy, Data, Done, NoMemory, Overflow, Passed, Ready, Refused, Response, TimedOut}
+pub use Rattle.dmx_calls.specs.Legal.{May}
+pub use Rattle.dmx_calls.specs.Log.{IsFrom, filled_entry}
+pub use Rattle.dmx_calls.specs.Response.{Again, Busy, Done, Passed, Ready, Refused, TimedOut}
 pub use Rattle.dmx_calls.specs.Rules.{Rules, demux, dvr}
 pub use Rattle.dmx_calls.specs.Tenure.{has_ended}
-pub use Rattle.dmx_calls.specs.declared.limits.TheConstants.{DEMUX_NODES}
-pub use Rattle.dmx_calls.specs.declared.log.Act.{Act}
-pub use Rattle.dmx_calls.specs.declared.log.Act.TheVariants.{Read as ReadAct}
 pub use Rattle.dmx_calls.specs.declared.params.Input.{Input}
-pub use Rattle.dmx_calls.specs.declared.params.Input.TheVariants.{Frontend}
 pub use Rattle.dmx_calls.specs.declared.reply.Errno.{Errno}
 pub use Rattle.dmx_calls.specs.declared.reply.Errno.TheVariants.{Ebadf}
 pub use Rattle.lemmas.proofs.Lists.{at_end, at_map, at_place, has_at, has_left, has_right, one_value}
@@ -58,6 +51,7 @@ pub use Rattle.node_laws.proofs.Pending.{names_a_byte}
 pub use Rattle.node_laws.specs.Bytes.{OverflowNamesAByte, bytes_answered}
 pub use Rattle.node_laws.specs.Owning.{HasRead}
 pub use Rattle.script_run.specs.Budget.{all_commands, bytes_in, bytes_written, most_calls}
+pub use Rattle.script_run.specs.Imports.{Act, Batches, Command as CommandLine, DEMUX_NODES, Data, Event, Frontend, IsAccounted, IsLegalFor, IsPacket, Line, LogEntry, NoMemory, Overflow, Packets, Read as ReadAct, Response, Scripted, Sources, act_of, batch_at, call_of, clients_in, commands_of, filled, filled_act, flat_map, next_event, played, plays_of, waits_on}
 pub use Rattle.script_run.specs.IsRun.{AreAsked, AreCalls, AreInOrder, Batch, InTurn, IsEvent, StandsIn, Step, feeding, replies, sources, steps_of}
 pub use Rattle.script_run.specs.Passing.{WritesPass, from_the_dvr}
 pub use Rattle.script_run.specs.SoFar.{CallsArePaid, HasDoneSoFar, IsPaidBehind, IsSoFar, MayPay, Payers, RunsAreAccounted, RunsEnd, commands_for, feeder, others}
@@ -69,8 +63,6 @@ pub use Rattle.std.proofs.lemmas.List.{length-map, map-append, reverse-append, t
 pub use Rattle.std.proofs.lemmas.List.Elements.{All-append, All-cons, All-drop, All-head, All-nil, All-tail, All-take, All-weaker, filter-append}
 pub use Rattle.std.proofs.lemmas.List.Sums.{sum_by-cons}
 pub use Rattle.std.proofs.lemmas.Option.{slice_get_within}
-pub use Rattle.std.specs.List.{All, cons_option, flat_map, range_with_len}
+pub use Rattle.std.specs.List.{All, cons_option, range_with_len}
 pub use Rattle.std.specs.Option.{IfSome}
 pub use Rattle.std.specs.Prelude.{IsSome, filter_map, if◌then◌else◌, is_some, reverse, slice_index_or, sum, unwrap_or, ◌⊎◌}
-pub use Rattle.ts_batch.specs.Batch.{Packets}
-pub use Rattle.ts_packet.specs.Fields.{IsPacket}

@@ -1,10 +1,6 @@
 -- How many calls a client makes in a run (this project's own).
 use Rattle.std.specs.Prelude.{ℕ, ◌≡◌, ◌⊎◌, ◌≤◌, ◌+◌, ◌*◌, ◌-◌, ◌^◌, List, [], ◌∷◌, length, map, sum}
-use Rattle.dmx_calls.specs.Response.{Response, Data, Overflow}
-use Rattle.client_script.specs.Script.{Scripted}
-use Rattle.client_script.specs.declared.line.Line.{Line}
-use Rattle.client_script.specs.declared.line.Line.TheVariants.{Command}
-use Rattle.client_core.specs.declared.stop.TheConstants.{MOST_CALLS}
+use Rattle.script_run.specs.Imports.{Command, Data, Line, MOST_CALLS, Overflow, Response, Scripted}
 
 -- how many commands these lines are
 abbrev pub all_commands : List Line → ℕ

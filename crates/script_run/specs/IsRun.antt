@@ -1,18 +1,6 @@
 -- What it means that 33 histories are those of a run of a script over the packets of a stream.
 use Rattle.std.specs.Prelude.{◌≡◌, ◌≢◌, ◌<◌, ◌≤◌, ◌+◌, ℕ, zero, suc, List, [], ◌∷◌, length, map, filter, sum, take, nat_eq, slice_get, Some, None, Option, All}
-use Rattle.dmx_calls.specs.declared.params.Input.TheVariants.{Frontend, Dvr}
-use Rattle.dmx_calls.specs.declared.limits.TheConstants.{DEMUX_NODES}
-use Rattle.dmx_calls.specs.Response.{Response, NoMemory}
-use Rattle.dmx_calls.specs.Legal.{IsLegalFor}
-use Rattle.dmx_calls.specs.declared.log.Act.{Act}
-use Rattle.dmx_calls.specs.declared.log.Act.TheVariants.{Pass as PassAct, End as EndAct}
-use Rattle.dmx_calls.specs.Log.{LogEntry, Sources, act_of, filled}
-use Rattle.dmx_calls.specs.Rules.{rules_at}
-use Rattle.client_script.specs.Script.{clients_in, Scripted}
-use Rattle.client_core.specs.declared.event.Event.{Event}
-use Rattle.client_core.specs.Deeds.{Batches}
-use Rattle.client_core.specs.Commands.{call_of, played, plays_of}
-use Rattle.client_core.specs.Events.{next_event}
+use Rattle.script_run.specs.Imports.{Act, Batches, DEMUX_NODES, Dvr, End as EndAct, Event, Frontend, IsLegalFor, LogEntry, NoMemory, Pass as PassAct, Response, Scripted, Sources, act_of, call_of, clients_in, filled, next_event, played, plays_of, rules_at}
 
 -- ------ the feeder
 

@@ -1,3 +1,4 @@
+pub mod Imports
 pub mod IsRun
 pub mod WholeRun
 pub mod Budget

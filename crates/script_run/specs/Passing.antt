@@ -1,16 +1,8 @@
 -- What clients play through the demux nodes in a run: the batches of those of their writes whose poll found the dvr node to be
 -- their own (this project's own).
 use Rattle.std.specs.Prelude.{ℕ, ◌≡◌, ◌<◌, ◌+◌, List, [], ◌∷◌, filter, filter_map, nat_eq, slice_get, Some}
-use Rattle.std.specs.List.{flat_map}
-use Rattle.ts_batch.specs.Batch.{Packets}
-use Rattle.dmx_calls.specs.declared.limits.TheConstants.{DEMUX_NODES}
-use Rattle.dmx_calls.specs.declared.params.Input.TheVariants.{Dvr}
+use Rattle.script_run.specs.Imports.{DEMUX_NODES, Dvr, LogEntry, Packets, Scripted, Sources, batch_at, clients_in, filled_act, flat_map, played_writes, plays_of}
 use Rattle.dmx_calls.specs.Invocation.{Invocation, Pass}
-use Rattle.dmx_calls.specs.Log.{LogEntry, Sources, filled_act}
-use Rattle.client_script.specs.Script.{Scripted, clients_in}
-use Rattle.client_core.specs.Deeds.{batch_at}
-use Rattle.client_core.specs.Commands.{plays_of}
-use Rattle.client_core.specs.Passes.{played_writes}
 use Rattle.script_run.specs.IsRun.{IsRun, replies, sources}
 
 -- the batch that passes by a call, if it comes from the dvr

@@ -1,14 +1,6 @@
 -- What it means that 33 histories are those of a run that may not be over.
 use Rattle.std.specs.Prelude.{◌≡◌, ◌≢◌, ◌<◌, ◌≤◌, ◌+◌, ◌*◌, ℕ, suc, List, ◌++◌, length, map, sum, take, slice_get, Some, None, IsSome, All}
-use Rattle.ts_packet.specs.Fields.{IsPacket}
-use Rattle.dmx_calls.specs.declared.limits.TheConstants.{DEMUX_NODES}
-use Rattle.dmx_calls.specs.Accounted.{IsAccounted}
-use Rattle.dmx_calls.specs.Legal.{IsLegalFor}
-use Rattle.dmx_calls.specs.Log.{LogEntry, filled}
-use Rattle.dmx_calls.specs.Rules.{rules_at}
-use Rattle.client_script.specs.Script.{AreNumbered, clients_in, Scripted}
-use Rattle.client_core.specs.Commands.{commands_of}
-use Rattle.client_core.specs.Events.{next_event, waits_on}
+use Rattle.script_run.specs.Imports.{AreNumbered, DEMUX_NODES, IsAccounted, IsLegalFor, IsPacket, LogEntry, Scripted, clients_in, commands_of, filled, next_event, rules_at, waits_on}
 use Rattle.script_run.specs.Budget.{all_commands, bytes_written, most_calls}
 use Rattle.script_run.specs.IsRun.{AreCalls, ArePlaced, Batch, Step, IsRun, StandsIn, feeding, replies, sources, steps_of}
 

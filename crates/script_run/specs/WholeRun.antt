@@ -1,14 +1,7 @@
 -- What is said of a run beside the definition of a run: its moments, its batches,
 -- its outcomes, and that it is accounted.
 use Rattle.std.specs.Prelude.{◌≡◌, ◌<◌, ℕ, Bool, IsTrue, List, [], ◌∷◌, length, slice_get, Some}
-use Rattle.dmx_calls.specs.declared.outcome.Outcome.{Outcome}
-use Rattle.dmx_calls.specs.Accounted.{IsAccounted}
-use Rattle.dmx_calls.specs.declared.log.Act.{Act}
-use Rattle.dmx_calls.specs.declared.log.Act.TheVariants.{SetFilter as SetFilterAct, SetPes as SetPesAct, Start as StartAct, Read as ReadAct, Poll as PollAct, Pass as PassAct}
-use Rattle.dmx_calls.specs.Log.{LogEntry, filled}
-use Rattle.dmx_calls.specs.Rules.{rules_at}
-use Rattle.client_script.specs.Script.{clients_in, Scripted}
-use Rattle.client_core.specs.Outcomes.{outcomes}
+use Rattle.script_run.specs.Imports.{Act, IsAccounted, LogEntry, Outcome, Pass as PassAct, Poll as PollAct, Read as ReadAct, Scripted, SetFilter as SetFilterAct, SetPes as SetPesAct, Start as StartAct, clients_in, filled, outcomes, rules_at}
 use Rattle.script_run.specs.IsRun.{Batch, IsRun, replies, sources}
 
 -- the moment of the call, if it has one, is a number that the clock may give

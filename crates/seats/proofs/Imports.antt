@@ -1,69 +1,48 @@
 -- The words of others that the proofs of this crate use.
 pub use Rattle.adapter.proofs.Lists.{at_place, one_value, set_elsewhere, set_there}
 pub use Rattle.adapter.proofs.Pairs.{caller_fits}
-pub use Rattle.adapter.specs.Callers.{AreFreshCallers, Caller, IsFreshCaller}
-pub use Rattle.adapter.specs.Nodes.{IsLegalAt, MakesEntry}
-pub use Rattle.adapter.specs.Rows.{Fits, OneMore}
+pub use Rattle.adapter.specs.Callers.{IsFreshCaller}
+pub use Rattle.adapter.specs.Nodes.{IsLegalAt}
+pub use Rattle.adapter.specs.Rows.{OneMore}
 pub use Rattle.atomic_table.proofs.Lists.{at_last}
-pub use Rattle.atomic_table.specs.Seated.{TableId}
 pub use Rattle.byteorder.specs.Numbers.{little_number-reads_back}
 pub use Rattle.client_core.proofs.GoesOn.{last_counts, progress_of, waits_not}
-pub use Rattle.client_core.specs.Commands.{Doing, IsRequestInRange, Slots, call_of, called, commands_of, done, opened, own_call, plays_of, stands, through, told}
+pub use Rattle.client_core.specs.Commands.{Doing, IsRequestInRange, Slots, call_of, called, done, opened, plays_of, stands, through, told}
 pub use Rattle.client_core.specs.Deeds.{Batches}
-pub use Rattle.client_core.specs.Events.{Ended, Progress, Standing, no_slots, progress_from, slots_after, waits_after, waits_on, with_ended}
+pub use Rattle.client_core.specs.Events.{Ended, Progress, Standing, no_slots, progress_from, slots_after, waits_after, with_ended}
 pub use Rattle.client_core.specs.Outcomes.{Counters, counters_after, kind_by, outcome_by}
-pub use Rattle.client_core.specs.declared.command.Command.{Command}
-pub use Rattle.client_core.specs.declared.deed.Deed.TheVariants.{Once}
 pub use Rattle.client_core.specs.declared.event.Event.{Event}
 pub use Rattle.client_core.specs.declared.event.Request.{Request}
 pub use Rattle.client_core.specs.declared.event.Request.TheVariants.{Own}
 pub use Rattle.client_core.specs.declared.task.Ending.{Ending}
 pub use Rattle.client_core.specs.declared.task.Ending.TheVariants.{AllBusy, Bound, Made as WasMade}
-pub use Rattle.client_script.specs.Script.{Scripted}
-pub use Rattle.client_script.specs.declared.line.Target.{Target}
-pub use Rattle.client_script.specs.declared.line.Target.TheVariants.{Dvr, Node, Slot}
-pub use Rattle.client_script.specs.declared.line.Want.{Want}
 pub use Rattle.client_script.specs.declared.line.Want.TheVariants.{Add, Close, Open, Pes, Remove, Section, Size}
-pub use Rattle.dmx_abi.specs.Layout.{field}
 pub use Rattle.dmx_calls.proofs.Going.{tenure_also, tenure_closed, tenure_opened, tenure_refused}
 pub use Rattle.dmx_calls.specs.Answer.{answer_by, done_dropping, is_owned_by, tap_of_done, with_call}
-pub use Rattle.dmx_calls.specs.Calls.{invocation_of, response_of, told_entry}
-pub use Rattle.dmx_calls.specs.Entries.{caller_of}
 pub use Rattle.dmx_calls.specs.Facts.{Facts, Ledger}
-pub use Rattle.dmx_calls.specs.History.{Entry, History, Since, also, entry_of, event}
+pub use Rattle.dmx_calls.specs.History.{History, Since, also, entry_of, event}
 pub use Rattle.dmx_calls.specs.Invocation.{AddPid, Attach, Detach, End, Invocation, Pass, Poll, Read, RemovePid, SetFilter, SetPes, SetSize, Start, Stop}
 pub use Rattle.dmx_calls.specs.Legal.{IsLegalFor, May}
-pub use Rattle.dmx_calls.specs.Log.{LogEntry, act_of}
-pub use Rattle.dmx_calls.specs.Response.{Again, Busy, Data, Done, NoMemory, Overflow, Passed, Ready, Refused, Response, TapChange, TimedOut, is_accepted}
 pub use Rattle.dmx_calls.specs.Rules.{Rules, rules_at}
 pub use Rattle.dmx_calls.specs.Tenure.{closes, opens}
-pub use Rattle.dmx_calls.specs.declared.limits.TheConstants.{DEMUX_NODES}
-pub use Rattle.dmx_calls.specs.declared.log.Act.{Act}
-pub use Rattle.dmx_calls.specs.declared.log.Act.TheVariants.{Attach as AttachAct, Close as CloseAct, Detach as DetachAct, Open as OpenAct}
 pub use Rattle.dmx_calls.specs.declared.log.Entry.{Entry as ToldEntry}
 pub use Rattle.dmx_calls.specs.declared.node.NodeKind.{NodeKind}
 pub use Rattle.dmx_calls.specs.declared.node.NodeKind.TheVariants.{Demux}
-pub use Rattle.dmx_calls.specs.declared.outcome.Outcome.{Outcome}
-pub use Rattle.dmx_calls.specs.declared.outcome.OutcomeKind.{OutcomeKind}
 pub use Rattle.dmx_calls.specs.declared.outcome.OutcomeKind.TheVariants.{Done as WasDone, Emfile as WasEmfile}
 pub use Rattle.dmx_calls.specs.declared.reply.Tap.TheVariants.{Attach as AttachTap, Detach as DetachTap, Keep as KeepTap}
-pub use Rattle.emu_io.specs.Causes.{raised}
-pub use Rattle.emu_io.specs.Ends.{SinkEnd, SourceEnd}
 pub use Rattle.lemmas.proofs.Lists.{all_behind, all_front, at_before, has_either}
 pub use Rattle.lemmas.proofs.Members.{each_more, mapped}
 pub use Rattle.lemmas.specs.Lists.{Has}
 pub use Rattle.node_lock.proofs.Views.{at_below, prefix_at}
 pub use Rattle.node_lock.specs.Inside.Seats.{fresh}
-pub use Rattle.node_lock.specs.Passes.{KnowsItsCalls}
-pub use Rattle.node_lock.specs.declared.view.View.{View}
-pub use Rattle.script_run.specs.IsRun.{AreAsked, IsEvent, replies}
+pub use Rattle.script_run.specs.IsRun.{IsEvent}
 pub use Rattle.script_run.proofs.Lists.{take_next}
-pub use Rattle.script_run.specs.WholeRun.{IsGiven}
 pub use Rattle.seats.specs.Answered.{AreBusy, AreClosings, IsAnswered, IsAnsweredBy, IsBehind, IsClosing, IsCommand, IsFull, IsOpened, act_behind, act_by_tap, is_busy, refusal, told_opened}
 pub use Rattle.seats.specs.Asks.{IsWantInRange, ask_of, asked}
 pub use Rattle.seats.specs.Calls.{MakesCall, MakesCalls, PassesNone}
 pub use Rattle.seats.specs.Doing.{ClosesHeld, Does, DoesCommand, HasAnswered, HasGone, HasMade, Keeps, KeepsBy, KeepsClosed, KeepsOne, KeepsOpened, MakesOne, MarksNoMore}
 pub use Rattle.seats.specs.Holding.{AreMarked, CloseHeld, GivesBack, HasLeft, IsOwnPass, KnowsItsNodes, has_then, holds}
+pub use Rattle.seats.specs.Imports.{Act, Again, Appends, AreAsked, AreFreshCallers, Attach as AttachAct, Busy, Caller, Close as CloseAct, Command, Consumes, DEMUX_NODES, Data, Detach as DetachAct, Done, Dvr, Entry, Fits, IsAtEnd, IsGiven, KnowsItsCalls, LogEntry, MakesEntry, NoMemory, Node, Once, Open as OpenAct, Outcome, OutcomeKind, Overflow, Passed, Ready, Refused, Response, Scripted, SinkEnd, Slot, SourceEnd, TableId, TapChange, Target, TimedOut, View, Want, act_of, caller_of, commands_of, field, flat_map, invocation_of, is_accepted, own_call, raised, replies, response_of, told_entry, waits_on}
 pub use Rattle.seats.specs.Line.{BreaksOff, HasStopped, RunsOut, Takes, Writes}
 pub use Rattle.seats.specs.Numbered.{numbered}
 pub use Rattle.seats.specs.Scripts.{IsPlayed, LinesArePlayed}
@@ -91,8 +70,6 @@ pub use Rattle.std.proofs.lemmas.List.Elements.{All-append, All-cons, All-head, 
 pub use Rattle.std.proofs.lemmas.List.Sums.{fold-append}
 pub use Rattle.std.proofs.lemmas.Option.{get_or_from_slice_get, slice_get-get_or, slice_get-map, slice_get_read, slice_get_within}
 pub use Rattle.std.proofs.lemmas.Result.{IfOk-weaker}
-pub use Rattle.std.specs.Io.KnownBytes.{Appends, Consumes, IsAtEnd}
-pub use Rattle.std.specs.List.{flat_map}
 pub use Rattle.std.specs.Prelude.{if◌then◌else◌, option_map, slice_get, slice_index_or}
 pub use borrow.Rule.Slice.PartMut.{post_of, put_mid}
 pub use lib.ListN.{get_elem?}

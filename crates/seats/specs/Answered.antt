@@ -1,12 +1,7 @@
 -- What a request is answered by: which calls are made for it, and what is told.
 use Rattle.std.specs.Prelude.{◌≡◌, ◌≢◌, ◌<◌, ◌+◌, ◌⊎◌, ℕ, suc, zero, Bool, true, false, nat_eq, if◌then◌else◌, List, [], ◌∷◌, ◌++◌, length, slice_get, Option, Some, None}
-use Rattle.dmx_calls.specs.declared.limits.TheConstants.{DEMUX_NODES}
-use Rattle.dmx_calls.specs.declared.log.Act.{Act}
-use Rattle.dmx_calls.specs.declared.log.Act.TheVariants.{Open as OpenAct, Close as CloseAct, Attach as AttachAct, Detach as DetachAct}
+use Rattle.seats.specs.Imports.{Act, Attach as AttachAct, Busy, Close as CloseAct, DEMUX_NODES, Detach as DetachAct, Done, LogEntry, Open as OpenAct, Response, TapChange, act_of, own_call}
 use Rattle.dmx_calls.specs.declared.reply.Tap.TheVariants.{Keep as KeepTap, Attach as AttachTap, Detach as DetachTap}
-use Rattle.dmx_calls.specs.Log.{LogEntry, act_of}
-use Rattle.dmx_calls.specs.Response.{Response, TapChange, Done, Busy}
-use Rattle.client_core.specs.Commands.{own_call}
 use Rattle.seats.specs.declared.serve_frames.ask.Ask.{Ask}
 use Rattle.seats.specs.declared.serve_frames.ask.Ask.TheVariants.{OpenDemux, Call, Leave, Refused}
 use Rattle.seats.specs.declared.serve_frames.numbers.TheConstants.{NO_PLACE, EMFILE, ENOMEM}

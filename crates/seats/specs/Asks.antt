@@ -1,13 +1,6 @@
 -- What a request asks (this project's own; what an ioctl asks is dmx_abi's).
 use Rattle.std.specs.Prelude.{ℕ, ◌≤◌, ◌==◌, nat_lt, min, List, take, drop, Option, Some, None, Result, Ok, Err, if◌then◌else◌}
-use Rattle.dmx_abi.specs.Layout.{field}
-use Rattle.dmx_abi.specs.Decoded.{decoded}
-use Rattle.dmx_abi.specs.declared.request.Request.{Request}
-use Rattle.dmx_abi.specs.declared.request.AbiFault.{AbiFault}
-use Rattle.dmx_abi.specs.declared.request.AbiFault.TheVariants.{Unknown, Length}
-use Rattle.dmx_calls.specs.declared.limits.TheConstants.{DEMUX_NODES, LARGEST_READ}
-use Rattle.client_script.specs.Requests.{want_of}
-use Rattle.client_script.specs.declared.line.Want.{Want}
+use Rattle.seats.specs.Imports.{AbiFault, DEMUX_NODES, LARGEST_READ, Length, Request, Unknown, Want, decoded, field, want_of}
 use Rattle.client_script.specs.declared.line.Want.TheVariants as want
 use Rattle.seats.specs.declared.serve_frames.ask.Ask.{Ask}
 use Rattle.seats.specs.declared.serve_frames.ask.Ask.TheVariants.{OpenDemux, Call, Leave, Refused}

@@ -1,11 +1,6 @@
 -- The calls of a caller: how it comes from one state to another, call by call.
 use Rattle.std.specs.Prelude.{◌≡◌, ◌+◌, ℕ, List, [], ◌∷◌}
-use Rattle.dmx_calls.specs.declared.log.Act.{Act}
-use Rattle.dmx_calls.specs.declared.log.Act.TheVariants.{Pass as PassAct}
-use Rattle.dmx_calls.specs.History.{Entry}
-use Rattle.dmx_calls.specs.Log.{LogEntry, act_of}
-use Rattle.adapter.specs.Callers.{Caller, IsSameCaller}
-use Rattle.adapter.specs.Nodes.{MakesEntry}
+use Rattle.seats.specs.Imports.{Act, Caller, Entry, IsSameCaller, LogEntry, MakesEntry, Pass as PassAct, act_of}
 
 -- no packets pass by this call
 abbrev pub PassesNone : Act → Type 0

@@ -1,12 +1,7 @@
 -- What a seat does: the calls by which its last calls have grown.
 use Rattle.std.specs.Prelude.{◌≡◌, ◌≤◌, ◌++◌, ◌∷◌, [], ℕ, true, List, length, map, slice_get, Some}
-use Rattle.dmx_calls.specs.declared.limits.TheConstants.{DEMUX_NODES}
-use Rattle.dmx_calls.specs.declared.log.Act.{Act}
+use Rattle.seats.specs.Imports.{Act, DEMUX_NODES, LogEntry, Target, Want, response_of}
 use Rattle.dmx_calls.specs.declared.outcome.OutcomeKind.TheVariants.{Done as WasDone}
-use Rattle.client_script.specs.declared.line.Target.{Target}
-use Rattle.client_script.specs.declared.line.Want.{Want}
-use Rattle.dmx_calls.specs.Calls.{response_of}
-use Rattle.dmx_calls.specs.Log.{LogEntry}
 use Rattle.seats.specs.declared.serve_frames.ask.Ask.{Ask}
 use Rattle.seats.specs.declared.serve_frames.ask.Ask.TheVariants.{OpenDemux, Leave}
 use Rattle.seats.specs.declared.serve_frames.tell.Tell.{Tell}

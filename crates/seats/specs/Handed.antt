@@ -1,10 +1,6 @@
 -- Seats that have served their lines and handed their calls over to journals.
 use Rattle.std.specs.Prelude.{◌≡◌, ◌<◌, ◌≤◌, ℕ, Bool, List, [], length, slice_index_or}
-use Rattle.atomic_table.specs.Seated.{TableId}
-use Rattle.emu_io.specs.Ends.{SourceEnd, SinkEnd}
-use Rattle.dmx_calls.specs.declared.limits.TheConstants.{DEMUX_NODES}
-use Rattle.dmx_calls.specs.declared.outcome.Outcome.{Outcome}
-use Rattle.dmx_calls.specs.Log.{LogEntry}
+use Rattle.seats.specs.Imports.{DEMUX_NODES, LogEntry, Outcome, SinkEnd, SourceEnd, TableId}
 use Rattle.seats.specs.declared.journal.JournalLine.{JournalLine}
 use Rattle.seats.specs.declared.run.Desk.{Desk}
 use Rattle.seats.specs.declared.seat.Seat.{Seat}

@@ -1,17 +1,6 @@
 -- Which nodes are a caller's, by its calls and by what its passes have seen.
 use Rattle.std.specs.Prelude.{◌≡◌, ◌≢◌, ◌≤◌, ℕ, Bool, true, false, List, [], ◌∷◌, ◌++◌, fold, nat_eq, reverse, slice_get, Some, if◌then◌else◌}
-use Rattle.atomic_table.specs.Seated.{TableId}
-use Rattle.node_lock.specs.declared.view.View.{View}
-use Rattle.node_lock.specs.Passes.{KnowsItsCalls}
-use Rattle.dmx_calls.specs.declared.log.Act.{Act}
-use Rattle.dmx_calls.specs.declared.limits.TheConstants.{DEMUX_NODES}
-use Rattle.dmx_calls.specs.declared.log.Act.TheVariants.{Open, Close}
-use Rattle.dmx_calls.specs.Entries.{caller_of}
-use Rattle.dmx_calls.specs.History.{Entry}
-use Rattle.dmx_calls.specs.Log.{LogEntry}
-use Rattle.dmx_calls.specs.Response.{Response, is_accepted}
-use Rattle.dmx_calls.specs.Tenure.{owner}
-use Rattle.adapter.specs.Callers.{Caller}
+use Rattle.seats.specs.Imports.{Act, Caller, Close, DEMUX_NODES, Entry, KnowsItsCalls, LogEntry, Open, Response, TableId, View, caller_of, is_accepted, owner}
 
 -- By what its pass has seen of a node, a caller isn't the owner. What others call changes nothing of this.
 abbrev pub HasLeft : (node : ℕ) → Caller → Type 0

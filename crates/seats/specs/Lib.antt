@@ -1,3 +1,4 @@
+pub mod Imports
 pub mod Answered
 pub mod Calls
 pub mod Doing

@@ -1,8 +1,6 @@
 -- What reads of a line take, and what writes to it give, where either may fail.
 use Rattle.std.specs.Prelude.{◌≡◌, ◌<◌, ◌⊎◌, ◌++◌, ℕ, List, length}
-use Rattle.std.specs.Io.KnownBytes.{Appends, Consumes, IsAtEnd}
-use Rattle.emu_io.specs.Causes.{raised}
-use Rattle.emu_io.specs.Ends.{SourceEnd, SinkEnd}
+use Rattle.seats.specs.Imports.{Appends, Consumes, IsAtEnd, SinkEnd, SourceEnd, raised}
 
 -- these bytes were taken, and no read failed
 pub record Takes (before after : SourceEnd) (bytes : List ℕ) : Type 0 where

@@ -1,6 +1,6 @@
 -- Calls with the numbers that they have among all calls of their caller.
 use Rattle.std.specs.Prelude.{ℕ, ◌+◌, List, [], ◌∷◌}
-use Rattle.dmx_calls.specs.Log.{LogEntry}
+use Rattle.seats.specs.Imports.{LogEntry}
 
 -- these calls, one after another, with the numbers from this one on
 abbrev pub numbered : (first : ℕ) → List LogEntry → List LogEntry

@@ -1,14 +1,6 @@
 -- The requests of a line are the commands of a client of a script.
 use Rattle.std.specs.Prelude.{◌≡◌, ◌+◌, ℕ, Bool, List, ◌++◌, take, slice_get, Some, None, All}
-use Rattle.dmx_calls.specs.declared.limits.TheConstants.{DEMUX_NODES}
-use Rattle.dmx_calls.specs.declared.outcome.Outcome.{Outcome}
-use Rattle.dmx_calls.specs.Log.{LogEntry}
-use Rattle.client_script.specs.Script.{Scripted}
-use Rattle.client_core.specs.Commands.{commands_of}
-use Rattle.client_core.specs.Events.{next_event, waits_on}
-use Rattle.client_core.specs.Outcomes.{outcomes}
-use Rattle.script_run.specs.IsRun.{AreAsked, replies}
-use Rattle.script_run.specs.WholeRun.{IsGiven}
+use Rattle.seats.specs.Imports.{AreAsked, DEMUX_NODES, IsGiven, LogEntry, Outcome, Scripted, commands_of, next_event, outcomes, replies, waits_on}
 use Rattle.seats.specs.Answered.{AreClosings}
 use Rattle.seats.specs.Seated.{AreOnNodes}
 use Rattle.seats.specs.Spelled.{commands_by, outcomes_by}

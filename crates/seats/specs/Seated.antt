@@ -1,11 +1,6 @@
 -- A seat, and how what it keeps is tied to the calls that its client has made.
 use Rattle.std.specs.Prelude.{◌≡◌, ◌≤◌, ◌+◌, ◌^◌, ℕ, false, true, List, [], ◌++◌, length, map, replicate, slice_get, Some, vec_capacity, All}
-use Rattle.atomic_table.specs.Seated.{TableId}
-use Rattle.dmx_calls.specs.declared.limits.TheConstants.{DEMUX_NODES}
-use Rattle.dmx_calls.specs.Calls.{response_of, told_entry}
-use Rattle.dmx_calls.specs.Log.{LogEntry}
-use Rattle.adapter.specs.Callers.{Caller}
-use Rattle.adapter.specs.Rows.{Fits}
+use Rattle.seats.specs.Imports.{Caller, DEMUX_NODES, Fits, LogEntry, TableId, response_of, told_entry}
 use Rattle.seats.specs.Calls.{MakesCalls}
 use Rattle.seats.specs.Holding.{AreMarked, KnowsItsNodes}
 use Rattle.seats.specs.declared.made.Made.{Made}

@@ -1,9 +1,7 @@
 -- Seats that have served their lines.
 use Rattle.std.specs.Prelude.{◌≡◌, ◌<◌, ◌≤◌, ℕ, Bool, List, length, slice_index_or}
-use Rattle.atomic_table.specs.Seated.{TableId}
+use Rattle.seats.specs.Imports.{DEMUX_NODES, SinkEnd, SourceEnd, TableId}
 use Rattle.seats.specs.declared.run.Desk.{Desk}
-use Rattle.emu_io.specs.Ends.{SourceEnd, SinkEnd}
-use Rattle.dmx_calls.specs.declared.limits.TheConstants.{DEMUX_NODES}
 use Rattle.seats.specs.declared.seat.Seat.{Seat}
 use Rattle.seats.specs.Holding.{HasLeft}
 use Rattle.seats.specs.Seated.{log_of, IsFit, GoesOn}

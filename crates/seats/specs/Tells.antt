@@ -1,11 +1,7 @@
 -- What is told in reply (this project's own; the numbers of errors are those of Linux).
 use Rattle.std.specs.Prelude.{ℕ, ◌+◌, Bool, true, false, List, [], ◌++◌, if◌then◌else◌}
-use Rattle.byteorder.specs.Endian.{little_bytes}
-use Rattle.dmx_calls.specs.declared.reply.Errno.{Errno}
-use Rattle.dmx_calls.specs.declared.reply.Errno.TheVariants.{Ebadf, Ebusy, Einval, Enospc}
-use Rattle.dmx_calls.specs.declared.reply.PollError.{PollError}
+use Rattle.seats.specs.Imports.{Again, Busy, Data, Done, Ebadf, Ebusy, Einval, Enospc, Errno, NoMemory, Overflow, Passed, PollError, Ready, Refused, Response, TimedOut, little_bytes}
 use Rattle.dmx_calls.specs.declared.reply.PollError.TheVariants.{Quiet, Overflow as OverflowPending, TimedOut as TimeoutPending}
-use Rattle.dmx_calls.specs.Response.{Response, Done, Busy, Refused, NoMemory, Data, Again, Overflow, TimedOut, Ready, Passed}
 use Rattle.seats.specs.declared.serve_frames.tell.Tell.{Tell}
 use Rattle.seats.specs.declared.serve_frames.numbers.TheConstants.{EBADF, EAGAIN, ENOMEM, EBUSY, EINVAL, ENOSPC, EOVERFLOW, ETIMEDOUT}
 

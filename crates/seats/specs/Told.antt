@@ -1,6 +1,6 @@
 -- What a seat tells, as bytes.
 use Rattle.std.specs.Prelude.{ℕ, List, [], ◌++◌, length, slice_get, Option, Some, None}
-use Rattle.dmx_calls.specs.Calls.{response_of}
+use Rattle.seats.specs.Imports.{response_of}
 use Rattle.seats.specs.Tells.{head_of, data_of}
 use Rattle.seats.specs.declared.serve_frames.tell.Tell.{Tell}
 use Rattle.seats.specs.declared.made.Made.{Made}

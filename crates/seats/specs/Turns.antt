@@ -1,15 +1,10 @@
 -- The requests of a line, one after another, and how each is answered.
 use Rattle.std.specs.Prelude.{◌≡◌, ◌++◌, ◌∷◌, [], ◌+◌, ℕ, Bool, true, false, IsTrue, List, length}
-use Rattle.std.specs.List.{flat_map}
-use Rattle.emu_io.specs.Ends.{SourceEnd, SinkEnd}
-use Rattle.dmx_calls.specs.declared.limits.TheConstants.{DEMUX_NODES}
-use Rattle.dmx_calls.specs.declared.outcome.Outcome.{Outcome}
-use Rattle.dmx_calls.specs.Log.{LogEntry}
+use Rattle.seats.specs.Imports.{Caller, DEMUX_NODES, LogEntry, Outcome, SinkEnd, SourceEnd, flat_map}
 use Rattle.seats.specs.Asks.{ask_of}
 use Rattle.seats.specs.declared.serve_frames.ask.Ask.TheVariants.{Leave}
 use Rattle.seats.specs.declared.serve_frames.numbers.TheConstants.{REQUEST_LEN}
 use Rattle.seats.specs.declared.serve_frames.tell.Tell.{Tell}
-use Rattle.adapter.specs.Callers.{Caller}
 use Rattle.seats.specs.Answered.{IsAnswered, AreClosings}
 use Rattle.seats.specs.Calls.{MakesCalls}
 use Rattle.seats.specs.Holding.{GivesBack, GivesBackMarked}

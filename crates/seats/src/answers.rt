@@ -1,10 +1,7 @@
 // What a seat does for what it is asked, and what it tells.
 ghost use Rattle.std.specs.Prelude.{◌≡◌, ◌≢◌, ◌<◌, ◌≤◌, ◌+◌, ◌⊎◌, [], ℕ, true, None, Some, length, slice_get, vec_capacity, IfOk, IfSome};
-ghost use Rattle.dmx_calls.specs.Calls.{invocation_of, response_of};
-ghost use Rattle.dmx_calls.specs.Log.{act_of};
-ghost use Rattle.dmx_calls.specs.declared.limits.TheConstants.{DEMUX_NODES as nodes};
+ghost use Rattle.seats.specs.Imports.{DEMUX_NODES as nodes, act_of, invocation_of, own_call as own_call_by, response_of};
 ghost use Rattle.dmx_calls.specs.Invocation as asks;
-ghost use Rattle.client_core.specs.Commands.{own_call as own_call_by};
 ghost use Rattle.seats.specs.Asks.{IsAskInRange, IsWantInRange};
 ghost use Rattle.seats.specs.declared.serve_frames.ask.Ask.TheVariants.{Leave};
 ghost use Rattle.seats.specs.Tells.{told_of};

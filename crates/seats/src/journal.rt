@@ -1,7 +1,6 @@
 // Where the calls of a seat go that keeps none.
 ghost use Rattle.std.specs.Prelude.{◌+◌, ◌≤◌, ◌^◌, ◌++◌, [], List, length, map};
-ghost use Rattle.dmx_calls.specs.Calls.{told_entry};
-ghost use Rattle.dmx_calls.specs.Log.{LogEntry};
+ghost use Rattle.seats.specs.Imports.{LogEntry, told_entry};
 ghost use Rattle.seats.specs.Numbered.{numbered};
 
 use dmx_calls::Entry;

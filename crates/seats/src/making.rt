@@ -1,7 +1,6 @@
 // The seats of clients, each with its line.
 ghost use Rattle.std.specs.Prelude.{◌≡◌, ◌≤◌, length, map, reverse, List, IfOk};
-ghost use Rattle.atomic_table.specs.Seated.{TableId};
-ghost use Rattle.adapter.specs.Callers.{Caller, AreFreshCallers};
+ghost use Rattle.seats.specs.Imports.{AreFreshCallers, Caller, TableId};
 ghost use Rattle.seats.specs.Seated.{AreReady};
 
 use crate::run::Desk;

@@ -1,11 +1,7 @@
 // A seat and its calls.
 ghost use Rattle.std.specs.Prelude.{◌≡◌, ◌≢◌, ◌<◌, ◌≤◌, ◌+◌, ◌^◌, ◌++◌, ◌∷◌, [], ℕ, true, List, Some, length, map, option_map, slice_get, vec_capacity, OnOk, IfOk, IfSome};
-ghost use Rattle.atomic_table.specs.Seated.{TableId};
-ghost use Rattle.dmx_calls.specs.Calls.{invocation_of, response_of, told_entry};
-ghost use Rattle.dmx_calls.specs.Log.{act_of};
-ghost use Rattle.dmx_calls.specs.declared.limits.TheConstants.{DEMUX_NODES as nodes};
+ghost use Rattle.seats.specs.Imports.{DEMUX_NODES as nodes, TableId, act_of, invocation_of, is_accepted as is_accepted_by, response_of, told_entry};
 ghost use Rattle.dmx_calls.specs.Invocation as asks;
-ghost use Rattle.dmx_calls.specs.Response.{is_accepted as is_accepted_by};
 ghost use Rattle.seats.specs.Answered.{act_behind};
 ghost use Rattle.seats.specs.Calls.{PassesNone};
 ghost use Rattle.seats.specs.Doing.{MakesOne, DoesCommand, MarksNoMore};

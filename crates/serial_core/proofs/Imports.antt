@@ -2,55 +2,37 @@
 pub use Rattle.client_core.proofs.Ended.{ended_waits_not}
 pub use Rattle.client_core.proofs.GoesOn.{last_counts, none_waits as before_first}
 pub use Rattle.client_core.proofs.Numbering.{AreThrough, next_is_numbered, through_more, through_next}
-pub use Rattle.client_core.specs.Commands.{call_of, commands_among, commands_in, commands_of, pass_of, plays_of}
-pub use Rattle.client_core.specs.Deeds.{Batches, batch_at, deed_of}
-pub use Rattle.client_core.specs.Events.{Standing, next_event, next_of_line, no_slots, progress, progress_from, standing_at, waits_after, waits_on}
-pub use Rattle.client_core.specs.Inside.Core.{Core, IsAfter}
-pub use Rattle.client_core.specs.Outcomes.{outcomes}
+pub use Rattle.client_core.specs.Commands.{commands_among, commands_in, pass_of}
+pub use Rattle.client_core.specs.Deeds.{batch_at, deed_of}
+pub use Rattle.client_core.specs.Events.{Standing, next_event, no_slots, progress, progress_from, standing_at, waits_after}
 pub use Rattle.client_core.specs.declared.command.Command.{Command as ClientCommand}
 pub use Rattle.client_core.specs.declared.deed.Deed.{Deed}
-pub use Rattle.client_core.specs.declared.event.Event.{Event}
 pub use Rattle.client_core.specs.declared.event.Request.{Request}
 pub use Rattle.client_core.specs.declared.event.Request.TheVariants.{Own}
 pub use Rattle.client_core.specs.declared.stop.Stop.TheVariants.{TooLong}
-pub use Rattle.client_script.specs.Grammar.{IsInRange}
-pub use Rattle.client_script.specs.Script.{AreNumbered, Scripted, clients_in, clients_of}
-pub use Rattle.client_script.specs.declared.line.Line.{Line}
-pub use Rattle.client_script.specs.declared.line.Line.TheVariants.{Command, Feed, Tick}
 pub use Rattle.client_script.specs.declared.line.Target.{Target}
 pub use Rattle.client_script.specs.declared.line.Verb.{Verb}
-pub use Rattle.client_script.specs.declared.line.Want.TheVariants.{Open}
 pub use Rattle.dmx_calls.proofs.Going.{has_ended_after, has_ended_refused}
 pub use Rattle.dmx_calls.proofs.Numbered.{demux_rules, dvr_rules}
 pub use Rattle.dmx_calls.proofs.Reading.{read_each}
 pub use Rattle.dmx_calls.proofs.Telling.{fills}
 pub use Rattle.dmx_calls.proofs.Weaving.{in_place-append, woven-call, woven-fed}
 pub use Rattle.dmx_calls.specs.Answer.{ReadTerms, answer_by as dmx_answer, done_dropping, expired_of, open_response, read_terms, refusal_to, response_of_read, response_to, response_unless, with_call}
-pub use Rattle.dmx_calls.specs.Calls.{invocation_of, response_of, told_entry}
 pub use Rattle.dmx_calls.specs.Facts.{Facts, Ledger, facts}
-pub use Rattle.dmx_calls.specs.Histories.{AreInPlace, feeder_acts, feeder_entry, histories_of, woven, woven_nodes}
-pub use Rattle.dmx_calls.specs.History.{History, entry_of, event}
-pub use Rattle.dmx_calls.specs.Invocation.{AddPid, Attach, Close, Detach, End, Invocation, Pass, Poll, Read, RemovePid, SetFilter, SetPes, SetSize, Start, Stop}
-pub use Rattle.dmx_calls.specs.Legal.{IsLegalFor, May}
-pub use Rattle.dmx_calls.specs.Log.{IsFrom, LogEntry, Sources, act_of, filled, filled_entry}
-pub use Rattle.dmx_calls.specs.Response.{Again, NoMemory, Passed, Response, TapChange, is_accepted}
-pub use Rattle.dmx_calls.specs.Rules.{Rules, dvr, rules_at}
+pub use Rattle.dmx_calls.specs.Histories.{AreInPlace, feeder_acts, feeder_entry, woven_nodes}
+pub use Rattle.dmx_calls.specs.History.{event}
+pub use Rattle.dmx_calls.specs.Invocation.{AddPid, Attach, Close, Detach, End, Pass, Poll, Read, RemovePid, SetFilter, SetPes, SetSize, Start, Stop}
+pub use Rattle.dmx_calls.specs.Log.{IsFrom, Sources, filled_entry}
+pub use Rattle.dmx_calls.specs.Response.{NoMemory, TapChange, is_accepted}
+pub use Rattle.dmx_calls.specs.Rules.{Rules, dvr}
 pub use Rattle.dmx_calls.specs.Tenure.{has_ended, is_end}
-pub use Rattle.dmx_calls.specs.declared.limits.TheConstants.{DEMUX_NODES}
-pub use Rattle.dmx_calls.specs.declared.log.Act.{Act}
-pub use Rattle.dmx_calls.specs.declared.log.Act.TheVariants.{End as EndAct, Pass as PassAct}
 pub use Rattle.dmx_calls.specs.declared.log.Entry.{Entry, Entry as CodeEntry}
 pub use Rattle.dmx_calls.specs.declared.node.NodeKind.{NodeKind}
-pub use Rattle.dmx_calls.specs.declared.params.Input.TheVariants.{Frontend}
 pub use Rattle.dmx_calls.specs.declared.reply.Errno.{Errno}
-pub use Rattle.emu_io.specs.Ends.{SourceEnd}
 pub use Rattle.feed_pull.proofs.CutPackets.{are_packets}
 pub use Rattle.feed_pull.proofs.Drawing.{draws_none, draws_then, none_given}
 pub use Rattle.feed_pull.proofs.PullLemmas.{Pulls-done, Pulls-front, Pulls-size}
 pub use Rattle.feed_pull.proofs.Stopping.{end_by, many_reads, of_stream, on_err, rose_by, still_counts}
-pub use Rattle.feed_pull.specs.Pulling.{IsDone, Pulling, Pulls, has_failed}
-pub use Rattle.feed_pull.specs.Streams.{Draws, OfStream}
-pub use Rattle.feed_pull.specs.declared.fault.Reading.TheVariants.{TooMany}
 pub use Rattle.lemmas.proofs.Lists.{at_before, at_end, at_last, at_last as got_last}
 pub use Rattle.lemmas.proofs.Options.{same_some}
 pub use Rattle.script_run.proofs.Calls.{asked_more, turn_more}
@@ -61,11 +43,12 @@ pub use Rattle.script_run.proofs.Events.{from_client}
 pub use Rattle.script_run.proofs.Lists.{filter_more}
 pub use Rattle.script_run.proofs.OnNodes.{by_caller, calls_of, on_node}
 pub use Rattle.script_run.proofs.Paying.{calls_are_bounded, calls_are_paid, commands_shared, plays_by}
-pub use Rattle.script_run.specs.Budget.{IsTooLong, all_commands, bytes_written, most_calls}
-pub use Rattle.script_run.specs.IsRun.{AreAsked, Batch, InTurn, IsEvent, Step, feeding, replies, sources, steps_of}
+pub use Rattle.script_run.specs.Budget.{all_commands}
+pub use Rattle.script_run.specs.IsRun.{AreAsked, Batch, InTurn, IsEvent, Step, feeding, steps_of}
 pub use Rattle.script_run.specs.SoFar.{HasDoneSoFar, IsFedSoFar, IsOver, IsPaidBehind, IsSoFar, feeder}
 pub use Rattle.serial_core.specs.Budget.{AreBegun, IsBegun, IsMoment, IsOnTheWay, IsWithinBudget, no_call, one_call}
 pub use Rattle.serial_core.specs.Examples.{DrainedOutcomes, DrainedRun, PlayedOutcomes, PlayedRun, WaitedOutcomes, WaitedRun}
+pub use Rattle.serial_core.specs.Imports.{Act, Again, AreNumbered, Batches, Command, Core, DEMUX_NODES, Draws, End as EndAct, Event, Feed, Frontend, History, Invocation, IsAfter, IsDone, IsInRange, IsLegalFor, IsPacket, IsTooLong, Line, LogEntry, May, OfStream, Open, Pass as PassAct, Passed, Pulling, Pulls, Response, Scripted, SourceEnd, Tick, TooMany, act_of, bytes_written, call_of, clients_in, clients_of, commands_of, cut, entry_of, filled, has_failed, head_of, histories_of, invocation_of, most_calls, next_of_line, outcomes, plays_of, range_with_len, replies, response_of, rules_at, sources, told_entry, told_head, waits_on, woven}
 pub use Rattle.serial_core.specs.Inside.Legal.{AreLegal, from_frontend, packets_through}
 pub use Rattle.serial_core.specs.Inside.Lines.{AllOverrunBy, AreAfter, AreInBudget, ComesByLines, IsFrontBy, IsLineBy, IsWholeBy, OverrunsBy, calls_by}
 pub use Rattle.serial_core.specs.Inside.Moving.{ComesBy, ComesByCalls, HasDrawn, IsAt, IsDoneBy, IsReady, IsSound, MadeAtMost, Moves, one_if}
@@ -95,9 +78,6 @@ pub use Rattle.std.proofs.lemmas.List.Sums.{get_or-le-sum_by, sum_by-append, sum
 pub use Rattle.std.proofs.lemmas.Nat.{div-add-mod'}
 pub use Rattle.std.proofs.lemmas.Option.{none-some, slice_get-get_or, slice_get-map, slice_get_within}
 pub use Rattle.std.proofs.lemmas.Simd.{map-map}
-pub use Rattle.std.specs.List.{All, range_with_len}
+pub use Rattle.std.specs.List.{All}
 pub use Rattle.std.specs.Prelude.{IsSome, if◌then◌else◌, is_some, option_map, slice_get, slice_index_or, slice_set, sum, ◌||◌}
 pub use Rattle.ts_batch.specs.Batch.{Packets}
-pub use Rattle.ts_packet.specs.Cut.{cut}
-pub use Rattle.ts_packet.specs.Fields.{IsPacket}
-pub use Rattle.ts_watch.specs.Head.{head_of, told_head}

@@ -1,14 +1,6 @@
 -- How many calls clients make in the serial run (this project's own).
 use Rattle.std.specs.Prelude.{ℕ, ◌≡◌, ◌+◌, ◌≤◌, ◌*◌, List, ◌∷◌, ◌++◌, length, Some, All}
-use Rattle.ts_packet.specs.Fields.{IsPacket}
-use Rattle.client_script.specs.Grammar.{IsInRange}
-use Rattle.client_script.specs.Script.{AreNumbered, Scripted}
-use Rattle.client_script.specs.declared.line.Line.{Line}
-use Rattle.client_script.specs.declared.line.Line.TheVariants.{Command}
-use Rattle.client_core.specs.Commands.{commands_of, plays_of}
-use Rattle.client_core.specs.declared.event.Event.{Event}
-use Rattle.client_core.specs.Events.{next_of_line}
-use Rattle.script_run.specs.Budget.{bytes_written, most_calls}
+use Rattle.serial_core.specs.Imports.{AreNumbered, Command, Event, IsInRange, IsPacket, Line, Scripted, bytes_written, commands_of, most_calls, next_of_line, plays_of}
 use Rattle.serial_core.specs.SerialRun.{Run, begun, replies_of, called, after_waiting, AreDone, IsSerialRun}
 
 module _ (script : Scripted) (batch : ℕ) where

@@ -1,14 +1,6 @@
 -- What `run_steps` answers.
 use Rattle.std.specs.Prelude.{◌≡◌, ℕ, ◌≤◌, ◌<◌, false, slice_index_or, All, List, [], length, map}
-use Rattle.std.specs.List.{range_with_len}
-use Rattle.ts_packet.specs.Cut.{cut}
-use Rattle.ts_packet.specs.declared.size.PacketSize.{PacketSize}
-use Rattle.dmx_calls.specs.declared.outcome.Outcome.{Outcome}
-use Rattle.ts_watch.specs.Head.{told_head, head_of}
-use Rattle.dmx_calls.specs.Log.{LogEntry}
-use Rattle.client_script.specs.Script.{clients_in, Scripted}
-use Rattle.client_core.specs.Outcomes.{outcomes}
-use Rattle.client_core.specs.Inside.Core.{Core, IsAfter}
+use Rattle.serial_core.specs.Imports.{Core, IsAfter, LogEntry, Outcome, PacketSize, Scripted, clients_in, cut, head_of, outcomes, range_with_len, told_head}
 use Rattle.serial_core.specs.declared.run.Left.{Left}
 use Rattle.serial_core.specs.declared.runner.Runner.{Runner}
 use Rattle.serial_core.specs.Nodes.{log_of}

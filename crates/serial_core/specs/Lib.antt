@@ -1,3 +1,4 @@
+pub mod Imports
 pub mod Nodes
 pub mod SerialRun
 pub mod Laws

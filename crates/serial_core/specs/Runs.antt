@@ -1,12 +1,6 @@
 -- What holds of a serial run as a whole (this project's own).
 use Rattle.std.specs.Prelude.{ℕ, ◌≡◌, ◌<◌, ◌≤◌, List, slice_get, Some, All}
-use Rattle.ts_packet.specs.Fields.{IsPacket}
-use Rattle.dmx_calls.specs.Log.{LogEntry, filled}
-use Rattle.dmx_calls.specs.Rules.{rules_at}
-use Rattle.dmx_calls.specs.Accounted.{IsAccounted}
-use Rattle.client_script.specs.Grammar.{IsInRange}
-use Rattle.client_script.specs.Script.{clients_in, Scripted}
-use Rattle.script_run.specs.IsRun.{IsRun, replies, sources}
+use Rattle.serial_core.specs.Imports.{IsAccounted, IsInRange, IsPacket, IsRun, LogEntry, Scripted, clients_in, filled, replies, rules_at, sources}
 use Rattle.serial_core.specs.Left.{histories_in}
 use Rattle.serial_core.specs.SerialRun.{Run, replies_of, IsSerialRun}
 

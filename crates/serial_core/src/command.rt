@@ -1,9 +1,6 @@
 // A command of a client, done to its end.
 ghost use Rattle.std.specs.Prelude.{◌≡◌, ℕ, ◌+◌, ◌-◌, ◌<◌, ◌≤◌, ◌^◌, List, [], ◌∷◌, ◌++◌, length, IsSome, OnOk, OnErr, IsErrOf};
-ghost use Rattle.dmx_calls.specs.declared.limits.TheConstants.{DEMUX_NODES as nodes};
-ghost use Rattle.client_script.specs.Script.{Scripted};
-ghost use Rattle.client_core.specs.Commands.{IsRequestInRange, IsRequestOf};
-ghost use Rattle.client_core.specs.Inside.Core.{IsAfter};
+ghost use Rattle.serial_core.specs.Imports.{DEMUX_NODES as nodes, IsAfter, IsRequestInRange, IsRequestOf, Scripted};
 ghost use Rattle.serial_core.specs.Inside.Moving.{ComesBy, HasDrawn, MadeAtMost, IsDoneBy, IsReady, Moves};
 ghost use Rattle.serial_core.specs.SerialRun.{after_waiting, called, replies_of, reply_to};
 

@@ -1,7 +1,6 @@
 // The lines of a script, done one after another.
 ghost use Rattle.std.specs.Prelude.{◌≡◌, true, ℕ, ◌+◌, ◌*◌, ◌-◌, ◌<◌, ◌≤◌, ◌^◌, List, length, All, OnOk, OnErr, IsErrOf};
-ghost use Rattle.client_script.specs.Script.{clients_of};
-ghost use Rattle.client_script.specs.declared.line.Line.{Line as ScriptLine};
+ghost use Rattle.serial_core.specs.Imports.{Line as ScriptLine, clients_of};
 ghost use Rattle.serial_core.specs.Inside.Lines.{AllOverrunBy, AreInBudget, IsFrontBy, IsLineBy, IsWholeBy, MayBegin, OverrunsBy, calls_by};
 ghost use Rattle.serial_core.specs.Inside.Moving.{HasDrawn, MadeAtMost, IsReady, Moves};
 

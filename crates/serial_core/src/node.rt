@@ -1,13 +1,7 @@
 // A node of either kind, as a run of one thread calls it.
 ghost use Rattle.std.specs.Prelude.{◌≡◌, ℕ, ◌+◌, ◌<◌, ◌^◌, ◌∷◌};
-ghost use Rattle.dmx_calls.specs.Back.{GivesBack};
-ghost use Rattle.dmx_calls.specs.Calls.{invocation_of, response_of};
-ghost use Rattle.dmx_calls.specs.History.{History, entry_of};
-ghost use Rattle.dmx_calls.specs.Legal.{May};
-ghost use Rattle.dmx_calls.specs.Rules.{rules_at};
+ghost use Rattle.serial_core.specs.Imports.{Frontend, GivesBack, History, May, Passed, entry_of, invocation_of, response_of, rules_at};
 ghost use Rattle.dmx_calls.specs.Invocation as asks;
-ghost use Rattle.dmx_calls.specs.Response.{Passed};
-ghost use Rattle.dmx_calls.specs.declared.params.Input.TheVariants.{Frontend};
 ghost use Rattle.serial_core.specs.Inside.Standing.{StandsAt, entries_in};
 
 use dmx_calls::{Answer, Call, Input};

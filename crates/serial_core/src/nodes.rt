@@ -1,16 +1,7 @@
 // The 33 nodes of a run, and the calls of its feeder.
 ghost use Rattle.std.specs.Prelude.{◌≡◌, true, false, ℕ, ◌+◌, ◌-◌, ◌<◌, ◌≤◌, ◌^◌, List, [], ◌∷◌, ◌++◌, length, map, IfOk, OnOk, IsSome};
-ghost use Rattle.std.specs.List.{range_with_len};
-ghost use Rattle.dmx_calls.specs.declared.limits.TheConstants.{DEMUX_NODES as nodes};
-ghost use Rattle.dmx_calls.specs.declared.params.Input.TheVariants.{Frontend};
-ghost use Rattle.dmx_calls.specs.Histories.{histories_of};
+ghost use Rattle.serial_core.specs.Imports.{Act as ToldAct, DEMUX_NODES as nodes, End as EndAct, Frontend, IsAfter, IsRequestInRange, IsRequestOf, Pass as PassAct, Response, Scripted, histories_of, range_with_len};
 ghost use Rattle.dmx_calls.specs.Invocation as asks;
-ghost use Rattle.dmx_calls.specs.declared.log.Act.{Act as ToldAct};
-ghost use Rattle.dmx_calls.specs.declared.log.Act.TheVariants.{End as EndAct, Pass as PassAct};
-ghost use Rattle.client_script.specs.Script.{Scripted};
-ghost use Rattle.client_core.specs.Commands.{IsRequestInRange, IsRequestOf};
-ghost use Rattle.client_core.specs.Inside.Core.{IsAfter};
-ghost use Rattle.dmx_calls.specs.Response.{Response};
 ghost use Rattle.serial_core.specs.Nodes.{Node as RunNode, answered, uncalled};
 ghost use Rattle.serial_core.specs.SerialRun.{Run, begun, ended, fed_to_all, made, reply_to};
 ghost use Rattle.serial_core.specs.Inside.Standing.{AreCounted, AreUnder, IsNodes, IsSeat, Pairs};

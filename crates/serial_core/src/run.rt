@@ -1,19 +1,10 @@
 // The serial run of a script.
 ghost use Rattle.std.specs.Prelude.{◌≡◌, ◌≢◌, true, false, ℕ, ◌+◌, ◌-◌, ◌<◌, ◌≤◌, ◌^◌, ◌↔◌, List, [], ◌∷◌, ◌++◌, length, map, All, IfOk, OnOk, OnErr, IsErrOf, IsTrue, slice_index_or};
-ghost use Rattle.std.specs.Io.KnownBytes.{IsAtEnd};
-ghost use Rattle.client_script.specs.Script.{clients_in, Scripted};
-ghost use Rattle.client_core.specs.Inside.Core.{Core as CoreValue, IsAfter};
-ghost use Rattle.ts_watch.specs.Head.{head_of, told_head};
-ghost use Rattle.feed_pull.specs.Pulling.{Pulling, Pulls, has_failed};
-ghost use Rattle.feed_pull.specs.declared.fault.Reading.TheVariants.{Going, TooMany};
-ghost use Rattle.client_core.specs.Outcomes.{outcomes};
-ghost use Rattle.std.specs.List.{range_with_len};
+ghost use Rattle.serial_core.specs.Imports.{Core as CoreValue, Draws, Going, IsAfter, IsAtEnd, IsTooLong, OfStream, Pulling, Pulls, Scripted, TooMany, clients_in, has_failed, head_of, outcomes, range_with_len, told_head};
 ghost use Rattle.serial_core.specs.Inside.Lines.{AreAfter};
 ghost use Rattle.serial_core.specs.Inside.Moving.{IsSound};
-ghost use Rattle.feed_pull.specs.Streams.{Draws, OfStream};
 ghost use Rattle.serial_core.specs.SerialRun.{Run, replies_of};
 ghost use Rattle.serial_core.specs.Left.{AreFreshCores, IsFreshRunner, IsLeftBy, histories_in};
-ghost use Rattle.script_run.specs.Budget.{IsTooLong};
 ghost use Rattle.serial_core.specs.Inside.Legal.{AreLegal};
 ghost use Rattle.serial_core.specs.Inside.Standing.{IsNodes};
 

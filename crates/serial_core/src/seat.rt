@@ -1,14 +1,7 @@
 // A node of a run, with the entries of its clients.
 ghost use Rattle.std.specs.Prelude.{◌≡◌, ℕ, ◌+◌, ◌<◌, ◌^◌, List, [], ◌∷◌, ◌++◌, length, IfOk, OnOk, IsSome};
-ghost use Rattle.dmx_calls.specs.Calls.{invocation_of, response_of};
-ghost use Rattle.dmx_calls.specs.History.{entry_of};
-ghost use Rattle.dmx_calls.specs.declared.log.Act.{Act as ToldAct};
-ghost use Rattle.dmx_calls.specs.declared.log.Act.TheVariants.{End as EndAct, Pass as PassAct};
-ghost use Rattle.dmx_calls.specs.declared.params.Input.TheVariants.{Frontend};
+ghost use Rattle.serial_core.specs.Imports.{Act as ToldAct, End as EndAct, Frontend, IsAfter, Pass as PassAct, Response, Scripted, entry_of, invocation_of, response_of};
 ghost use Rattle.dmx_calls.specs.Invocation as asks;
-ghost use Rattle.dmx_calls.specs.Response.{Response};
-ghost use Rattle.client_script.specs.Script.{Scripted};
-ghost use Rattle.client_core.specs.Inside.Core.{IsAfter};
 ghost use Rattle.serial_core.specs.Nodes.{Node as RunNode, answer_by, answered, history_of};
 ghost use Rattle.serial_core.specs.Inside.Standing.{IsSeat, StandsAt, entries_in};
 

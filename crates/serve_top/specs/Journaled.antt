@@ -1,23 +1,6 @@
 -- What a server has done that keeps no calls, where its stream has ended.
 use Rattle.std.specs.Prelude.{◌≡◌, ◌≤◌, ◌++◌, ◌∷◌, [], ℕ, Bool, List, length, map, reverse, slice_get, Some}
-use Rattle.std.specs.Io.KnownBytes.{Consumes}
-use Rattle.emu_io.specs.Ends.{SourceEnd, SinkEnd}
-use Rattle.ts_packet.specs.Cut.{cut}
-use Rattle.ts_packet.specs.declared.size.PacketSize.TheVariants.{Of188}
-use Rattle.ts_watch.specs.Head.{told_head, head_of}
-use Rattle.feed_pull.specs.Pulling.{Pulls, has_failed}
-use Rattle.dmx_calls.specs.declared.histories.Fed.{Fed}
-use Rattle.dmx_calls.specs.declared.limits.TheConstants.{DEMUX_NODES}
-use Rattle.dmx_calls.specs.declared.outcome.Outcome.{Outcome}
-use Rattle.dmx_calls.specs.Log.{LogEntry}
-use Rattle.adapter.specs.Callers.{Caller}
-use Rattle.adapter.specs.Ends.{HaveHistories}
-use Rattle.workers.specs.Feeding.{HasFedAll}
-use Rattle.workers.specs.Telling.{HaveCalled}
-use Rattle.seats.specs.declared.journal.JournalLine.{JournalLine}
-use Rattle.seats.specs.declared.run.Desk.{Desk}
-use Rattle.seats.specs.Holding.{HasLeft}
-use Rattle.seats.specs.Turns.{HasAnsweredAll}
+use Rattle.serve_top.specs.Imports.{Caller, Consumes, DEMUX_NODES, Desk, Fed, HasAnsweredAll, HasFedAll, HasLeft, HaveCalled, HaveHistories, JournalLine, LogEntry, Of188, Outcome, Pulls, SinkEnd, SourceEnd, cut, has_failed, head_of, told_head}
 use Rattle.serve_top.specs.declared.journals.Handed.{Handed}
 use Rattle.serve_top.specs.declared.passing.Passing.{Passing}
 use Rattle.serve_top.specs.Read.{HasReadTo}

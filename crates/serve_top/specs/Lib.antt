@@ -1,3 +1,4 @@
+pub mod Imports
 pub mod Inside
 pub mod Journaled
 pub mod Lines

@@ -1,12 +1,6 @@
 -- The lines that a server writes of what was called, where it keeps nothing. Each ends with a line feed, and numbers are decimal.
 use Rattle.std.specs.Prelude.{◌≡◌, true, List, ℕ, ◌++◌, codes}
-use Rattle.std.specs.Fmt.{decimal}
-use Rattle.std.specs.Io.KnownBytes.{Appends}
-use Rattle.emu_io.specs.Ends.{SinkEnd}
-use Rattle.dmx_calls.specs.declared.histories.Fed.{Fed}
-use Rattle.dmx_calls.specs.Log.{LogEntry}
-use Rattle.text_forms.specs.Names.{node_text}
-use Rattle.report_text.specs.Entries.{entry_text}
+use Rattle.serve_top.specs.Imports.{Appends, Fed, LogEntry, SinkEnd, decimal, entry_text, node_text}
 use Rattle.serve_top.specs.declared.written.Written.{Written}
 
 -- a call: its node, and then the line that a report has of it

@@ -1,7 +1,6 @@
 -- How a server has read its stream.
 use Rattle.std.specs.Prelude.{◌≡◌, ◌≤◌, ◌+◌, ◌^◌, ℕ, Bool, true, false, List, length}
-use Rattle.std.specs.Io.KnownBytes.{Consumes, IsAtEnd}
-use Rattle.emu_io.specs.Ends.{SourceEnd}
+use Rattle.serve_top.specs.Imports.{Consumes, IsAtEnd, SourceEnd}
 
 -- one read has failed, the last; or none has, and nothing is left
 abbrev pub HasReadTo : (failed : Bool) → (before after : SourceEnd) → Type 0

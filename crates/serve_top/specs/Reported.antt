@@ -1,33 +1,7 @@
 -- What a server has done where it has written its report.
 use Rattle.std.specs.Prelude.{◌≡◌, ◌≢◌, ◌≤◌, ◌++◌, ℕ, Bool, true, List, [], length, map, replicate, reverse, slice_get, Some, Option}
-use Rattle.std.specs.Io.KnownBytes.{Appends, Consumes}
-use Rattle.emu_io.specs.Ends.{SourceEnd, SinkEnd}
-use Rattle.ts_packet.specs.Cut.{cut}
-use Rattle.ts_packet.specs.declared.size.PacketSize.TheVariants.{Of188}
-use Rattle.ts_watch.specs.Head.{told_head, head_of}
-use Rattle.feed_pull.specs.declared.fault.Reading.TheVariants.{Going}
-use Rattle.feed_pull.specs.Pulling.{Pulls, has_failed}
-use Rattle.dmx_calls.specs.declared.histories.Fed.{Fed}
-use Rattle.dmx_calls.specs.declared.limits.TheConstants.{DEMUX_NODES}
-use Rattle.dmx_calls.specs.declared.outcome.Outcome.{Outcome}
-use Rattle.dmx_calls.specs.Calls.{told_entry}
-use Rattle.dmx_calls.specs.declared.params.Input.TheVariants.{Frontend, Dvr}
-use Rattle.dmx_calls.specs.Log.{LogEntry, Sources}
+use Rattle.serve_top.specs.Imports.{Appends, AreWorked, Caller, Consumes, DEMUX_NODES, Desk, Dvr, Fed, FeederWorker, Frontend, Going, HasAnsweredAll, HasFedAll, HasLeft, HaveCalled, IsLoggedIn, IsWholeRun, LogEntry, Of188, Outcome, Pulls, Scripted, SinkEnd, SourceEnd, Sources, TellWhatWasCalled, commands_by, commands_of, cut, has_failed, head_of, log_of, no_writes, report_of, spelled, told_entry, told_head}
 use Rattle.dmx_calls.specs.Response.{NoMemory}
-use Rattle.client_script.specs.Script.{Scripted, no_writes}
-use Rattle.client_core.specs.Commands.{commands_of}
-use Rattle.script_run.specs.WholeRun.{IsWholeRun}
-use Rattle.report_text.specs.Report.{report_of}
-use Rattle.adapter.specs.Callers.{Caller}
-use Rattle.workers.specs.declared.feeder_worker.FeederWorker.{FeederWorker}
-use Rattle.workers.specs.Feeding.{HasFedAll}
-use Rattle.workers.specs.Left.{AreWorked}
-use Rattle.workers.specs.Telling.{HaveCalled, IsLoggedIn, TellWhatWasCalled}
-use Rattle.seats.specs.declared.run.Desk.{Desk}
-use Rattle.seats.specs.Holding.{HasLeft}
-use Rattle.seats.specs.Seated.{log_of}
-use Rattle.seats.specs.Spelled.{commands_by}
-use Rattle.seats.specs.Turns.{HasAnsweredAll, spelled}
 use Rattle.serve_top.specs.declared.left.Books.{Books}
 use Rattle.serve_top.specs.declared.left.Left.{Left}
 use Rattle.serve_top.specs.Read.{HasReadTo}

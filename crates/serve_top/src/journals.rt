@@ -1,11 +1,6 @@
 // A server that keeps no calls: its seats hand them over to journals.
 ghost use Rattle.std.specs.Prelude.{◌≡◌, ◌≢◌, ◌<◌, ◌≤◌, ◌^◌, ◌-◌, ◌++◌, ◌∷◌, [], map, vec_len, All, Err, IfOk, IsErrOf};
-ghost use denote.Param.Send.{IsSync, IsSend};
-ghost use Rattle.adapter.specs.Callers.{AreAllCallers};
-ghost use Rattle.adapter.specs.Ends.{HaveHistories};
-ghost use Rattle.adapter.specs.Nodes.{is_in};
-ghost use Rattle.feed_pull.specs.Pulling.{IsDone};
-ghost use Rattle.seats.specs.Handed.{HaveSat};
+ghost use Rattle.serve_top.specs.Imports.{AreAllCallers, HaveHistories, HaveSat, IsDone, IsSend, IsSync, is_in};
 ghost use Rattle.serve_top.specs.Journaled.{HasServedLines, IsHandedBy};
 ghost use Rattle.serve_top.specs.Read.{HasReadTooOften};
 ghost use Rattle.serve_top.specs.Inside.PassedOn.{MayPassOn, HasPassedOn, HasWorkedOn};

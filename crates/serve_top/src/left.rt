@@ -1,8 +1,6 @@
 // What is left of the threads, and what a report is made of.
 ghost use Rattle.std.specs.Prelude.{◌≡◌, ◌++◌, ◌∷◌, [], map, All, IfOk};
-ghost use Rattle.adapter.specs.Callers.{AreAllCallers};
-ghost use Rattle.feed_pull.specs.Pulling.{IsDone};
-ghost use Rattle.seats.specs.Seated.{log_of, AreOnNodes};
+ghost use Rattle.serve_top.specs.Imports.{AreAllCallers, AreOnNodes, IsDone, log_of};
 ghost use Rattle.serve_top.specs.Reported.{AreBooksOf, IsLeftBy};
 
 use adapter::{Adapter, Client};

@@ -1,13 +1,6 @@
 // A feeder that keeps nothing of what it has passed.
 ghost use Rattle.std.specs.Prelude.{◌≡◌, ◌≢◌, ◌<◌, ◌≤◌, ◌+◌, ◌^◌, ◌++◌, [], ◌∷◌, false, true, ℕ, List, None, Some, IsOk, IfOk, OnOk};
-ghost use Rattle.emu_io.specs.Ends.{SourceEnd};
-ghost use Rattle.client_core.specs.declared.stop.Stop.TheVariants.{NoMemory as WantOfMemory};
-ghost use Rattle.dmx_calls.specs.declared.histories.Fed.{Fed as ToldFed};
-ghost use Rattle.adapter.specs.Callers.{IsSameCaller};
-ghost use Rattle.adapter.specs.Nodes.{is_in};
-ghost use Rattle.feed_pull.specs.declared.fault.Reading.TheVariants.{TooMany};
-ghost use Rattle.feed_pull.specs.Pulling.{Pulling, IsDone};
-ghost use Rattle.feed_pull.specs.Streams.{Draws};
+ghost use Rattle.serve_top.specs.Imports.{Draws, Fed as ToldFed, IsDone, IsSameCaller, NoMemory as WantOfMemory, Pulling, SourceEnd, TooMany, is_in};
 ghost use Rattle.serve_top.specs.Inside.PassedOn.{IsNewPassing, IsFitPassing, MayPassOn, HasPassedOn, HasWorkedOn};
 
 use crate::threads::BATCH;

@@ -1,10 +1,6 @@
 // The threads: one for the stream, and one for each seat.
 ghost use Rattle.std.specs.Prelude.{◌≡◌, ◌<◌, ◌≤◌, ◌^◌, ◌-◌, All, IfOk};
-ghost use denote.Param.Send.{IsSync, IsSend};
-ghost use Rattle.adapter.specs.Nodes.{is_in};
-ghost use Rattle.workers.specs.Inside.FeederWork.{MayPass, HasPassed, HasFedToEnd};
-ghost use Rattle.seats.specs.Seated.{IsReady};
-ghost use Rattle.seats.specs.Served.{HaveServed};
+ghost use Rattle.serve_top.specs.Imports.{HasFedToEnd, HasPassed, HaveServed, IsReady, IsSend, IsSync, MayPass, is_in};
 ghost use Rattle.serve_top.specs.Reported.{IsNewFeeder};
 
 use adapter::{Adapter, Feeder};

@@ -1,9 +1,6 @@
 // A journal that writes lines.
 ghost use Rattle.std.specs.Prelude.{◌≡◌, ◌++◌, [], true, IsOk, OnOk};
-ghost use Rattle.std.specs.Io.KnownBytes.{Appends};
-ghost use Rattle.dmx_calls.specs.Calls.{told_entry};
-ghost use Rattle.ts_watch.specs.Head.{told_head};
-ghost use Rattle.report_text.specs.Told.{text_of};
+ghost use Rattle.serve_top.specs.Imports.{Appends, text_of, told_entry, told_head};
 ghost use Rattle.serve_top.specs.Lines.{call_line, fed_line, HasWritten};
 
 use crate::passing::Batches;

@@ -1,12 +1,6 @@
 -- The words of others that the proofs of this crate use.
-pub use Rattle.dmx_calls.specs.declared.params.Input.{Input}
 pub use Rattle.dmx_calls.specs.declared.params.Input.TheVariants.{Dvr, Frontend}
-pub use Rattle.dmx_calls.specs.declared.params.Output.{Output}
 pub use Rattle.dmx_calls.specs.declared.params.Output.TheVariants.{Decoder, Tap, TsTap, TsdemuxTap}
-pub use Rattle.filter_match.specs.Match.{numbers_below}
-pub use Rattle.filter_match.specs.Places.{filter_with, place_at}
-pub use Rattle.filter_match.specs.declared.filter.Place.{Place}
-pub use Rattle.filter_match.specs.declared.filter.SectionFilter.{SectionFilter}
 pub use Rattle.std.proofs.Common.{Bool, List, None, Option, Some, [], ap, append-nil, append_assoc, arith, codes, drop, false, fold, get_or, length, length-append, map, refl, replicate, rules, slice_index_or, suc, sym, take, true, vec_capacity, vec_len, zero, ℕ, ◌%◌, ◌*◌, ◌++◌, ◌+◌, ◌-◌, ◌/◌, ◌<◌, ◌^◌, ◌∙◌, ◌∷◌, ◌≡◌, ◌≢◌, ◌≤◌}
 pub use Rattle.std.proofs.Math.ListN.{set}
 pub use Rattle.std.proofs.Math.Numerals.{add-one}
@@ -18,12 +12,9 @@ pub use Rattle.std.proofs.lemmas.List.Elements.{All-append, All-cons, All-filter
 pub use Rattle.std.proofs.lemmas.List.Filters.{length-filter_both}
 pub use Rattle.std.proofs.lemmas.Str.Parse.{FoldsDigits, IsNumeralModel, numerals_by_fold, tells_all_ascii_digits}
 pub use Rattle.std.specs.Char.{is_ascii_digit}
-pub use Rattle.std.specs.Fmt.{decimal}
-pub use Rattle.std.specs.List.{All, filter, flat_map, list_all}
-pub use Rattle.std.specs.Option.{option_map}
 pub use Rattle.std.specs.Prelude.{nat_lt, not, ◌&&◌, ◌==◌}
-pub use Rattle.std.specs.Str.{all_ascii_digits}
 pub use Rattle.text_forms.specs.Hex.{byte_text, digit_text, hex_byte, hex_bytes, hex_text}
+pub use Rattle.text_forms.specs.Imports.{All, Input, Output, Place, SectionFilter, all_ascii_digits, decimal, filter, filter_with, flat_map, list_all, numbers_below, option_map, place_at}
 pub use Rattle.text_forms.specs.Names.{client_named, client_text, demux_named, demux_text, slot_named, slot_text}
 pub use Rattle.text_forms.specs.Numbers.{has_leading_zero, is_number, number_between, value_after, value_of}
 pub use Rattle.text_forms.specs.Places.{HasBytes, IsFilter, filter_place_text, filter_places, filter_text, filter_words, is_zero, place_named, place_text}

@@ -1,6 +1,6 @@
 -- Text that is put behind other bytes.
 use Rattle.std.specs.Prelude.{◌≡◌, ◌++◌, ◌+◌, ◌<◌, ◌≤◌, ℕ, List, Result, Vec, OnOk, OnErr, vec_len, vec_capacity}
-use Rattle.std.specs.Global.{Global}
+use Rattle.text_forms.specs.Imports.{Global}
 
 -- the text stands behind the others, or memory was refused, which isn't where there is room for n bytes; at most n were put there, and
 -- no room was given back

@@ -1,7 +1,6 @@
 -- Bytes in lower-case hexadecimal digits, two for each (this project's own).
 use Rattle.std.specs.Prelude.{ℕ, suc, ◌+◌, ◌*◌, ◌-◌, ◌/◌, ◌%◌, ◌&&◌, List, [], ◌∷◌, Option, Some, None, nat_le, nat_lt, if◌then◌else◌}
-use Rattle.std.specs.List.{flat_map}
-use Rattle.std.specs.Option.{option_map, option_and_then}
+use Rattle.text_forms.specs.Imports.{flat_map, option_and_then, option_map}
 
 -- the value of a lower-case hexadecimal digit; None where a byte is none
 unfoldable pub hex_digit : ℕ → Option ℕ

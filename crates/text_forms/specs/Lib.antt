@@ -1,3 +1,4 @@
+pub mod Imports
 pub mod Appended
 pub mod Hex
 pub mod Names

@@ -1,6 +1,6 @@
 -- How words spell numbers (this project's own). The word of a number is std's `decimal`.
 use Rattle.std.specs.Prelude.{ℕ, ◌+◌, ◌*◌, ◌-◌, ◌==◌, ◌&&◌, Bool, not, List, [], ◌∷◌, length, slice_index, Option, Some, None, nat_le, nat_lt, if◌then◌else◌}
-use Rattle.std.specs.Str.{all_ascii_digits}
+use Rattle.text_forms.specs.Imports.{all_ascii_digits}
 
 -- a zero stands before other bytes
 abbrev pub has_leading_zero : List ℕ → Bool

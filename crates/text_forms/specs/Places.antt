@@ -1,12 +1,6 @@
 -- The words that name the bytes of a section filter (this project's own).
 use Rattle.std.specs.Prelude.{◌≡◌, ℕ, ◌<◌, ◌+◌, ◌-◌, ◌==◌, ◌&&◌, Bool, not, List, [], ◌∷◌, ◌++◌, length, take, drop, map, nat_eq, Option, Some, None, if◌then◌else◌, codes}
-use Rattle.std.specs.List.{All, filter, flat_map, list_all}
-use Rattle.std.specs.Option.{option_map, option_and_then}
-use Rattle.std.specs.Fmt.{decimal}
-use Rattle.filter_match.specs.declared.filter.SectionFilter.{SectionFilter}
-use Rattle.filter_match.specs.declared.filter.Place.{Place}
-use Rattle.filter_match.specs.Places.{place_at}
-use Rattle.filter_match.specs.Match.{numbers_below}
+use Rattle.text_forms.specs.Imports.{All, Place, SectionFilter, decimal, filter, flat_map, list_all, numbers_below, option_and_then, option_map, place_at}
 use Rattle.text_forms.specs.Hex.{hex_byte, byte_text}
 use Rattle.text_forms.specs.Numbers.{number_between}
 

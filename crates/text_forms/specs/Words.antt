@@ -1,9 +1,7 @@
 -- Words, and those that name where packets come from and where items go (this project's own).
 use Rattle.std.specs.Prelude.{ℕ, Bool, List, Option, Some, None, nat_eq, if◌then◌else◌, codes}
-use Rattle.std.specs.Cmp.Lexicographic.{pointwise}
-use Rattle.dmx_calls.specs.declared.params.Input.{Input}
+use Rattle.text_forms.specs.Imports.{Input, Output, pointwise}
 use Rattle.dmx_calls.specs.declared.params.Input.TheVariants as input
-use Rattle.dmx_calls.specs.declared.params.Output.{Output}
 use Rattle.dmx_calls.specs.declared.params.Output.TheVariants as output
 
 -- whether a word is this text

@@ -1,19 +1,11 @@
 // Laws: reading a spelling gives its value again.
 ghost use Rattle.std.specs.Prelude.{◌≡◌, ◌/◌, ◌%◌, ◌<◌, ◌≤◌, ◌^◌, ◌++◌, ℕ, List, length, Some, codes};
-ghost use Rattle.std.specs.Fmt.{decimal};
+ghost use Rattle.text_forms.specs.Imports.{All, Input, Output, Place, SectionFilter, decimal, filter_with, flat_map, input_text, option_map, output_text};
 ghost use Rattle.text_forms.specs.Numbers.{number_between};
 ghost use Rattle.text_forms.specs.Hex.{hex_byte, hex_bytes, digit_text, hex_text};
 ghost use Rattle.text_forms.specs.Names.{client_named, client_text, demux_named, demux_text, slot_named, slot_text, who_named, who_text, node_named, node_text};
-ghost use Rattle.std.specs.List.{All, flat_map};
-ghost use Rattle.std.specs.Option.{option_map};
-ghost use Rattle.filter_match.specs.declared.filter.SectionFilter.{SectionFilter};
-ghost use Rattle.filter_match.specs.declared.filter.Place.{Place};
-ghost use Rattle.filter_match.specs.Places.{filter_with};
 ghost use Rattle.text_forms.specs.Places.{HasBytes, IsFilter, filter_text, filter_words, place_named, place_text, places_named};
-ghost use Rattle.dmx_calls.specs.Names.{input_text, output_text};
 ghost use Rattle.text_forms.specs.Words.{input_named, output_named};
-ghost use Rattle.dmx_calls.specs.declared.params.Input.{Input};
-ghost use Rattle.dmx_calls.specs.declared.params.Output.{Output};
 
 /// Reading a number of 64 bits from its digits gives it again, where it is in the range that is asked for.
 pub fn numbers_are_read_again()

@@ -1,16 +1,6 @@
 -- How many calls a client makes in a run by threads (this project's own).
 use Rattle.std.specs.Prelude.{◌≡◌, ◌⊎◌, ◌<◌, ◌≤◌, ◌+◌, ◌*◌, ◌^◌, ℕ, Bool, true, List, [], ◌∷◌, ◌++◌, length, slice_get, Some, All}
-use Rattle.ts_packet.specs.Fields.{IsPacket}
-use Rattle.dmx_calls.specs.declared.histories.Fed.{Fed}
-use Rattle.dmx_calls.specs.declared.limits.TheConstants.{DEMUX_NODES}
-use Rattle.dmx_calls.specs.History.{Entry}
-use Rattle.dmx_calls.specs.Log.{LogEntry}
-use Rattle.client_script.specs.Script.{AreNumbered, clients_in, Scripted}
-use Rattle.client_core.specs.declared.stop.TheConstants.{MOST_CALLS}
-use Rattle.script_run.specs.Budget.{IsTooLong, all_commands, bytes_written, most_calls}
-use Rattle.adapter.specs.Callers.{Caller}
-use Rattle.adapter.specs.Ends.{HaveHistories}
-use Rattle.adapter.specs.Nodes.{ended}
+use Rattle.workers.specs.Imports.{AreNumbered, Caller, DEMUX_NODES, Entry, Fed, HaveHistories, IsPacket, IsTooLong, LogEntry, MOST_CALLS, Scripted, all_commands, bytes_written, clients_in, ended, most_calls}
 use Rattle.workers.specs.Named.{is_named}
 use Rattle.workers.specs.Logged.{HasCalled}
 use Rattle.workers.specs.Feeding.{HasFed}

@@ -1,19 +1,6 @@
 -- What the feeder has done, and how it is tied to what its passes know.
 use Rattle.std.specs.Prelude.{◌≡◌, ◌<◌, ◌≤◌, ◌+◌, ℕ, Bool, true, false, IsTrue, if◌then◌else◌, List, [], ◌∷◌, ◌++◌, length, map, take, drop, slice_get, Some, All}
-use mathlib.Core.Option.{some}
-use lib.ListN.{get_elem?}
-use Rattle.atomic_table.specs.Seated.{TableId}
-use Rattle.node_lock.specs.declared.view.View.{View}
-use Rattle.dmx_calls.specs.declared.histories.Fed.{Fed}
-use Rattle.dmx_calls.specs.declared.limits.TheConstants.{DEMUX_NODES}
-use Rattle.dmx_calls.specs.declared.params.Input.TheVariants.{Frontend}
-use Rattle.dmx_calls.specs.Invocation.{Pass}
-use Rattle.dmx_calls.specs.Response.{Passed}
-use Rattle.dmx_calls.specs.History.{Entry, entry_of}
-use Rattle.script_run.specs.IsRun.{Batch}
-use Rattle.script_run.specs.WholeRun.{AreFull}
-use Rattle.adapter.specs.Callers.{Caller}
-use Rattle.adapter.specs.Nodes.{ended}
+use Rattle.workers.specs.Imports.{AreFull, Batch, Caller, DEMUX_NODES, Entry, Fed, Frontend, Pass, Passed, TableId, View, ended, entry_of, get_elem?, some}
 
 -- the entry of a batch of these packets' stream
 abbrev pub fed_entry : (stream : List (List ℕ)) → Fed → Entry

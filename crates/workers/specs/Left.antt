@@ -1,17 +1,6 @@
 -- What `work` answers.
 use Rattle.std.specs.Prelude.{◌≡◌, ℕ, Bool, true, List, length, map, slice_get, Some, None}
-use Rattle.ts_packet.specs.Cut.{cut}
-use Rattle.ts_packet.specs.declared.size.PacketSize.{PacketSize}
-use Rattle.ts_watch.specs.Head.{told_head, head_of}
-use Rattle.dmx_calls.specs.declared.histories.Fed.{Fed}
-use Rattle.dmx_calls.specs.declared.outcome.Outcome.{Outcome}
-use Rattle.dmx_calls.specs.Calls.{told_entry}
-use Rattle.dmx_calls.specs.Log.{LogEntry}
-use Rattle.client_script.specs.Script.{clients_in, Scripted}
-use Rattle.client_core.specs.Events.{next_event}
-use Rattle.client_core.specs.Outcomes.{outcomes}
-use Rattle.script_run.specs.IsRun.{replies}
-use Rattle.adapter.specs.Callers.{Caller}
+use Rattle.workers.specs.Imports.{Caller, Fed, LogEntry, Outcome, PacketSize, Scripted, clients_in, cut, head_of, next_event, outcomes, replies, told_entry, told_head}
 use Rattle.workers.specs.declared.left.Left.{Left}
 use Rattle.workers.specs.Named.{is_named}
 use Rattle.workers.specs.Logged.{HasCalled}

@@ -1,3 +1,4 @@
+pub mod Imports
 pub mod Logged
 pub mod Feeding
 pub mod Left

@@ -1,19 +1,8 @@
 -- The log of a client, and how it is tied to what its passes know. A history is the
 -- list of a node's entries, the oldest first.
 use Rattle.std.specs.Prelude.{◌≡◌, ◌≢◌, ◌<◌, ◌+◌, ℕ, suc, Bool, List, [], ◌∷◌, take, nat_eq, if◌then◌else◌, slice_get, Some, IsSome, All}
-use mathlib.Core.Option.{some}
-use lib.ListN.{get_elem?}
-use Rattle.atomic_table.specs.Seated.{TableId}
-use Rattle.node_lock.specs.declared.view.View.{View}
-use Rattle.dmx_calls.specs.declared.params.Input.{Input}
-use Rattle.dmx_calls.specs.History.{Entry}
-use Rattle.dmx_calls.specs.Log.{IsFrom, LogEntry, act_of}
+use Rattle.workers.specs.Imports.{AreAsked, AreInOrder, Caller, Entry, InTurn, Input, IsFrom, IsGiven, LogEntry, Scripted, TableId, View, act_of, get_elem?, replies, some, sources, waits_on}
 use Rattle.dmx_calls.specs.Response.{NoMemory}
-use Rattle.client_script.specs.Script.{Scripted}
-use Rattle.client_core.specs.Events.{waits_on}
-use Rattle.script_run.specs.IsRun.{AreAsked, AreInOrder, InTurn, replies, sources}
-use Rattle.script_run.specs.WholeRun.{IsGiven}
-use Rattle.adapter.specs.Callers.{Caller}
 
 -- a log entry tells an entry of a history: the same caller, the same call and the same response
 pub record Tells (e : LogEntry) (x : Entry) : Type 0 where

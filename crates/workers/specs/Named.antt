@@ -1,13 +1,6 @@
 -- The nodes that the calls of a script can be on.
 use Rattle.std.specs.Prelude.{ℕ, Bool, true, false, ◌||◌, List, nat_eq}
-use Rattle.std.specs.List.{list_any}
-use Rattle.dmx_calls.specs.declared.limits.TheConstants.{DEMUX_NODES}
-use Rattle.client_script.specs.declared.line.Line.{Line}
-use Rattle.client_script.specs.declared.line.Line.TheVariants.{Command}
-use Rattle.client_script.specs.declared.line.Target.{Target}
-use Rattle.client_script.specs.declared.line.Target.TheVariants.{Node, Slot, Dvr}
-use Rattle.client_script.specs.declared.line.Verb.{Verb}
-use Rattle.client_script.specs.declared.line.Verb.TheVariants.{Write}
+use Rattle.workers.specs.Imports.{Command, DEMUX_NODES, Dvr, Line, Node, Slot, Target, Verb, Write, list_any}
 
 -- a command for this target may call this node; a slot may be bound to any
 abbrev pub is_for : Target → (node : ℕ) → Bool

@@ -1,9 +1,6 @@
 -- A law of the nodes that a script can name.
 use Rattle.std.specs.Prelude.{◌≡◌, ℕ, true, List, Some}
-use Rattle.dmx_calls.specs.Response.{Response}
-use Rattle.client_script.specs.Script.{Scripted}
-use Rattle.client_core.specs.declared.event.Event.{Event}
-use Rattle.client_core.specs.Events.{next_event}
+use Rattle.workers.specs.Imports.{Event, Response, Scripted, next_event}
 use Rattle.workers.specs.Named.{is_named}
 
 -- whatever replies a client of the script has got, its next call is on a node that the script can name

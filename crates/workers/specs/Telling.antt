@@ -1,21 +1,6 @@
 -- What the merged histories tell: just what the feeder and the clients have called, as the locks have it.
 use Rattle.std.specs.Prelude.{◌≡◌, ◌⊎◌, ◌+◌, ℕ, suc, Bool, true, false, if◌then◌else◌, List, [], ◌∷◌, ◌++◌, length, map, slice_get, Some, All}
-use Rattle.atomic_table.specs.Seated.{TableId}
-use Rattle.node_lock.specs.declared.view.View.{View}
-use Rattle.dmx_calls.specs.declared.histories.Fed.{Fed}
-use Rattle.dmx_calls.specs.declared.limits.TheConstants.{DEMUX_NODES}
-use Rattle.dmx_calls.specs.declared.log.Act.{Act}
-use Rattle.dmx_calls.specs.declared.outcome.Outcome.{Outcome}
-use Rattle.dmx_calls.specs.Histories.{feeder_acts, feeder_entry}
-use Rattle.dmx_calls.specs.History.{Entry}
-use Rattle.dmx_calls.specs.declared.params.Input.TheVariants.{Frontend}
-use Rattle.dmx_calls.specs.Log.{LogEntry, Sources, filled_entry}
-use Rattle.script_run.specs.IsRun.{Step, StandsIn, sources, steps_of}
-use Rattle.client_script.specs.Script.{Scripted}
-use Rattle.adapter.specs.Rows.{column}
-use Rattle.adapter.specs.Callers.{Caller}
-use Rattle.adapter.specs.Ends.{IsHistory, rows_of}
-use Rattle.adapter.specs.Nodes.{IsLegalAt, ended}
+use Rattle.workers.specs.Imports.{Act, Caller, DEMUX_NODES, Entry, Fed, Frontend, IsHistory, IsLegalAt, LogEntry, Outcome, Scripted, Sources, StandsIn, Step, TableId, View, column, ended, feeder_acts, feeder_entry, filled_entry, rows_of, sources, steps_of}
 use Rattle.workers.specs.Logged.{BringFrom, IsLogged}
 use Rattle.workers.specs.Feeding.{HasMade, fed_entries}
 use Rattle.workers.specs.Left.{AreWorked}

@@ -1,20 +1,7 @@
 // A client of a script at its work.
 ghost use Rattle.std.specs.Prelude.{◌≡◌, ◌≢◌, ℕ, ◌+◌, ◌<◌, ◌≤◌, ◌^◌, Bool, List, [], ◌∷◌, ◌++◌, length, slice_get, Some, None, IsSome, IfOk, OnOk, IsErrOf};
-ghost use Rattle.atomic_table.specs.Seated.{TableId};
-ghost use Rattle.node_lock.specs.declared.view.View.{View};
-ghost use Rattle.dmx_calls.specs.Calls.{response_of};
-ghost use Rattle.dmx_calls.specs.History.{Entry as HistoryEntry};
-ghost use Rattle.dmx_calls.specs.Log.{act_of};
+ghost use Rattle.workers.specs.Imports.{DEMUX_NODES as nodes, Entry as HistoryEntry, IsGiven, IsRequestInRange, IsRequestOf, IsSameCaller, MOST_CALLS as most_calls, Scripted, TableId, View, act_of, call_of as call_at, next_event, next_of, replies, response_of};
 ghost use Rattle.dmx_calls.specs.Response as response;
-ghost use Rattle.dmx_calls.specs.declared.limits.TheConstants.{DEMUX_NODES as nodes};
-ghost use Rattle.client_script.specs.Script.{Scripted};
-ghost use Rattle.client_core.specs.declared.stop.TheConstants.{MOST_CALLS as most_calls};
-ghost use Rattle.client_core.specs.Commands.{IsRequestInRange, IsRequestOf, call_of as call_at};
-ghost use Rattle.client_core.specs.Inside.Core.{next_of};
-ghost use Rattle.client_core.specs.Events.{next_event};
-ghost use Rattle.script_run.specs.IsRun.{replies};
-ghost use Rattle.script_run.specs.WholeRun.{IsGiven};
-ghost use Rattle.adapter.specs.Callers.{IsSameCaller};
 ghost use Rattle.workers.specs.Inside.Working.{IsFit, MayWork, IsWorking, MayCallNow, GoesOn, HasLooked, HasCome};
 
 use crate::moment::moment_of;

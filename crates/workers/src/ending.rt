@@ -1,12 +1,6 @@
 //! The end of a run: the adapter ends, and the calls of all callers are brought together.
 ghost use Rattle.std.specs.Prelude.{◌≡◌, ◌++◌, ◌∷◌, [], ℕ, Bool, List, map, All, IfOk};
-ghost use Rattle.dmx_calls.specs.Calls.{told_entry};
-ghost use Rattle.dmx_calls.specs.Log.{Sources};
-ghost use Rattle.dmx_calls.specs.declared.outcome.Outcome.{Outcome};
-ghost use Rattle.client_script.specs.Script.{Scripted};
-ghost use Rattle.script_run.specs.WholeRun.{IsWholeRun};
-ghost use Rattle.adapter.specs.Callers.{AreAllCallers};
-ghost use Rattle.adapter.specs.Merging.{AreOnNodes};
+ghost use Rattle.workers.specs.Imports.{AreAllCallers, AreOnNodes, IsWholeRun, Outcome, Scripted, Sources, told_entry};
 ghost use Rattle.workers.specs.Telling.{HaveCalled, TellWhatWasCalled};
 ghost use Rattle.workers.specs.Left.{AreWorked};
 

@@ -1,12 +1,6 @@
 // The feeder at its work.
 ghost use Rattle.std.specs.Prelude.{◌≡◌, ◌≢◌, true, false, ℕ, ◌+◌, ◌-◌, ◌<◌, ◌≤◌, ◌^◌, List, None, Some, IsOk, IfOk, OnOk};
-ghost use Rattle.emu_io.specs.Ends.{SourceEnd};
-ghost use Rattle.client_core.specs.declared.stop.Stop.TheVariants.{NoMemory as WantOfMemory};
-ghost use Rattle.adapter.specs.Callers.{IsSameCaller};
-ghost use Rattle.adapter.specs.Nodes.{is_in};
-ghost use Rattle.feed_pull.specs.declared.fault.Reading.TheVariants.{TooMany};
-ghost use Rattle.feed_pull.specs.Pulling.{Pulling, IsDone};
-ghost use Rattle.feed_pull.specs.Streams.{Draws};
+ghost use Rattle.workers.specs.Imports.{Draws, IsDone, IsSameCaller, NoMemory as WantOfMemory, Pulling, SourceEnd, TooMany, is_in};
 ghost use Rattle.workers.specs.Inside.FeederWork.{IsFitFeeder, LeavesOthers, MayPass, HasPassed, HasFedToEnd};
 
 use adapter::{Adapter, Feeder};

@@ -1,8 +1,5 @@
 // The moments of calls.
-ghost use Rattle.client_core.specs.Deeds.{Batches};
-ghost use Rattle.client_core.specs.Commands.{call_of};
-ghost use Rattle.script_run.specs.WholeRun.{IsGiven};
-ghost use Rattle.dmx_calls.specs.Log.{act_of};
+ghost use Rattle.workers.specs.Imports.{Batches, IsGiven, act_of, call_of};
 
 use client_core::Request;
 use client_script::Want;

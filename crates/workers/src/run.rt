@@ -1,14 +1,6 @@
 // The run of a script by threads.
 ghost use Rattle.std.specs.Prelude.{◌≡◌, false, ℕ, ◌+◌, ◌-◌, ◌<◌, ◌≤◌, ◌^◌, ◌↔◌, List, [], ◌∷◌, ◌++◌, map, All, IfOk, OnOk, OnErr, IsErrOf, IsTrue};
-ghost use Rattle.std.specs.Io.KnownBytes.{IsAtEnd};
-ghost use Rattle.client_script.specs.Script.{clients_in};
-ghost use Rattle.script_run.specs.Budget.{IsTooLong};
-ghost use Rattle.feed_pull.specs.declared.fault.Reading.TheVariants.{Going};
-ghost use Rattle.feed_pull.specs.Pulling.{Pulling, IsDone};
-ghost use Rattle.feed_pull.specs.Streams.{Draws, OfStream};
-ghost use Rattle.adapter.specs.Callers.{AreAllCallers, AreFreshCallers};
-ghost use Rattle.adapter.specs.Ends.{HaveHistories};
-ghost use Rattle.adapter.specs.Merging.{AreOnNodes};
+ghost use Rattle.workers.specs.Imports.{AreAllCallers, AreFreshCallers, AreOnNodes, Draws, Going, HaveHistories, IsAtEnd, IsDone, IsTooLong, OfStream, Pulling, clients_in};
 ghost use Rattle.workers.specs.Inside.Leaving.{GoesFirst, StopsBy, IsLeftByWorkers};
 ghost use Rattle.workers.specs.Left.{IsLeftBy};
 

@@ -1,7 +1,6 @@
 // The threads.
 ghost use Rattle.std.specs.Prelude.{◌≡◌, ◌-◌, ◌<◌, ◌≤◌, ◌^◌, ℕ, All, length, slice_index_or};
-ghost use denote.Param.Send.{IsSync, IsSend};
-ghost use Rattle.adapter.specs.Nodes.{is_in};
+ghost use Rattle.workers.specs.Imports.{IsSend, IsSync, is_in};
 ghost use Rattle.workers.specs.Inside.Begun.{HaveCome};
 ghost use Rattle.workers.specs.Inside.FeederWork.{MayPass, HasPassed, HasFedToEnd};
 ghost use Rattle.workers.specs.Inside.Working.{MayWork, HasCome};

@@ -1,8 +1,6 @@
 -- How the fields of the feeder and of a client are seen, and what holds of them.
 use Rattle.std.specs.Prelude.{◌≡◌, ◌≤◌, ℕ, List, slice_get, Some}
-use Rattle.atomic_table.specs.Seated.{TableId}
-use Rattle.node_lock.specs.declared.view.View.{View}
-use Rattle.dmx_calls.specs.History.{Entry}
+use Rattle.adapter.specs.Imports.{Entry, TableId, View}
 use Rattle.adapter.specs.Callers.{Caller}
 use Rattle.adapter.specs.declared.client.Client.TheInside as client
 use Rattle.adapter.specs.declared.feeder.Feeder.TheInside as feeder

@@ -1,8 +1,6 @@
 -- How far the passes of the callers are dealt. The proofs alone use it: no public contract cites it.
 use Rattle.std.specs.Prelude.{◌≡◌, ℕ, ◌+◌, ◌^◌, List, slice_get, Some}
-use Rattle.atomic_table.specs.Seated.{TableId}
-use Rattle.node_lock.specs.declared.view.View.{View}
-use Rattle.dmx_calls.specs.History.{Entry}
+use Rattle.adapter.specs.Imports.{Entry, TableId, View}
 use Rattle.adapter.specs.Rows.{IsFreshRow}
 use Rattle.adapter.specs.Callers.{Caller, IsFreshCaller}
 

@@ -1,11 +1,7 @@
 -- Where the entries of merged histories stand.
 use Rattle.std.specs.Prelude.{ℕ, ◌≡◌, ◌≤◌, ◌<◌, ◌+◌, List, length, map, filter, nat_eq, Some, slice_get}
-use Rattle.std.specs.List.{All, IsDistinct}
-use Rattle.dmx_calls.specs.declared.histories.Fed.{Fed}
-use Rattle.dmx_calls.specs.declared.limits.TheConstants.{DEMUX_NODES}
+use Rattle.adapter.specs.Imports.{All, AreInPlace, DEMUX_NODES, Fed, IsDistinct, LogEntry, histories_of}
 use Rattle.dmx_calls.specs.declared.log.Entry.{Entry as ToldEntry}
-use Rattle.dmx_calls.specs.Histories.{histories_of, AreInPlace}
-use Rattle.dmx_calls.specs.Log.{LogEntry}
 use Rattle.adapter.specs.Merging.{is_on, all_of, AreByPlace}
 
 -- the entries that the logs have on a node

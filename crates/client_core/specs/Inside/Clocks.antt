@@ -1,7 +1,6 @@
 -- The clocks that a client core keeps: one for each of the 33 nodes, or none where the client asks for none.
 use Rattle.std.specs.Prelude.{ℕ, ◌≡◌, ◌<◌, ◌≤◌, List, length, Option, None, slice_get, slice_index_or, if◌then◌else◌, All}
-use Rattle.std.specs.Option.{option_and_then}
-use Rattle.ts_packet.specs.Cutting.{bytes_counted}
+use Rattle.client_core.specs.Imports.{bytes_counted, option_and_then}
 use Rattle.client_core.specs.Clock.{Clock, unset, HasFollowed}
 use Rattle.client_core.specs.Stc.{Exchange, bytes_read, filter_type, is_counter}
 use Rattle.client_core.specs.Outcomes.{Counters}

@@ -1,13 +1,8 @@
 -- What a client core keeps, and the replies after which it stands.
 use Rattle.std.specs.Prelude.{ℕ, false, ◌≡◌, ◌≤◌, ◌*◌, ◌⊎◌, List, [], ◌∷◌, ◌++◌, length, map, Option, Some, None, option_map, All, IfSome, IfNone}
-use Rattle.dmx_calls.specs.Response.{Response, Again}
-use Rattle.client_script.specs.Grammar.{IsTargetInRange}
+use Rattle.client_core.specs.Imports.{Again, Command as CommandLine, HasVerb, IsTargetInRange, Line, Outcome, Response, Scripted}
 use Rattle.client_core.specs.Deeds.{Batches, IsDeedInRange, IsDeedOf}
-use Rattle.client_script.specs.Script.{Scripted, HasVerb}
-use Rattle.client_script.specs.declared.line.Line.{Line}
-use Rattle.client_script.specs.declared.line.Line.TheVariants.{Command as CommandLine}
 use Rattle.client_core.specs.declared.command.Command.{Command}
-use Rattle.dmx_calls.specs.declared.outcome.Outcome.{Outcome}
 use Rattle.client_core.specs.declared.event.Event.{Event}
 use Rattle.client_core.specs.declared.current.Current.{Current}
 use Rattle.client_core.specs.Commands.{Doing, stands, through, Slots, plays_of}

@@ -1,9 +1,7 @@
 -- What one reply more adds to the reads that a client repeats (this project's own).
 use Rattle.std.specs.Prelude.{ℕ, ◌≡◌, ◌≤◌, ◌+◌, List, [], ◌∷◌, ◌++◌, Some, None, false, if◌then◌else◌}
-use Rattle.dmx_calls.specs.Response.{Response, Again}
-use Rattle.client_script.specs.Script.{Scripted}
+use Rattle.client_core.specs.Imports.{Again, Read, Response, Scripted}
 use Rattle.client_core.specs.declared.event.Event.{Event}
-use Rattle.client_script.specs.declared.line.Want.TheVariants.{Read}
 use Rattle.client_core.specs.declared.event.Request.{Request}
 use Rattle.client_core.specs.declared.event.Request.TheVariants.{Own}
 use Rattle.client_core.specs.Commands.{ends_drain}

@@ -1,8 +1,6 @@
 // The writes of one client, and their batches.
 ghost use Rattle.std.specs.Prelude.{◌≡◌, ◌+◌, ◌<◌, ◌≤◌, ◌^◌, [], ◌∷◌, ◌++◌, List, ℕ, length, IfOk, OnOk, OnErr, slice_index_or, None, IsSome};
-ghost use Rattle.std.specs.Option.{option_map};
-ghost use Rattle.ts_packet.specs.Cut.{cut};
-ghost use Rattle.ts_packet.specs.declared.size.PacketSize.TheVariants.{Of188};
+ghost use Rattle.client_core.specs.Imports.{Of188, cut, option_map};
 ghost use Rattle.client_core.specs.Plays.{batch_of, with_write, unplayed, HasPlayed};
 
 use arrayvec::ArrayVec;

@@ -1,7 +1,6 @@
 // The clock of a stream that comes in pieces.
 ghost use Rattle.std.specs.Prelude.{◌≡◌, ◌+◌, ◌^◌, ◌<◌, ◌≤◌, ℕ, List, [], ◌++◌, length};
-ghost use Rattle.std.specs.Option.{option_or};
-ghost use Rattle.ts_packet.specs.Cutting.{bytes_counted};
+ghost use Rattle.client_core.specs.Imports.{bytes_counted, option_or};
 ghost use Rattle.client_core.specs.Clock.{last_pcr, clock_of, unset, HasFollowed};
 
 use crate::stc_clock::reference::pcr;

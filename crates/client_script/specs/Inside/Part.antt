@@ -1,7 +1,6 @@
 -- What is known of the first bytes of an input that were searched for the line `stream`.
 use Rattle.std.specs.Prelude.{◌≡◌, ◌≤◌, ℕ, ◌+◌, ◌==◌, false, List, ◌∷◌, ◌++◌, length, drop, Option, None}
-use Rattle.std.specs.List.{All}
-use Rattle.std.specs.Option.{option_map}
+use Rattle.client_script.specs.Imports.{All, option_map}
 use Rattle.client_script.specs.Script.{script_len, whole_lines}
 
 -- none of these bytes is a line feed

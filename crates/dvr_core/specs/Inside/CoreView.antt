@@ -1,6 +1,6 @@
 -- How the dvr node's fields are seen, and what holds of them.
 use Rattle.std.specs.Prelude.{◌≤◌, ◌*◌, ◌^◌}
-use Rattle.node_buffer.specs.Inside.Coherent.{CoherentIn}
+use Rattle.dvr_core.specs.Imports.{CoherentIn}
 use Rattle.dvr_core.specs.declared.dvr.DvrCore.TheInside.{Inside}
 use Rattle.dvr_core.specs.Inside.KeptView.{knows_of, bytes_in}
 use Rattle.dvr_core.specs.Stands.{CoreValue}

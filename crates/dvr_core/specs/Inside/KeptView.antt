@@ -1,15 +1,6 @@
 -- What the dvr node knows, from what it keeps.
 use Rattle.std.specs.Prelude.{ℕ, ◌≡◌, ◌≤◌, Bool, true, List, [], Option, Some, None}
-use Rattle.dmx_calls.specs.declared.node.NodeKind.TheVariants.{Dvr}
-use Rattle.dmx_calls.specs.declared.limits.TheConstants.{DVR_SIZE}
-use Rattle.dmx_calls.specs.Invocation.{Invocation}
-use Rattle.dmx_calls.specs.Response.{Response, Passed}
-use Rattle.dmx_calls.specs.Tenure.{Empty}
-use Rattle.dmx_calls.specs.Taps.{Tap}
-use Rattle.dmx_calls.specs.Facts.{Facts}
-use Rattle.dmx_calls.specs.Answer.{response_to}
-use Rattle.node_buffer.specs.Inside.Coherent.{CoherentIn, total_of}
-use Rattle.node_buffer.specs.Inside.Gives.{OrNoMemory, owner_refusal}
+use Rattle.dvr_core.specs.Imports.{CoherentIn, DVR_SIZE, Dvr, Empty, Facts, Invocation, OrNoMemory, Passed, Response, Tap, owner_refusal, response_to, total_of}
 use Rattle.dvr_core.specs.declared.kept.Kept.{Kept}
 use Rattle.dvr_core.specs.declared.tenure.Tenure.{Tenure}
 use Rattle.dvr_core.specs.Inside.Step.{Knows, moved, next}

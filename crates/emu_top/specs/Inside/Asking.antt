@@ -1,13 +1,6 @@
 -- What was read of what `check` is asked.
 use Rattle.std.specs.Prelude.{◌≡◌, ⊤, ℕ, ◌+◌, ◌≤◌, false, List, ◌++◌, length, Some, Ok}
-use Rattle.std.specs.Io.KnownBytes.{Consumes}
-use Rattle.emu_io.specs.Causes.{Rose}
-use Rattle.emu_io.specs.Ends.{SourceEnd}
-use Rattle.ts_packet.specs.Cut.{cut}
-use Rattle.ts_packet.specs.declared.size.PacketSize.{PacketSize}
-use Rattle.ts_watch.specs.Head.{told_head, head_of}
-use Rattle.feed_pull.specs.Pulling.{Pulling}
-use Rattle.feed_pull.specs.Streams.{OfStream}
+use Rattle.emu_top.specs.Imports.{Consumes, OfStream, PacketSize, Pulling, Rose, SourceEnd, cut, head_of, told_head}
 use Rattle.report_check.specs.declared.fault.Fault.{Fault}
 use Rattle.emu_top.specs.Checking.{asked, asked_in}
 use Rattle.emu_top.specs.declared.status.Status.{Status}

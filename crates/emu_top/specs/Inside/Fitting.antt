@@ -1,10 +1,6 @@
 -- That what a run left fits the types of the code, by which a report of it is one that can be read.
 use Rattle.std.specs.Prelude.{List}
-use Rattle.std.specs.List.{All}
-use Rattle.dmx_calls.specs.declared.outcome.Outcome.{Outcome}
-use Rattle.dmx_calls.specs.Log.{LogEntry}
-use Rattle.ts_watch.specs.Head.{StreamHead}
-use Rattle.report_read.specs.Ranges.{IsEntryInRange, IsOutcomeInRange, IsRowInRange, IsTallyInRange}
+use Rattle.emu_top.specs.Imports.{All, IsEntryInRange, IsOutcomeInRange, IsRowInRange, IsTallyInRange, LogEntry, Outcome, StreamHead}
 
 -- each number of the stream, of what became of the commands and of the entries is one of its type
 pub record AreFitting (head : StreamHead) (outcomes : List (List Outcome)) (histories : List (List LogEntry)) : Type 0 where

@@ -1,9 +1,6 @@
 -- When a script part is not read.
 use Rattle.std.specs.Prelude.{◌≡◌, ℕ, ◌≤◌, List, length, None, Result, OnOk, IsErrOf}
-use Rattle.std.specs.Io.KnownBytes.{Consumes}
-use Rattle.emu_io.specs.Causes.{raised}
-use Rattle.emu_io.specs.Ends.{SourceEnd}
-use Rattle.client_script.specs.Script.{script_len, whole_lines, most_bytes}
+use Rattle.emu_top.specs.Imports.{Consumes, SourceEnd, most_bytes, raised, script_len, whole_lines}
 use Rattle.emu_top.specs.declared.part.PartError.{PartError}
 use Rattle.emu_top.specs.declared.part.PartError.TheVariants.{Failed, NoMemory}
 

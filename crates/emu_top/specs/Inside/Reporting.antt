@@ -1,10 +1,6 @@
 -- What is written of the report over what a run left.
 use Rattle.std.specs.Prelude.{◌≡◌, ℕ, List, map}
-use Rattle.std.specs.Io.KnownBytes.{Keeps}
-use Rattle.emu_io.specs.Ends.{SinkEnd}
-use Rattle.ts_watch.specs.Head.{told_head}
-use Rattle.serial_core.specs.declared.run.Left.{Left}
-use Rattle.report_text.specs.Report.{report_of}
+use Rattle.emu_top.specs.Imports.{Keeps, Left, SinkEnd, report_of, told_head}
 use Rattle.emu_top.specs.Serves.{HasWritten}
 use Rattle.emu_top.specs.declared.status.Status.{Status}
 use Rattle.emu_top.specs.declared.status.Status.TheVariants.{NoMemory}

@@ -1,6 +1,6 @@
 -- What contracts see of a node's buffer.
 use Rattle.std.specs.Prelude.{ℕ, Option}
-use Rattle.dmx_calls.specs.Facts.{Ledger}
+use Rattle.node_buffer.specs.Imports.{Ledger}
 use Rattle.node_buffer.specs.declared.filter.Terms.{Terms}
 
 -- its size, what its capture keeps of the filter, and the ledger of the capture

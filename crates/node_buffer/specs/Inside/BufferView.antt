@@ -1,9 +1,7 @@
 -- How a buffer's fields are seen, and what holds of them.
 use Rattle.std.specs.Prelude.{ℕ, ◌≡◌, ◌≤◌, ◌+◌, ◌-◌, Bool, true, false, nat_eq, not, ◌&&◌, ◌||◌, is_some, if◌then◌else◌, List, [], length, Option, Some, None, option_map}
-use Rattle.dmx_calls.specs.declared.reply.PollError.{PollError}
+use Rattle.node_buffer.specs.Imports.{Ledger, Misfit, PollError}
 use Rattle.dmx_calls.specs.declared.reply.PollError.TheVariants.{Quiet, Overflow as OverflowPending, TimedOut as TimeoutPending}
-use Rattle.dmx_calls.specs.Ledger.{Misfit}
-use Rattle.dmx_calls.specs.Facts.{Ledger}
 use Rattle.node_buffer.specs.Inside.BufferValue.{BufferValue}
 use Rattle.node_buffer.specs.declared.buffer.Lost.{Lost}
 use Rattle.node_buffer.specs.declared.buffer.Capture.{Capture}

@@ -1,15 +1,8 @@
 -- What a capture keeps of its filter, and how its ledger goes on: it begins, items arrive in
 -- it, it expires, it is read, it is stopped.
 use Rattle.std.specs.Prelude.{ℕ, ◌+◌, ◌-◌, Bool, true, false, not, ◌&&◌, ◌||◌, nat_eq, nat_lt, nat_le, if◌then◌else◌, List, [], ◌∷◌, ◌++◌, length, drop, Option, Some, None, is_some}
-use Rattle.section_parse.specs.Sections.{section_length}
-use Rattle.dmx_calls.specs.Response.{Response, Data, Overflow, TimedOut}
-use Rattle.dmx_calls.specs.declared.node.State.{State}
+use Rattle.node_buffer.specs.Imports.{Data, Ledger, Misfit, Overflow, Params, ReadTerms, Response, Section, State, TimedOut, expired_of, is_oneshot as once_by, is_section, keeps, over_at_edge, response_of_read, section_length, timeout_of}
 use Rattle.dmx_calls.specs.declared.node.State.TheVariants.{Set, Go, Done, TimedOut as Expired}
-use Rattle.dmx_calls.specs.Tenure.{Params, Section}
-use Rattle.dmx_calls.specs.Items.{is_oneshot as once_by, timeout_of}
-use Rattle.dmx_calls.specs.Ledger.{Misfit, keeps}
-use Rattle.dmx_calls.specs.Facts.{Ledger}
-use Rattle.dmx_calls.specs.Answer.{is_section, ReadTerms, over_at_edge, response_of_read, expired_of}
 use Rattle.node_buffer.specs.declared.filter.Terms.{Terms}
 
 -- ------ the filter

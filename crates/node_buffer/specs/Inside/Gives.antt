@@ -1,13 +1,6 @@
 -- What a reply must be, by what is known before the call and with it.
 use Rattle.std.specs.Prelude.{ℕ, ◌≡◌, Bool, true, false, ◌⊎◌, Option, None, if◌then◌else◌}
-use Rattle.dmx_calls.specs.declared.node.NodeKind.{NodeKind}
-use Rattle.dmx_calls.specs.declared.reply.Errno.{Errno}
-use Rattle.dmx_calls.specs.Invocation.{Invocation, Close}
-use Rattle.dmx_calls.specs.Response.{Response, NoMemory}
-use Rattle.dmx_calls.specs.Facts.{Facts, state_of}
-use Rattle.dmx_calls.specs.Refusal.{refusal}
-use Rattle.dmx_calls.specs.Answer.{is_same_size, answer_by}
-use Rattle.dmx_calls.specs.Legal.{is_done, takes_memory}
+use Rattle.node_buffer.specs.Imports.{Close, Errno, Facts, Invocation, NoMemory, NodeKind, Response, answer_by, is_done, is_same_size, refusal, state_of, takes_memory}
 
 -- this answer, or want of memory in its place
 abbrev pub OrNoMemory : Facts → Invocation → (answer : Response) → Response → Type 0

@@ -1,10 +1,6 @@
 -- What a reply must be, by what the node knows.
 use Rattle.std.specs.Prelude.{ℕ}
-use Rattle.dmx_calls.specs.declared.node.NodeKind.TheVariants.{Demux}
-use Rattle.dmx_calls.specs.Invocation.{Invocation}
-use Rattle.dmx_calls.specs.Response.{Response, Passed}
-use Rattle.dmx_calls.specs.Answer.{answer_by}
-use Rattle.node_buffer.specs.Inside.Gives.{GivesBy}
+use Rattle.node_core.specs.Imports.{Demux, GivesBy, Invocation, Passed, Response, answer_by}
 use Rattle.node_core.specs.Inside.Step.{Knows, moved}
 
 -- the answer looks at what is known before the call, and at what is known with it, whatever its reply

@@ -1,18 +1,8 @@
 -- What a node knows, from what it keeps.
 use Rattle.std.specs.Prelude.{ℕ, ◌≡◌, ◌≤◌, ◌+◌, Bool, true, false, [], Option, Some, None, if◌then◌else◌}
-use Rattle.dmx_calls.specs.declared.node.NodeKind.TheVariants.{Demux}
-use Rattle.dmx_calls.specs.declared.limits.TheConstants.{DEMUX_SIZE}
-use Rattle.dmx_calls.specs.Invocation.{Invocation}
-use Rattle.dmx_calls.specs.Tenure.{Empty}
-use Rattle.dmx_calls.specs.Calls.{params_of, pids_of}
-use Rattle.dmx_calls.specs.declared.reply.Tap.TheVariants.{Keep as KeepTap, Attach as AttachTap, Detach as DetachTap}
-use Rattle.dmx_calls.specs.Response.{Response, Passed, TapChange}
-use Rattle.dmx_calls.specs.Answer.{is_recording, response_to}
-use Rattle.item_select.specs.Selecting.{bytes_held}
+use Rattle.node_core.specs.Imports.{Attach as AttachTap, DEMUX_SIZE, Demux, Detach as DetachTap, Empty, Invocation, Keep as KeepTap, OrNoMemory, Passed, Response, TapChange, bytes_held, is_recording, owner_refusal, params_of, pids_of, response_to, total_of}
 use Rattle.node_core.specs.declared.kept.Kept.{Kept}
 use Rattle.node_core.specs.declared.tenure.Tenure.{Tenure}
-use Rattle.node_buffer.specs.Inside.Coherent.{total_of}
-use Rattle.node_buffer.specs.Inside.Gives.{OrNoMemory, owner_refusal}
 use Rattle.node_core.specs.Inside.Step.{Knows, unset, moved, next}
 use Rattle.node_core.specs.Inside.Sound.{IsSound}
 

@@ -1,10 +1,6 @@
 -- What holds of what each node knows.
 use Rattle.std.specs.Prelude.{ℕ, ◌≡◌, ◌≤◌, false, List, [], length, Option, Some, None}
-use Rattle.dmx_calls.specs.Refusal.{takes_many}
-use Rattle.dmx_calls.specs.Tenure.{Params, Empty, Section, Pes}
-use Rattle.dmx_calls.specs.Facts.{Ledger}
-use Rattle.item_select.specs.Selecting.{Selecting}
-use Rattle.node_buffer.specs.Inside.Coherent.{CoherentIn}
+use Rattle.node_core.specs.Imports.{CoherentIn, Empty, Ledger, Params, Pes, Section, Selecting, takes_many}
 use Rattle.node_core.specs.Offers.{choice_of}
 use Rattle.node_core.specs.Inside.Step.{Knows}
 

@@ -1,17 +1,6 @@
 -- How a demux node goes on with an accepted call. The proofs alone use it: no public contract cites it.
 use Rattle.std.specs.Prelude.{ℕ, ◌-◌, Bool, true, not, ◌&&◌, nat_eq, if◌then◌else◌, List, [], ◌∷◌, filter, Option, Some, None, is_some, option_map}
-use Rattle.pid_set.specs.Pids.{with_pid, without_pid}
-use Rattle.dmx_calls.specs.declared.params.Input.{Input}
-use Rattle.dmx_calls.specs.declared.limits.TheConstants.{DEMUX_SIZE, IMMEDIATE_START}
-use Rattle.dmx_calls.specs.Invocation.{Invocation, Open, Close, SetFilter, SetPes, AddPid, RemovePid, Start, Stop, SetSize, Read, Poll, Pass, End}
-use Rattle.dmx_calls.specs.Response.{Response, is_accepted}
-use Rattle.dmx_calls.specs.Tenure.{Params, Empty, Section, Pes}
-use Rattle.dmx_calls.specs.Capture.{has_flag}
-use Rattle.dmx_calls.specs.Items.{is_same_input, is_named, timeout_of}
-use Rattle.dmx_calls.specs.Facts.{Ledger, Facts, has_had_its_section}
-use Rattle.item_select.specs.Items.{Nothing}
-use Rattle.item_select.specs.Selecting.{Selecting, begun as begun_selecting, begun_again, items_found, kept_after}
-use Rattle.dmx_calls.specs.Answer.{is_section}
+use Rattle.node_core.specs.Imports.{AddPid, Close, DEMUX_SIZE, Empty, End, Facts, IMMEDIATE_START, Input, Invocation, Ledger, Nothing, Open, Params, Pass, Pes, Poll, Read, RemovePid, Response, Section, Selecting, SetFilter, SetPes, SetSize, Start, Stop, begun as begun_selecting, begun_again, has_flag, has_had_its_section, is_accepted, is_named, is_same_input, is_section, items_found, kept_after, timeout_of, with_pid, without_pid}
 use Rattle.node_buffer.specs.Inside.Capturing.{begun, terms_of, with_items, expiring, with_response, with_stop}
 use Rattle.node_core.specs.Offers.{choice_of, input_of}
 

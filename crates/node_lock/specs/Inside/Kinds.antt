@@ -1,8 +1,7 @@
 -- The kinds of step: how each changes the view of the seat that steps, and what it tells its caller.
 -- The `Me` of a seat is its view and the slots that it holds, each with its value.
 use Rattle.std.specs.Prelude.{◌≡◌, ◌≢◌, ℕ, ◌+◌, ◌-◌, ◌^◌, ◌<◌, ◌≤◌, List, [], ◌∷◌, ◌++◌, length, Option, Some, None}
-use mathlib.Core.List.{IsPrefix}
-use Rattle.atomic_table.specs.Table.{Me, Step, rest}
+use Rattle.node_lock.specs.Imports.{IsPrefix, Me, Step, rest}
 use Rattle.node_lock.specs.declared.view.Stage.{Stage}
 use Rattle.node_lock.specs.declared.view.Stage.TheVariants.{Free, Drawn, Turn, Spent}
 use Rattle.node_lock.specs.declared.view.View.{View}

@@ -1,6 +1,6 @@
 -- Words on lists.
 use Rattle.std.specs.Prelude.{ℕ, zero, suc, List, [], ◌∷◌, length, cond, nat_lt}
-use Rattle.lemmas.specs.Lists.{Has}
+use Rattle.node_lock.specs.Imports.{Has}
 
 -- each member stands there once
 abbrev pub Once : {A : Type 0} → List A → Type 0

@@ -1,10 +1,6 @@
 -- Whether the feeder's calls on a node are those that pass the packets of a stream.
 use Rattle.std.specs.Prelude.{◌≡◌, ℕ, suc, ◌+◌, ◌&&◌, Bool, true, false, List, [], ◌∷◌, Option, Some, None, nat_eq, nat_le, nat_lt, if◌then◌else◌}
-use Rattle.dmx_calls.specs.declared.params.Input.TheVariants.{Frontend}
-use Rattle.dmx_calls.specs.declared.log.Act.{Act}
-use Rattle.dmx_calls.specs.declared.log.Act.TheVariants.{Pass as PassAct, End as EndAct}
-use Rattle.dmx_calls.specs.Log.{LogEntry}
-use Rattle.script_run.specs.IsRun.{Step, steps_of}
+use Rattle.report_check.specs.Imports.{Act, End as EndAct, Frontend, LogEntry, Pass as PassAct, Step, steps_of}
 
 -- a call with its number, of this entry
 abbrev pub step_of : LogEntry → Step

@@ -1,25 +1,8 @@
 -- The parts of a report, as they are asked.
 use Rattle.std.specs.Prelude.{◌≡◌, ◌≢◌, ℕ, ◌+◌, ◌&&◌, Bool, true, List, [], ◌∷◌, length, map, nat_le, nat_lt, slice_index_or, Vec}
-use Rattle.std.specs.List.{All, range_with_len}
-use Rattle.std.specs.declared.alloc.Global.{Global}
-use Rattle.dmx_calls.specs.declared.limits.TheConstants.{DEMUX_NODES, LARGEST_READ}
-use Rattle.dmx_calls.specs.declared.outcome.Outcome.{Outcome}
-use Rattle.dmx_calls.specs.declared.params.Input.{Input}
-use Rattle.dmx_calls.specs.declared.params.Input.TheVariants.{Frontend, Dvr as FromDvr}
-use Rattle.dmx_calls.specs.declared.log.Act.{Act}
+use Rattle.report_check.specs.Imports.{Act, All, DEMUX_NODES, Dvr as FromDvr, Frontend, Global, Input, IsLegalFor, LARGEST_READ, LogEntry, NoMemory, Outcome, Pass as PassAct, Read as ReadAct, Scripted, Sources, Told, ToldNode, clients_in, filled, outcomes, played as played_of, range_with_len, replies, rules_at, steps_of, told_entry}
 use Rattle.dmx_calls.specs.declared.log.Entry.{Entry as ToldEntry}
-use Rattle.dmx_calls.specs.declared.log.Act.TheVariants.{Read as ReadAct, Pass as PassAct}
-use Rattle.dmx_calls.specs.Calls.{told_entry}
-use Rattle.dmx_calls.specs.Legal.{IsLegalFor}
-use Rattle.dmx_calls.specs.Log.{LogEntry, Sources, filled}
-use Rattle.dmx_calls.specs.Response.{NoMemory}
-use Rattle.dmx_calls.specs.Rules.{rules_at}
-use Rattle.client_script.specs.Script.{clients_in, Scripted}
-use Rattle.client_core.specs.Commands.{played as played_of}
-use Rattle.client_core.specs.Outcomes.{outcomes}
 use Rattle.report_check.specs.Playing.{brought_from}
-use Rattle.script_run.specs.IsRun.{replies, steps_of}
-use Rattle.report_text.specs.Told.{ToldNode, Told}
 use Rattle.report_check.specs.Completed.{complete}
 use Rattle.report_check.specs.Walk.{IsRest, queues_in}
 use Rattle.report_check.specs.Inside.Feeding.{feeds, IsFedAlike}

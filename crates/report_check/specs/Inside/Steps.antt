@@ -1,11 +1,6 @@
 -- What the parts of a walk decide and do.
 use Rattle.std.specs.Prelude.{◌≡◌, ℕ, ◌+◌, List, [], ◌∷◌, length, slice_get, slice_set, Some}
-use Rattle.dmx_calls.specs.declared.log.Act.{Act}
-use Rattle.dmx_calls.specs.declared.log.Act.TheVariants.{SetFilter as SetFilterAct, SetPes as SetPesAct, Start as StartAct, Read as ReadAct, Poll as PollAct, Pass as PassAct}
-use Rattle.dmx_calls.specs.Log.{LogEntry, act_of}
-use Rattle.client_core.specs.declared.event.Request.{Request}
-use Rattle.client_core.specs.Deeds.{Batches}
-use Rattle.client_core.specs.Commands.{call_of}
+use Rattle.report_check.specs.Imports.{Act, Batches, LogEntry, Pass as PassAct, Poll as PollAct, Read as ReadAct, Request, SetFilter as SetFilterAct, SetPes as SetPesAct, Start as StartAct, act_of, call_of}
 
 -- the moment of a call; 0 where it has none
 abbrev pub moment_in : Act → ℕ

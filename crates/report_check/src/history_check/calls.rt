@@ -1,9 +1,7 @@
 // Told calls, to be made again.
 ghost use Rattle.std.specs.Prelude.{◌≡◌, ◌<◌, ◌≤◌, ◌+◌, ◌^◌, length, map, take, drop, IfOk, All};
 ghost use Rattle.dmx_calls.specs.Invocation.{Pass};
-ghost use Rattle.ts_packet.specs.Fields.{IsPacket};
-ghost use Rattle.dmx_calls.specs.Calls.{invocation_of};
-ghost use Rattle.dmx_calls.specs.Log.{filled_act};
+ghost use Rattle.report_check.specs.Imports.{IsPacket, filled_act, invocation_of};
 ghost use Rattle.report_check.specs.Playing.{AreFewPackets, IsCallable, brought_from};
 
 use dmx_calls::{Act, ByteBuf, Call, Input, KeptAct};

@@ -1,11 +1,7 @@
 // A told history, played again.
 ghost use Rattle.std.specs.Prelude.{◌≡◌, ◌≢◌, ◌+◌, ◌<◌, ◌^◌, ◌∷◌, ◌++◌, [], List, length, map, reverse, true, false, IfOk, All};
-ghost use Rattle.dmx_calls.specs.Calls.{invocation_of, response_of, told_entry};
-ghost use Rattle.dmx_calls.specs.History.{Entry as HistoryEntry, entry_of};
-ghost use Rattle.dmx_calls.specs.Legal.{May, IsLegalFor};
-ghost use Rattle.dmx_calls.specs.Log.{filled};
+ghost use Rattle.report_check.specs.Imports.{Entry as HistoryEntry, IsLegalFor, May, Rules, entry_of, filled, invocation_of, response_of, told_entry};
 ghost use Rattle.dmx_calls.specs.Response as response;
-ghost use Rattle.dmx_calls.specs.Rules.{Rules};
 ghost use Rattle.report_check.specs.Playing.{AreFewPackets, IsCallable, IsToldBy, PlaysBy, brought_from, played as played_by};
 
 use crate::history_check::calls::call_told;

@@ -1,10 +1,6 @@
 // Whether a told call is the one that is asked for.
 ghost use Rattle.std.specs.Prelude.{◌≡◌, ◌≢◌, ◌≤◌, true, false, Some};
-ghost use Rattle.std.specs.Option.{option_map};
-ghost use Rattle.dmx_calls.specs.Calls.{told_entry};
-ghost use Rattle.dmx_calls.specs.Log.{act_of};
-ghost use Rattle.client_core.specs.Commands.{call_of, own_call, pass_of, IsRequestOf};
-ghost use Rattle.script_run.specs.IsRun.{IsEvent};
+ghost use Rattle.report_check.specs.Imports.{IsEvent, IsRequestOf, act_of, call_of, option_map, own_call, pass_of, told_entry};
 ghost use Rattle.report_check.specs.Inside.Steps.{asked_at, moment_in};
 
 use client_core::{ClientCore, Event, Request};

@@ -1,9 +1,6 @@
 // A client's told entries, one after another.
 ghost use Rattle.std.specs.Prelude.{◌≡◌, ◌+◌, ◌<◌, ◌^◌, [], List, length, map, true, false};
-ghost use Rattle.dmx_calls.specs.declared.limits.TheConstants.{DEMUX_NODES};
-ghost use Rattle.dmx_calls.specs.Calls.{told_entry};
-ghost use Rattle.client_script.specs.Script.{Scripted};
-ghost use Rattle.client_core.specs.Inside.Core.{IsAfter};
+ghost use Rattle.report_check.specs.Imports.{DEMUX_NODES, IsAfter, Scripted, told_entry};
 ghost use Rattle.report_check.specs.Walk.{CanRest, HasWalked, queues_in};
 ghost use Rattle.report_check.specs.Inside.Steps.{left_on};
 

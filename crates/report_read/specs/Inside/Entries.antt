@@ -1,6 +1,6 @@
 -- How the lines of a node are read (this project's own).
 use Rattle.std.specs.Prelude.{ℕ, List, Some, codes}
-use Rattle.dmx_calls.specs.Log.{LogEntry}
+use Rattle.report_read.specs.Imports.{LogEntry}
 use Rattle.report_read.specs.declared.entries.Front.{Front}
 use Rattle.report_read.specs.Inside.Reading.{Reading, and_then, past, number64}
 use Rattle.report_read.specs.Inside.Parts.{who_in, act_in, response_in}

@@ -1,22 +1,12 @@
 -- How calls and replies of a report are read (this project's own).
 use Rattle.std.specs.Prelude.{ℕ, suc, ◌+◌, ◌==◌, ◌&&◌, Bool, true, false, not, nat_eq, nat_le, List, [], ◌∷◌, length, replicate, Some, None, if◌then◌else◌, codes}
 use Rattle.std.proofs.Common.{zero}
-use Rattle.pid_set.specs.Pids.{has_pid, with_pid}
-use Rattle.filter_match.specs.declared.filter.SectionFilter.{SectionFilter}
-use Rattle.filter_match.specs.declared.filter.Place.{Place}
-use Rattle.filter_match.specs.Places.{with_place}
-use Rattle.dmx_calls.specs.declared.params.Input.{Input}
+use Rattle.report_read.specs.Imports.{Act, AddPid as AddPidAct, Again, Attach as AttachAct, Busy, Close as CloseAct, Data, Detach as DetachAct, Done, End as EndAct, Input, LARGEST_READ, NoMemory, Open as OpenAct, Output, Overflow, Pass as PassAct, Passed, Place, Poll as PollAct, PollError, Read as ReadAct, Ready, Refused, RemovePid as RemovePidAct, Response, SectionFilter, SetFilter as SetFilterAct, SetPes as SetPesAct, SetSize as SetSizeAct, Start as StartAct, Stop as StopAct, TapChange, TimedOut, has_pid, with_pid, with_place}
 use Rattle.dmx_calls.specs.declared.params.Input.TheVariants as input
-use Rattle.dmx_calls.specs.declared.params.Output.{Output}
 use Rattle.dmx_calls.specs.declared.params.Output.TheVariants as output
 use Rattle.dmx_calls.specs.declared.reply.Errno.TheVariants as errno
-use Rattle.dmx_calls.specs.declared.reply.PollError.{PollError}
 use Rattle.dmx_calls.specs.declared.reply.PollError.TheVariants as pending
 use Rattle.dmx_calls.specs.declared.reply.Tap.TheVariants.{Keep as KeepTap, Attach as AttachTap, Detach as DetachTap}
-use Rattle.dmx_calls.specs.declared.log.Act.{Act}
-use Rattle.dmx_calls.specs.declared.log.Act.TheVariants.{Open as OpenAct, Close as CloseAct, SetFilter as SetFilterAct, SetPes as SetPesAct, AddPid as AddPidAct, RemovePid as RemovePidAct, Start as StartAct, Stop as StopAct, SetSize as SetSizeAct, Read as ReadAct, Poll as PollAct, Pass as PassAct, End as EndAct, Attach as AttachAct, Detach as DetachAct}
-use Rattle.dmx_calls.specs.declared.limits.TheConstants.{LARGEST_READ}
-use Rattle.dmx_calls.specs.Response.{Response, Done, Busy, Refused, NoMemory, Data, Again, Overflow, TimedOut, Ready, Passed, TapChange}
 use Rattle.report_read.specs.Inside.Reading.{Reading, and_then, made, past, choose, number_in, number16, number32, number64, byte_in, bytes_in, begins_number}
 
 -- ------ words

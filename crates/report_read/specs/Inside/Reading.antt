@@ -1,12 +1,7 @@
 -- How what stands at the front of bytes is read (this project's own).
 use Rattle.std.proofs.Common.{zero}
 use Rattle.std.specs.Prelude.{◌≡◌, ℕ, suc, ◌++◌, Bool, false, List, [], ◌∷◌, length, take, drop, Option, Some, None, nat_eq, if◌then◌else◌}
-use Rattle.std.specs.List.{prefix_len}
-use Rattle.std.specs.Option.{option_map}
-use Rattle.std.specs.Char.{is_ascii_digit}
-use Rattle.std.specs.Cmp.Lexicographic.{pointwise}
-use Rattle.text_forms.specs.Numbers.{number_between}
-use Rattle.text_forms.specs.Hex.{hex_byte}
+use Rattle.report_read.specs.Imports.{hex_byte, is_ascii_digit, number_between, option_map, pointwise, prefix_len}
 
 -- a value that was read and the bytes behind it; None where the bytes don't begin with one
 abbrev pub Reading : Type 0 → Type 0

@@ -1,11 +1,7 @@
 -- How the parts of a report are read (this project's own).
 use Rattle.std.specs.Prelude.{ℕ, Bool, true, false, List, Some, codes}
-use Rattle.ts_packet.specs.declared.cutter.Tally.{Tally}
-use Rattle.ts_watch.specs.declared.seen.PidRow.{PidRow}
-use Rattle.dmx_calls.specs.declared.outcome.Outcome.{Outcome}
-use Rattle.dmx_calls.specs.declared.outcome.OutcomeKind.{OutcomeKind}
+use Rattle.report_read.specs.Imports.{Outcome, OutcomeKind, PidRow, Tally, Told, ToldNode}
 use Rattle.dmx_calls.specs.declared.outcome.OutcomeKind.TheVariants as outcome
-use Rattle.report_text.specs.Told.{ToldNode, Told}
 use Rattle.report_read.specs.Inside.Reading.{Reading, and_then, past, choose, number_in, number16, number32, number64, begins_number, begins_with, all_in}
 use Rattle.report_read.specs.Inside.Entries.{entry_in}
 

@@ -1,6 +1,6 @@
 -- A text that is written in pieces, out of a buffer.
 use Rattle.std.specs.Prelude.{◌≡◌, ◌<◌, ℕ, List, ◌++◌, length, take, Option}
-use Rattle.std.specs.Io.KnownBytes.{Appends}
+use Rattle.report_text.specs.Imports.{Appends}
 
 -- Below `old` and `new` are the bytes that the sink was given before and after, `waited` and `waits` those that wait.
 

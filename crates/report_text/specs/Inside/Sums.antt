@@ -1,6 +1,6 @@
 -- Sums over nodes, as the code keeps them.
 use Rattle.std.specs.Prelude.{ℕ, ◌≡◌, ◌≤◌, List, length, sum_by}
-use Rattle.dmx_calls.specs.Log.{LogEntry}
+use Rattle.report_text.specs.Imports.{LogEntry}
 use Rattle.report_text.specs.declared.sums.Sums.{Sums}
 use Rattle.report_text.specs.Summary.{bytes_read, overflows}
 

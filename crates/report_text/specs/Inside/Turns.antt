@@ -1,13 +1,6 @@
 -- How far the lines of a node are told.
 use Rattle.std.specs.Prelude.{◌≡◌, ◌+◌, ℕ, suc, List, ◌∷◌, ◌++◌, drop, Option, Some, None, codes}
-use Rattle.std.specs.List.{flat_map, slice_get}
-use Rattle.std.specs.Fmt.{decimal}
-use Rattle.dmx_calls.specs.Response.{Passed}
-use Rattle.dmx_calls.specs.declared.histories.Fed.{Fed}
-use Rattle.dmx_calls.specs.declared.log.Act.{Act}
-use Rattle.dmx_calls.specs.declared.log.Act.TheVariants.{End as EndAct}
-use Rattle.dmx_calls.specs.Log.{LogEntry}
-use Rattle.dmx_calls.specs.Histories.{pass_act, feeder_acts, before_entry}
+use Rattle.report_text.specs.Imports.{Act, End as EndAct, Fed, LogEntry, Passed, before_entry, decimal, feeder_acts, flat_map, pass_act, slice_get}
 use Rattle.report_text.specs.Acts.{act_text}
 use Rattle.report_text.specs.Entries.{entry_text}
 use Rattle.report_text.specs.Replies.{response_text}

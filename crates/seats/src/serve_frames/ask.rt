@@ -1,7 +1,6 @@
 // Reads what a request asks.
 ghost use Rattle.std.specs.Prelude.{◌≡◌, ◌≤◌, ◌+◌, length, take, drop, Some};
-ghost use Rattle.dmx_abi.specs.Layout.{field};
-ghost use Rattle.dmx_abi.specs.Decoded.{decoded};
+ghost use Rattle.seats.specs.Imports.{decoded, field};
 ghost use Rattle.seats.specs.Asks.{ioctl_of as ioctl_by, call_of as call_by, asked as asked_by, ask_of as ask_by, IsAskInRange};
 
 use crate::serve_frames::numbers::{

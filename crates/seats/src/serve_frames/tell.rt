@@ -1,8 +1,6 @@
 // Writes what is told in reply.
 ghost use Rattle.std.specs.Prelude.{◌≡◌, ◌≤◌, ◌<◌, ◌+◌, ◌^◌, ◌++◌, length, take, drop};
-ghost use Rattle.byteorder.specs.Endian.{little_bytes};
-ghost use Rattle.dmx_abi.specs.Layout.{field};
-ghost use Rattle.dmx_calls.specs.Calls.{response_of};
+ghost use Rattle.seats.specs.Imports.{field, little_bytes, response_of};
 ghost use Rattle.seats.specs.Tells.{errno_number as errno_by, ready_bits as bits_by, told_of as told_by, data_of as data_by, head_of};
 
 use crate::serve_frames::numbers::{

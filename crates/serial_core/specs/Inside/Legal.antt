@@ -1,12 +1,7 @@
 -- What holds of the 33 histories of a run.
 use Rattle.std.specs.Prelude.{ℕ, ◌≡◌, ◌+◌, List, [], ◌∷◌, ◌++◌, map, replicate, All}
-use Rattle.std.specs.List.{range_with_len}
-use Rattle.dmx_calls.specs.declared.limits.TheConstants.{DEMUX_NODES}
-use Rattle.dmx_calls.specs.declared.params.Input.TheVariants.{Frontend}
+use Rattle.serial_core.specs.Imports.{DEMUX_NODES, Frontend, History, IsLegalFor, range_with_len, rules_at}
 use Rattle.dmx_calls.specs.Invocation.{Invocation, Pass}
-use Rattle.dmx_calls.specs.History.{History}
-use Rattle.dmx_calls.specs.Rules.{rules_at}
-use Rattle.dmx_calls.specs.Legal.{IsLegalFor}
 use Rattle.serial_core.specs.Nodes.{Node, history_of}
 use Rattle.serial_core.specs.SerialRun.{Run}
 

@@ -1,8 +1,6 @@
 -- How the lines of a script bring the code and the run further.
 use Rattle.std.specs.Prelude.{◌^◌, ◌≡◌, ℕ, ◌≤◌, ◌<◌, List, ◌∷◌, length, drop, sum_by, slice_index_or, All}
-use Rattle.client_script.specs.Script.{clients_of, most_bytes, Scripted}
-use Rattle.client_script.specs.declared.line.Line.{Line}
-use Rattle.client_core.specs.Inside.Core.{Core, IsAfter}
+use Rattle.serial_core.specs.Imports.{Core, IsAfter, Line, Scripted, clients_of, most_bytes}
 use Rattle.serial_core.specs.SerialRun.{Run, replies_of, finished, AreDone}
 use Rattle.serial_core.specs.declared.runner.Runner.{Runner}
 use Rattle.serial_core.specs.Budget.{IsOnTheWay}

@@ -1,12 +1,6 @@
 -- How the code goes on with the run, while the stream is pulled as it is wanted.
 use Rattle.std.specs.Prelude.{◌≡◌, ◌≢◌, ℕ, ◌+◌, ◌-◌, ◌^◌, ◌<◌, ◌≤◌, Bool, true, false, List, [], ◌++◌, length, None}
-use Rattle.emu_io.specs.Ends.{SourceEnd}
-use Rattle.client_script.specs.Script.{Scripted}
-use Rattle.client_core.specs.Inside.Core.{Core, IsAfter}
-use Rattle.client_core.specs.Events.{next_of_line}
-use Rattle.feed_pull.specs.declared.fault.Reading.TheVariants.{Going}
-use Rattle.feed_pull.specs.Pulling.{Pulling, Pulls, IsDone}
-use Rattle.feed_pull.specs.Streams.{Draws}
+use Rattle.serial_core.specs.Imports.{Core, Draws, Going, IsAfter, IsDone, Pulling, Pulls, Scripted, SourceEnd, next_of_line}
 use Rattle.serial_core.specs.declared.runner.Runner.{Runner}
 use Rattle.serial_core.specs.SerialRun.{Run, replies_of, IsWorked}
 use Rattle.serial_core.specs.Budget.{IsBegun}

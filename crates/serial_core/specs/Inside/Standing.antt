@@ -1,18 +1,11 @@
 -- What it means that the code has run so far.
 use Rattle.std.specs.Prelude.{ℕ, ◌≡◌, ◌+◌, ◌<◌, ◌≤◌, Bool, true, false, List, [], ◌∷◌, ◌++◌, length, map, replicate}
-use Rattle.dmx_calls.specs.declared.limits.TheConstants.{DEMUX_NODES}
+use Rattle.serial_core.specs.Imports.{Act, DEMUX_NODES, End as EndAct, Fed, History, StandsFor as DvrStands, pass_act, told_entry, woven}
 use Rattle.dmx_calls.specs.Invocation.{Invocation, Pass, End}
-use Rattle.dmx_calls.specs.History.{History}
-use Rattle.dmx_calls.specs.declared.log.Act.{Act}
-use Rattle.dmx_calls.specs.declared.log.Act.TheVariants.{End as EndAct}
-use Rattle.dmx_calls.specs.Histories.{pass_act, woven}
-use Rattle.dmx_calls.specs.Calls.{told_entry}
 use Rattle.node_core.specs.Stands.{StandsFor as DemuxStands}
-use Rattle.dvr_core.specs.Stands.{StandsFor as DvrStands}
 use Rattle.serial_core.specs.declared.node.AnyCore.{AnyCore}
 use Rattle.serial_core.specs.declared.node.AnyCore.TheVariants.{Demux, Dvr}
 use Rattle.serial_core.specs.declared.seat.Seat.{Seat}
-use Rattle.dmx_calls.specs.declared.histories.Fed.{Fed}
 use Rattle.serial_core.specs.declared.nodes.Nodes.{Nodes}
 use Rattle.serial_core.specs.Nodes.{Node, history_of, log_of}
 use Rattle.serial_core.specs.SerialRun.{Run}

@@ -1,18 +1,6 @@
 -- A feeder that keeps nothing of what it has passed.
 use Rattle.std.specs.Prelude.{◌≡◌, ◌≢◌, ◌⊎◌, ◌<◌, ◌≤◌, ◌+◌, ◌-◌, ◌^◌, ℕ, Bool, List, [], ◌∷◌, length, None, Some, All}
-use Rattle.emu_io.specs.Ends.{SourceEnd}
-use Rattle.atomic_table.specs.Seated.{TableId}
-use Rattle.ts_packet.specs.declared.size.PacketSize.TheVariants.{Of188}
-use Rattle.client_core.specs.declared.stop.Stop.TheVariants.{NoMemory, TooLong}
-use Rattle.feed_pull.specs.declared.fault.Reading.TheVariants.{Going, TooMany}
-use Rattle.feed_pull.specs.Pulling.{Pulling, Pulls, IsDone}
-use Rattle.feed_pull.specs.Streams.{Draws}
-use Rattle.dmx_calls.specs.declared.histories.Fed.{Fed}
-use Rattle.dmx_calls.specs.declared.limits.TheConstants.{DEMUX_NODES}
-use Rattle.adapter.specs.Callers.{Caller, IsSameCaller}
-use Rattle.adapter.specs.Nodes.{ended}
-use Rattle.adapter.specs.Rows.{Fits}
-use Rattle.workers.specs.Feeding.{AreFullBatches, HasFed}
+use Rattle.serve_top.specs.Imports.{AreFullBatches, Caller, DEMUX_NODES, Draws, Fed, Fits, Going, HasFed, IsDone, IsSameCaller, NoMemory, Of188, Pulling, Pulls, SourceEnd, TableId, TooLong, TooMany, ended}
 use Rattle.serve_top.specs.declared.passing.Passing.{Passing}
 
 -- It is one of this feeder, and has drawn and passed nothing yet.

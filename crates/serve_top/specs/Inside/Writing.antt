@@ -1,9 +1,6 @@
 -- Lines that are written one behind another.
 use Rattle.std.proofs.Common.{List, [], ◌++◌, ℕ, sym, subst}
-use Rattle.std.specs.List.{flat_map}
-use Rattle.std.proofs.KnownBytes.{Appends-nil, Appends-trans}
-use Rattle.std.proofs.lemmas.List.Concat.{flat_map-append}
-use Rattle.emu_io.specs.Ends.{SinkEnd}
+use Rattle.serve_top.specs.Imports.{Appends-nil, Appends-trans, SinkEnd, flat_map, flat_map-append}
 use Rattle.serve_top.specs.declared.written.Written.{Written}
 use Rattle.serve_top.specs.Lines.{HasWritten}
 

@@ -1,12 +1,6 @@
 -- The workers before the first call, and what is left of them.
 use Rattle.std.specs.Prelude.{◌≡◌, ◌+◌, ◌<◌, ℕ, Bool, List, [], length, map, slice_get, slice_index_or, Some}
-use Rattle.atomic_table.specs.Seated.{TableId}
-use Rattle.dmx_calls.specs.declared.outcome.Outcome.{Outcome}
-use Rattle.dmx_calls.specs.Response.{Response}
-use Rattle.client_script.specs.Script.{Scripted}
-use Rattle.client_core.specs.Inside.Core.{Core, IsAfter}
-use Rattle.client_core.specs.Outcomes.{outcomes}
-use Rattle.adapter.specs.Callers.{Caller}
+use Rattle.workers.specs.Imports.{Caller, Core, IsAfter, Outcome, Response, Scripted, TableId, outcomes}
 use Rattle.workers.specs.declared.client_worker.ClientWorker.{ClientWorker}
 use Rattle.workers.specs.declared.clients.ClientsLeft.{ClientsLeft}
 use Rattle.workers.specs.Inside.Working.{HasCome}

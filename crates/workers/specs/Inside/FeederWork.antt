@@ -1,17 +1,6 @@
 -- The feeder at work.
 use Rattle.std.specs.Prelude.{◌≡◌, ◌≢◌, ◌⊎◌, ◌<◌, ◌≤◌, ◌+◌, ◌-◌, ◌^◌, ℕ, Bool, false, List, [], ◌∷◌, length, slice_get, None, Some, All}
-use Rattle.emu_io.specs.Ends.{SourceEnd}
-use Rattle.atomic_table.specs.Seated.{TableId}
-use Rattle.client_core.specs.declared.stop.Stop.TheVariants.{NoMemory, TooLong}
-use Rattle.feed_pull.specs.declared.fault.Reading.TheVariants.{Going, TooMany}
-use Rattle.feed_pull.specs.Pulling.{Pulling, Pulls, IsDone}
-use Rattle.feed_pull.specs.Streams.{Draws}
-use Rattle.node_lock.specs.declared.view.View.{View}
-use Rattle.dmx_calls.specs.History.{Entry}
-use Rattle.dmx_calls.specs.declared.limits.TheConstants.{DEMUX_NODES}
-use Rattle.adapter.specs.Callers.{IsSameCaller}
-use Rattle.adapter.specs.Rows.{Fits}
-use Rattle.adapter.specs.Nodes.{ended}
+use Rattle.workers.specs.Imports.{DEMUX_NODES, Draws, Entry, Fits, Going, IsDone, IsSameCaller, NoMemory, Pulling, Pulls, SourceEnd, TableId, TooLong, TooMany, View, ended}
 use Rattle.workers.specs.declared.feeder_worker.FeederWorker.{FeederWorker}
 use Rattle.workers.specs.Feeding.{AreFullBatches, HasEnded, HasFed}
 

@@ -1,10 +1,6 @@
 -- How workers that came to their end are left.
 use Rattle.std.specs.Prelude.{◌≡◌, ◌≢◌, ◌⊎◌, ◌++◌, ℕ, List, length, map, slice_get, Option, Some, None}
-use Rattle.ts_watch.specs.Head.{told_head, head_of}
-use Rattle.dmx_calls.specs.declared.outcome.Outcome.{Outcome}
-use Rattle.client_core.specs.declared.stop.Stop.{Stop}
-use Rattle.client_core.specs.declared.stop.Stop.TheVariants.{NoMemory}
-use Rattle.feed_pull.specs.Pulling.{Pulls, has_failed}
+use Rattle.workers.specs.Imports.{NoMemory, Outcome, Pulls, Stop, has_failed, head_of, told_head}
 use Rattle.workers.specs.declared.client_worker.ClientWorker.{ClientWorker}
 use Rattle.workers.specs.declared.feeder_worker.FeederWorker.{FeederWorker}
 use Rattle.workers.specs.declared.left.Left.{Left}

@@ -1,19 +1,6 @@
 -- A client at work.
 use Rattle.std.specs.Prelude.{◌≡◌, ◌≢◌, ◌<◌, ◌≤◌, ◌+◌, ◌^◌, ℕ, Bool, List, length, map, slice_get, Some, None, IsSome}
-use Rattle.atomic_table.specs.Seated.{TableId}
-use Rattle.node_lock.specs.declared.view.View.{View}
-use Rattle.dmx_calls.specs.Calls.{told_entry}
-use Rattle.dmx_calls.specs.History.{Entry}
-use Rattle.dmx_calls.specs.Log.{LogEntry}
-use Rattle.client_script.specs.Script.{Scripted}
-use Rattle.client_core.specs.declared.stop.TheConstants.{MOST_CALLS}
-use Rattle.client_core.specs.Inside.Core.{IsAfter, next_of}
-use Rattle.client_core.specs.declared.stop.Stop.TheVariants.{NoMemory, TooLong}
-use Rattle.client_core.specs.Events.{waits_on}
-use Rattle.script_run.specs.IsRun.{replies}
-use Rattle.adapter.specs.Callers.{IsSameCaller}
-use Rattle.adapter.specs.Rows.{Fits}
-use Rattle.adapter.specs.Merging.{AreOnNodes}
+use Rattle.workers.specs.Imports.{AreOnNodes, Entry, Fits, IsAfter, IsSameCaller, LogEntry, MOST_CALLS, NoMemory, Scripted, TableId, TooLong, View, next_of, replies, told_entry, waits_on}
 use Rattle.workers.specs.declared.client_worker.ClientWorker.{ClientWorker}
 use Rattle.workers.specs.Logged.{HasCalled}
 

@@ -1,7 +1,6 @@
 // The nodes, by the commands.
 ghost use Rattle.std.specs.Prelude.{◌≡◌, ◌≤◌, ◌||◌, ℕ, false, slice_index_or};
-ghost use Rattle.dmx_calls.specs.declared.limits.TheConstants.{DEMUX_NODES as last};
-ghost use Rattle.client_script.specs.Grammar.{IsTargetInRange};
+ghost use Rattle.workers.specs.Imports.{DEMUX_NODES as last, IsTargetInRange};
 ghost use Rattle.workers.specs.Named.{is_for, is_named, passes_all};
 
 use client_script::{Line, Script, Target, Verb};
