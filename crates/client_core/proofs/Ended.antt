@@ -1,11 +1,11 @@
 -- Where a command has ended, what stands behind it has not begun: its client waits for nothing.
-use Rattle.client_core.proofs.Imports.{◌≡◌, refl, sym, ap, ◌∙◌, ℕ, Bool, true, false, nat_eq, List, [], ◌∷◌, ◌++◌, Some, None, arith, if◌then◌else◌, none-some, Response, Scripted, Command, Event, Ending, Slots, Doing, stands, through, done, commands_of, slots_after, progress_from, no_slots, next_of_line, standing_at, waits_after, waits_on, repeats_in}
+use Rattle.client_core.proofs.Imports.{◌≡◌, refl, sym, ap, ◌∙◌, ℕ, Bool, true, false, nat_eq, List, [], ◌∷◌, ◌++◌, Some, None, arith, if◌then◌else◌, none-some, Response, Scripted, ClientCommand, Event, Ending, Slots, Doing, stands, through, done, commands_of, slots_after, progress_from, no_slots, next_of_line, standing_at, waits_after, waits_on, repeats_in}
 use Rattle.client_core.specs.Events.{progress}
 use Rattle.client_core.proofs.GoesOn.{progress_of, last_counts, waits_not}
 use Rattle.client_core.proofs.More.{IsFirst, done_none, Onward, done_on_more}
 
 -- with no replies left, what stands there is a first call, before which no client waits
-first_waits_not : (slots : Slots) (step : ℕ) (cs : List Command) (r : Response) → waits_after (progress_from slots step cs []).standing (r ∷ []) ≡ None
+first_waits_not : (slots : Slots) (step : ℕ) (cs : List ClientCommand) (r : Response) → waits_after (progress_from slots step cs []).standing (r ∷ []) ≡ None
 first_waits_not slots step [] r = refl
 first_waits_not slots step (c ∷ cs) r = go (λ ending next. first_waits_not (slots_after ending slots) next cs r) (done slots c.target c.deed step []) (done_none slots c.target c.deed step).0 where
   go : ((ending : Ending) (next : ℕ) → waits_after (progress_from (slots_after ending slots) next cs []).standing (r ∷ []) ≡ None)
@@ -18,7 +18,7 @@ same_line : (b : Bool) (e f x : Event) → (if b then Some e else None) ≡ Some
 same_line true e f x was none = none-some f (sym none)
 same_line false e f x was none = none-some x was
 
-ends_from : (slots : Slots) (step : ℕ) (cs : List Command) (rs : List Response) (r : Response) (line : ℕ) (x : Event) → standing_at line (progress_from slots step cs rs).standing ≡ Some x
+ends_from : (slots : Slots) (step : ℕ) (cs : List ClientCommand) (rs : List Response) (r : Response) (line : ℕ) (x : Event) → standing_at line (progress_from slots step cs rs).standing ≡ Some x
     → standing_at line (progress_from slots step cs (rs ++ r ∷ [])).standing ≡ None → waits_after (progress_from slots step cs (rs ++ r ∷ [])).standing (r ∷ []) ≡ None
 ends_from slots step [] rs r line x was none = absurd (none-some x was)
 ends_from slots step (c ∷ cs) rs r line x was none =

@@ -1,5 +1,5 @@
 -- A client makes at most 33 first calls a command, the next call counted too; and a read that is repeated stays on its node.
-use Rattle.client_core.proofs.Imports.{Task, Call, OpenFrom, Play, ◌≡◌, refl, sym, ap, ◌∙◌, ℕ, ◌+◌, ◌-◌, ◌*◌, ◌<◌, ◌≤◌, Bool, true, false, List, [], ◌∷◌, ◌++◌, Option, Some, None, length, arith, nat_lt, if◌then◌else◌, slice_index_or, nat_tests, DEMUX_NODES, KeepTap, AttachTap, DetachTap, Response, Done, Busy, Again, Ready, TapChange, Scripted, Target, Node, Slot, Dvr, Deed, Once, Open, Command, Ending, Made, Bound, AllBusy, Slots, Doing, stands, through, done, ends_wait, ends_drain, commands_of, Standing, slots_after, progress_from, no_slots, repeats_in, repeats_from, CallsAreFew, none-some, same_some, first_on, first_at, first_by_slot, first, telling, after, doing, Next, Still, Through}
+use Rattle.client_core.proofs.Imports.{Task, Call, OpenFrom, Play, ◌≡◌, refl, sym, ap, ◌∙◌, ℕ, ◌+◌, ◌-◌, ◌*◌, ◌<◌, ◌≤◌, Bool, true, false, List, [], ◌∷◌, ◌++◌, Option, Some, None, length, arith, nat_lt, if◌then◌else◌, slice_index_or, nat_tests, DEMUX_NODES, KeepTap, AttachTap, DetachTap, Response, Done, Busy, Again, Ready, TapChange, Scripted, Target, Node, Slot, Dvr, Deed, Once, Open, ClientCommand, Ending, Made, Bound, AllBusy, Slots, Doing, stands, through, done, ends_wait, ends_drain, commands_of, Standing, slots_after, progress_from, no_slots, repeats_in, repeats_from, CallsAreFew, none-some, same_some, first_on, first_at, first_by_slot, first, telling, after, doing, Next, Still, Through}
 use Rattle.client_core.specs.Events.{progress}
 use Rattle.client_core.specs.Repeats.{repeats}
 use Rattle.client_core.proofs.GoesOn.{progress_of}
@@ -99,7 +99,7 @@ record Tight (commands n m more : ℕ) (s : Standing) (now : Option Standing) : 
   few : n < 33 * commands + m
   stays : m < more → (t : Standing) → now ≡ Some t → t.event.node ≡ s.event.node
 
-all_tight : (slots : Slots) (step : ℕ) (cs : List Command) (rs : List Response) (s : Standing) → (progress_from slots step cs rs).standing ≡ Some s
+all_tight : (slots : Slots) (step : ℕ) (cs : List ClientCommand) (rs : List Response) (s : Standing) → (progress_from slots step cs rs).standing ≡ Some s
     → Tight (length cs) (length rs) (repeats_from slots step cs rs) (repeats_from slots step cs (rs ++ goes ∷ [])) s (progress_from slots step cs (rs ++ goes ∷ [])).standing
 all_tight slots step [] rs s is = absurd (none-some s is)
 all_tight slots step (c ∷ cs) rs s is =

@@ -1,17 +1,17 @@
 -- What beginning and ending a command leave as it was.
-use Rattle.client_core.proofs.Imports.{◌≡◌, refl, sym, ap, subst, ◌∙◌, ℕ, ◌+◌, List, [], ◌∷◌, ◌++◌, map, length, Some, None, arith, ◌<◌, ◌≤◌, Bool, true, false, Option, nat_lt, option_map, if◌then◌else◌, All, append_assoc, append-nil, map-append, All-append, All-weaker, nat_tests, Response, Again, Command, Ending, Task, Doing, stands, through, Slots, done, Standing, Ended, Progress, with_ended, slots_after, progress_from, progress, next_event, reading_on, waits_after, standing_at, with_reply, exchanges, outcome_by, outcome_of, counter_in, HaveFollowed, Scripted, IfSome, IfNone, Current, ahead, behind, coming_from, coming, Core, IsLate, IsAfter, HasTaken, next_of, waits_with, none-some, first, event_of, doing, Still, Through}
+use Rattle.client_core.proofs.Imports.{◌≡◌, refl, sym, ap, subst, ◌∙◌, ℕ, ◌+◌, List, [], ◌∷◌, ◌++◌, map, length, Some, None, arith, ◌<◌, ◌≤◌, Bool, true, false, Option, nat_lt, option_map, if◌then◌else◌, All, append_assoc, append-nil, map-append, All-append, All-weaker, nat_tests, Response, Again, ClientCommand, Ending, Task, Doing, stands, through, Slots, done, Standing, Ended, Progress, with_ended, slots_after, progress_from, progress, next_event, reading_on, waits_after, standing_at, with_reply, exchanges, outcome_by, outcome_of, counter_in, HaveFollowed, Scripted, IfSome, IfNone, Current, ahead, behind, coming_from, coming, Core, IsLate, IsAfter, HasTaken, next_of, waits_with, none-some, first, event_of, doing, Still, Through}
 use Rattle.std.proofs.lemmas.List.{length-append}
 use Rattle.client_core.proofs.Steps.{are_done, step_of}
 use Rattle.client_core.proofs.Following.{exchanges_more, early_same, told_now}
 
 -- how far a client is whose next command does this
-abbrev pub progress_of : (slots : Slots) (step : ℕ) (c : Command) (cs : List Command) → Doing → Progress
+abbrev pub progress_of : (slots : Slots) (step : ℕ) (c : ClientCommand) (cs : List ClientCommand) → Doing → Progress
 progress_of slots step c cs d = elim d [
   | stands event ↦ record { ended = []; standing = Some (record { line = c.line; from = step; event = event }) }
   | through ending next left ↦ with_ended (record { line = c.line; from = step; to = next; ending = ending }) (progress_from (slots_after ending slots) next cs left)
 ]
 
-pub first_ahead : (slots : Slots) (step : ℕ) (c : Command) (cs : List Command) (more : List Response)
+pub first_ahead : (slots : Slots) (step : ℕ) (c : ClientCommand) (cs : List ClientCommand) (more : List Response)
     → progress_from slots step (c ∷ cs) more ≡ ahead c.line step slots cs (done slots c.target c.deed step more)
 first_ahead slots step c cs more = go (done slots c.target c.deed step more) where
   go : (d : Doing) → progress_of slots step c cs d ≡ ahead c.line step slots cs d
@@ -24,13 +24,13 @@ behind_one es e p = ap (λ xs. record { ended = xs; standing = p.standing }) (ap
 behind_two : (es fs : List Ended) (p : Progress) → behind (es ++ fs) p ≡ behind es (behind fs p)
 behind_two es fs p = ap (λ xs. record { ended = xs; standing = p.standing }) (append_assoc es fs p.ended)
 
-pub begun_goes_on : (slots : Slots) (step : ℕ) (left : List Command) (c : Command) (cs : List Command) (task : Task) → left ≡ c ∷ cs → Still task ≡ first slots c.target c.deed
+pub begun_goes_on : (slots : Slots) (step : ℕ) (left : List ClientCommand) (c : ClientCommand) (cs : List ClientCommand) (task : Task) → left ≡ c ∷ cs → Still task ≡ first slots c.target c.deed
     → (more : List Response) → progress_from slots step left more ≡ coming_from (Some (record { line = c.line; from = step; task = task })) step slots cs more
 begun_goes_on slots step left c cs task is begins more =
     ap (λ l. progress_from slots step l more) is ∙ first_ahead slots step c cs more
     ∙ ap (λ d. ahead c.line step slots cs d) (are_done slots c.target c.deed step more ∙ ap (λ n. doing n step more) (sym begins))
 
-pub passed_goes_on : (slots : Slots) (step : ℕ) (left : List Command) (c : Command) (cs : List Command) (ending : Ending) → left ≡ c ∷ cs → Through ending ≡ first slots c.target c.deed
+pub passed_goes_on : (slots : Slots) (step : ℕ) (left : List ClientCommand) (c : ClientCommand) (cs : List ClientCommand) (ending : Ending) → left ≡ c ∷ cs → Through ending ≡ first slots c.target c.deed
     → (es : List Ended) (more : List Response)
     → behind es (progress_from slots step left more)
     ≡ behind (es ++ record { line = c.line; from = step; to = step; ending = ending } ∷ []) (progress_from (slots_after ending slots) step cs more)
@@ -117,22 +117,22 @@ waits_not s r le =
 
 -- ------ what stands there
 
-pub none_left : (cur : Option Current) (step : ℕ) (slots : Slots) (left : List Command) → cur ≡ None → IfNone cur (left ≡ [])
+pub none_left : (cur : Option Current) (step : ℕ) (slots : Slots) (left : List ClientCommand) → cur ≡ None → IfNone cur (left ≡ [])
     → coming_from cur step slots left [] ≡ record { ended = []; standing = None }
 none_left None step slots left is ended = ap (λ l. progress_from slots step l []) ended
 none_left (Some k) step slots left is ended = absurd (none-some k (sym is))
 
-pub some_stands : (cur : Option Current) (k : Current) (step : ℕ) (slots : Slots) (left : List Command) → cur ≡ Some k
+pub some_stands : (cur : Option Current) (k : Current) (step : ℕ) (slots : Slots) (left : List ClientCommand) → cur ≡ Some k
     → coming_from cur step slots left [] ≡ record { ended = []; standing = Some (record { line = k.line; from = k.from; event = event_of k.task step }) }
 some_stands cur k step slots left is = ap (λ c. coming_from c step slots left []) is
 
 -- a command that is begun isn't through, and neither are those behind it
-pub none_ended : (es : List Ended) (cur : Option Current) (step : ℕ) (slots : Slots) (left : List Command) → IfNone cur (left ≡ [])
+pub none_ended : (es : List Ended) (cur : Option Current) (step : ℕ) (slots : Slots) (left : List ClientCommand) → IfNone cur (left ≡ [])
     → es ≡ (behind es (coming_from cur step slots left [])).ended
 none_ended es None step slots left ended = sym (ap (λ l. (behind es (progress_from slots step l [])).ended) ended ∙ append-nil es)
 none_ended es (Some k) step slots left ended = sym (append-nil es)
 
-pub begun_waits_not : (cur : Option Current) (step : ℕ) (slots : Slots) (left : List Command) (r : Response) → IfNone cur (left ≡ []) → IfSome cur (λ k. k.from ≡ step)
+pub begun_waits_not : (cur : Option Current) (step : ℕ) (slots : Slots) (left : List ClientCommand) (r : Response) → IfNone cur (left ≡ []) → IfSome cur (λ k. k.from ≡ step)
     → None ≡ waits_after (coming_from cur step slots left []).standing (r ∷ [])
 begun_waits_not None step slots left r ended at = sym (ap (λ l. waits_after (progress_from slots step l []).standing (r ∷ [])) ended)
 begun_waits_not (Some k) step slots left r ended at = sym (waits_not (record { line = k.line; from = k.from; event = event_of k.task step }) r (omega (arith, at, step_of k.task step)))

@@ -15,13 +15,13 @@ pub use Rattle.client_core.specs.Plays.{HasPlayed, Playing, batch_of, cut_of, jo
 pub use Rattle.client_core.specs.Repeats.{CallsAreFew, repeated, repeats_at, repeats_from, repeats_in, repeats_on}
 pub use Rattle.client_core.specs.Stc.{Exchange, bytes_after, bytes_read, exchanges, exchanges_after, filter_type, is_counter, stc, type_after, with_reply}
 pub use Rattle.client_core.specs.Steps.{StepsAreDone, after, doing, event_of, first, first_at, first_by_slot, first_on, telling}
-pub use Rattle.client_core.specs.declared.command.Command.{Command}
+pub use Rattle.client_core.specs.declared.command.ClientCommand.{ClientCommand}
 pub use Rattle.client_core.specs.declared.current.Current.{Current}
 pub use Rattle.client_core.specs.declared.deed.Deed.{Deed}
 pub use Rattle.client_core.specs.declared.deed.Deed.TheVariants.{Drain, GetStc, Once, ReadWait, Write}
 pub use Rattle.client_core.specs.declared.event.Event.{Event}
-pub use Rattle.client_core.specs.declared.event.Request.{Request}
-pub use Rattle.client_core.specs.declared.event.Request.TheVariants.{Own}
+pub use Rattle.client_core.specs.declared.event.ClientRequest.{ClientRequest}
+pub use Rattle.client_core.specs.declared.event.ClientRequest.TheVariants.{Own}
 pub use Rattle.client_core.specs.declared.task.Ending.{Ending}
 pub use Rattle.client_core.specs.declared.task.Ending.TheVariants.{AllBusy, Asked, Bound, Made, NoNode}
 pub use Rattle.client_core.specs.declared.task.Next.{Next}

@@ -1,5 +1,5 @@
 -- One reply more repeats at most one read more.
-use Rattle.client_core.proofs.Imports.{◌⊎◌, inl, inr, Task, Call, OpenFrom, Play, ◌≡◌, refl, sym, ap, subst, ◌∙◌, ℕ, ◌+◌, ◌<◌, ◌≤◌, Bool, true, false, List, [], ◌∷◌, ◌++◌, Option, Some, None, arith, nat_lt, if◌then◌else◌, slice_index_or, option_map, DEMUX_NODES, KeepTap, AttachTap, DetachTap, Response, Done, Busy, Again, Ready, TapChange, Target, Node, Slot, Dvr, Deed, Once, ReadWait, Drain, GetStc, Write, Open, Command, Event, Request, Ending, Made, Bound, AllBusy, Slots, Doing, stands, through, once, done, ends_wait, ends_drain, commands_of, Standing, slots_after, progress_from, no_slots, reading_on, waits_after, repeated, repeats_on, repeats_at, repeats_in, repeats_from, waits_with, added_by, OneReplyMore, none-some, same_some, first_on, first_at, first_by_slot, first, event_of, telling, after, doing, Next, Still, Through}
+use Rattle.client_core.proofs.Imports.{◌⊎◌, inl, inr, Task, Call, OpenFrom, Play, ◌≡◌, refl, sym, ap, subst, ◌∙◌, ℕ, ◌+◌, ◌<◌, ◌≤◌, Bool, true, false, List, [], ◌∷◌, ◌++◌, Option, Some, None, arith, nat_lt, if◌then◌else◌, slice_index_or, option_map, DEMUX_NODES, KeepTap, AttachTap, DetachTap, Response, Done, Busy, Again, Ready, TapChange, Target, Node, Slot, Dvr, Deed, Once, ReadWait, Drain, GetStc, Write, Open, ClientCommand, Event, ClientRequest, Ending, Made, Bound, AllBusy, Slots, Doing, stands, through, once, done, ends_wait, ends_drain, commands_of, Standing, slots_after, progress_from, no_slots, reading_on, waits_after, repeated, repeats_on, repeats_at, repeats_in, repeats_from, waits_with, added_by, OneReplyMore, none-some, same_some, first_on, first_at, first_by_slot, first, event_of, telling, after, doing, Next, Still, Through}
 use Rattle.client_core.specs.Events.{progress}
 use Rattle.client_core.specs.Repeats.{repeats}
 use Rattle.client_core.proofs.GoesOn.{progress_of, last_counts, waits_still}
@@ -161,7 +161,7 @@ first_none (Still t) step = step_of t step
 pub done_none : (slots : Slots) (t : Target) (v : Deed) (step : ℕ) → IsFirst step (done slots t v step []) × (repeats_in slots t v [] ≡ 0)
 done_none slots t v step = (by_steps (IsFirst step) slots t v step [] (first_none (first slots t v) step), counts slots t v [] ∙ none_yet (first slots t v))
 
-pub repeats_none : (slots : Slots) (step : ℕ) (cs : List Command) → repeats_from slots step cs [] ≡ 0
+pub repeats_none : (slots : Slots) (step : ℕ) (cs : List ClientCommand) → repeats_from slots step cs [] ≡ 0
 repeats_none slots step [] = refl
 repeats_none slots step (c ∷ cs) = go (λ ending next. repeats_none (slots_after ending slots) next cs) (done slots c.target c.deed step []) (done_none slots c.target c.deed step) where
   go : ((ending : Ending) (next : ℕ) → repeats_from (slots_after ending slots) next cs [] ≡ 0)
@@ -175,22 +175,22 @@ repeats_none slots step (c ∷ cs) = go (λ ending next. repeats_none (slots_aft
 -- ------ all commands
 
 -- so many repeats before and after this reply to this call; after it the client stands there
-record IsMore (w : Request) (r : Response) (m n : ℕ) (now : Option Standing) : Type 0 where
+record IsMore (w : ClientRequest) (r : Response) (m n : ℕ) (now : Option Standing) : Type 0 where
   le : n ≤ m + added_by w r
   waits : r ≡ Again false → waits_after now (r ∷ []) ≡ None → n ≤ m
 
-more_more : (w : Request) (r : Response) (k m n : ℕ) (now : Option Standing) → IsMore w r m n now → IsMore w r (k + m) (k + n) now
+more_more : (w : ClientRequest) (r : Response) (k m n : ℕ) (now : Option Standing) → IsMore w r m n now → IsMore w r (k + m) (k + n) now
 more_more w r k m n now is = record { le = omega (arith, is.le); waits = λ again none. omega (arith, is.waits again none) }
 
 -- how often those behind a command that does this repeat a read
-abbrev pub rest_of : (slots : Slots) (cs : List Command) → Doing → ℕ
+abbrev pub rest_of : (slots : Slots) (cs : List ClientCommand) → Doing → ℕ
 rest_of slots cs d = elim d [ stands event ↦ 0 | through ending next left ↦ repeats_from (slots_after ending slots) next cs left ]
 
 -- a command that goes on after Again, and whose client doesn't wait, goes on by no read
 waits_there : (s : Standing) (r : Response) → s.from < s.event.step → r ≡ Again false → waits_after (Some s) (r ∷ []) ≡ None → reading_on s.event ≡ None
 waits_there s r lt again none = sym (waits_still s r lt ∙ ap (λ q. waits_with q (reading_on s.event)) again) ∙ none
 
-all_more : (slots : Slots) (step : ℕ) (cs : List Command) (rs : List Response) (r : Response) (s : Standing) → (progress_from slots step cs rs).standing ≡ Some s
+all_more : (slots : Slots) (step : ℕ) (cs : List ClientCommand) (rs : List Response) (r : Response) (s : Standing) → (progress_from slots step cs rs).standing ≡ Some s
     → IsMore s.event.want r (repeats_from slots step cs rs) (repeats_from slots step cs (rs ++ r ∷ [])) (progress_from slots step cs (rs ++ r ∷ [])).standing
 all_more slots step [] rs r s is = absurd (none-some s is)
 all_more slots step (c ∷ cs) rs r s is =

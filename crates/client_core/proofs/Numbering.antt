@@ -1,5 +1,5 @@
 -- A client's calls are numbered, and are made on one of the 33 nodes; a command that is through stays through.
-use Rattle.client_core.proofs.Imports.{◌≡◌, refl, sym, ap, subst, ◌∙◌, ℕ, ◌+◌, ◌<◌, ◌≤◌, Bool, true, false, nat_eq, List, [], ◌∷◌, ◌++◌, Option, Some, None, length, replicate, arith, if◌then◌else◌, IfSome, All, All-nil, All-cons, All-head, All-tail, All-set, nat_tests, DEMUX_NODES, Response, IsInRange, Scripted, Line, CommandLine, Command, Event, Ending, Bound, Slots, Doing, stands, through, done, commands_in, commands_among, commands_of, plays_of, Batches, deed_of, Standing, slots_after, progress_from, no_slots, next_event, standing_at, IsEndingInRange, AreSlots, repeats_in, none-some, same_some, IsDeedInRange, IsDeedOf, IsNextInRange, IsNextOf, first, after, doing, Next, Still, Through, IsVerbInRange, Verb, IsCommandInRange, IsCommandOf, Packets, batch_at, All-append, All-replicate, IsSome}
+use Rattle.client_core.proofs.Imports.{◌≡◌, refl, sym, ap, subst, ◌∙◌, ℕ, ◌+◌, ◌<◌, ◌≤◌, Bool, true, false, nat_eq, List, [], ◌∷◌, ◌++◌, Option, Some, None, length, replicate, arith, if◌then◌else◌, IfSome, All, All-nil, All-cons, All-head, All-tail, All-set, nat_tests, DEMUX_NODES, Response, IsInRange, Scripted, Line, CommandLine, ClientCommand, Event, Ending, Bound, Slots, Doing, stands, through, done, commands_in, commands_among, commands_of, plays_of, Batches, deed_of, Standing, slots_after, progress_from, no_slots, next_event, standing_at, IsEndingInRange, AreSlots, repeats_in, none-some, same_some, IsDeedInRange, IsDeedOf, IsNextInRange, IsNextOf, first, after, doing, Next, Still, Through, IsVerbInRange, Verb, IsCommandInRange, IsCommandOf, Packets, batch_at, All-append, All-replicate, IsSome}
 use Rattle.client_core.specs.Events.{progress}
 use Rattle.client_script.specs.declared.line.Verb.TheVariants as verb
 use Rattle.std.specs.Prelude.{is_some}
@@ -26,10 +26,10 @@ module _ (batches : Batches) where
   doing_fits (Still t) step total (r ∷ rs) long is = let kept = next_kept batches t r is.0 is.1 in doing_fits (after t r) (step + 1) total rs (omega (arith, long)) (kept.0, kept.2)
 
   -- a command in range, whose batch is there
-  abbrev Fit : Command → Type 0
+  abbrev Fit : ClientCommand → Type 0
   Fit c = IsCommandInRange c × IsCommandOf batches c
 
-  command_fits : (slots : Slots) (c : Command) (step : ℕ) (rs : List Response) → Fit c → AreSlots slots → Fits (step + length rs) (done slots c.target c.deed step rs)
+  command_fits : (slots : Slots) (c : ClientCommand) (step : ℕ) (rs : List Response) → Fit c → AreSlots slots → Fits (step + length rs) (done slots c.target c.deed step rs)
   command_fits slots c step rs is bound =
       let begun = first_begun 33 slots c.target c.deed is.0.0 bound is.0.1 (can_ask_all c.deed) in
       by_steps (Fits (step + length rs)) slots c.target c.deed step rs (doing_fits (first slots c.target c.deed) step (step + length rs) rs refl (begun.0, begun.2 batches is.1))
@@ -38,7 +38,7 @@ module _ (batches : Batches) where
   bound_after (Bound slot node) slots is bound = All-set (λ slot. IfSome slot (λ node. node < DEMUX_NODES)) slots slot (Some node) is.1 bound
   bound_after _ slots is bound = bound
 
-  all_fit : (slots : Slots) (step : ℕ) (cs : List Command) (rs : List Response) (s : Standing) → AreSlots slots → All Fit cs → (progress_from slots step cs rs).standing ≡ Some s
+  all_fit : (slots : Slots) (step : ℕ) (cs : List ClientCommand) (rs : List Response) (s : Standing) → AreSlots slots → All Fit cs → (progress_from slots step cs rs).standing ≡ Some s
       → (s.event.step ≡ step + length rs) × IsAsked batches s.event
   all_fit slots step [] rs s bound fit is = absurd (none-some s is)
   all_fit slots step (c ∷ cs) rs s bound fit is =
@@ -98,10 +98,10 @@ next_is_numbered client script replies e ranges is = let asked = next_is_asked c
 -- ------ commands that are through
 
 -- these commands are through with these replies
-abbrev pub AreThrough : Slots → (step : ℕ) → List Command → List Response → Type 0
+abbrev pub AreThrough : Slots → (step : ℕ) → List ClientCommand → List Response → Type 0
 AreThrough slots step cs rs = (progress_from slots step cs rs).standing ≡ None
 
-pub through_more : (slots : Slots) (step : ℕ) (cs : List Command) (rs : List Response) (r : Response) → AreThrough slots step cs rs → AreThrough slots step cs (rs ++ r ∷ [])
+pub through_more : (slots : Slots) (step : ℕ) (cs : List ClientCommand) (rs : List Response) (r : Response) → AreThrough slots step cs rs → AreThrough slots step cs (rs ++ r ∷ [])
 through_more slots step [] rs r is = refl
 through_more slots step (c ∷ cs) rs r is =
     go (λ ending next left there. through_more (slots_after ending slots) next cs left r there) (done slots c.target c.deed step rs) (done slots c.target c.deed step (rs ++ r ∷ [])) (repeats_in slots c.target c.deed rs) (repeats_in slots c.target c.deed (rs ++ r ∷ []))
@@ -112,7 +112,7 @@ through_more slots step (c ∷ cs) rs r is =
       go deeper (through ending next left) f m n on there = subst (λ x. (progress_of slots step c cs x).standing ≡ None) (sym on.0) (deeper ending next left there)
 
 -- where the commands before this one are through, and what stands there is of another line, this one is through too
-pub through_next : (slots : Slots) (step : ℕ) (before : List Command) (c : Command) (behind : List Command) (rs : List Response) → AreThrough slots step before rs
+pub through_next : (slots : Slots) (step : ℕ) (before : List ClientCommand) (c : ClientCommand) (behind : List ClientCommand) (rs : List Response) → AreThrough slots step before rs
     → standing_at c.line (progress_from slots step (before ++ c ∷ behind) rs).standing ≡ None → AreThrough slots step (before ++ c ∷ []) rs
 through_next slots step [] c behind rs is at = go (done slots c.target c.deed step rs) at where
   itself : (line : ℕ) (e : Event) → (if nat_eq line line then Some e else None) ≡ None → ⊥

@@ -1,5 +1,5 @@
 -- The batches of writes pass each demux node once.
-use Rattle.client_core.proofs.Imports.{Task, Call, OpenFrom, Play, ◌≡◌, ◌⊎◌, inl, inr, refl, sym, ap, ◌∙◌, ℕ, ◌+◌, ◌<◌, ◌≤◌, Bool, true, false, List, [], ◌∷◌, ◌++◌, Option, Some, None, arith, nat_lt, option_map, slice_index_or, if◌then◌else◌, append_assoc, append-nil, nat_tests, none-some, DEMUX_NODES, KeepTap, AttachTap, DetachTap, Response, Done, Busy, Ready, TapChange, Scripted, Target, Node, Slot, Dvr, Open, Deed, Once, ReadWait, Drain, GetStc, Write, Command, Event, Ending, Made, Bound, AllBusy, Slots, Doing, stands, through, done, ends_wait, ends_drain, commands_of, Standing, Progress, slots_after, progress_from, no_slots, next_event, Exchange, with_reply, exchanges_after, pass_at, passes_on, played_on, played_at, played_in, played_from, WritesPass, first_on, first_at, first_by_slot, first, event_of, telling, after, doing, Next, Still, Through}
+use Rattle.client_core.proofs.Imports.{Task, Call, OpenFrom, Play, ◌≡◌, ◌⊎◌, inl, inr, refl, sym, ap, ◌∙◌, ℕ, ◌+◌, ◌<◌, ◌≤◌, Bool, true, false, List, [], ◌∷◌, ◌++◌, Option, Some, None, arith, nat_lt, option_map, slice_index_or, if◌then◌else◌, append_assoc, append-nil, nat_tests, none-some, DEMUX_NODES, KeepTap, AttachTap, DetachTap, Response, Done, Busy, Ready, TapChange, Scripted, Target, Node, Slot, Dvr, Open, Deed, Once, ReadWait, Drain, GetStc, Write, ClientCommand, Event, Ending, Made, Bound, AllBusy, Slots, Doing, stands, through, done, ends_wait, ends_drain, commands_of, Standing, Progress, slots_after, progress_from, no_slots, next_event, Exchange, with_reply, exchanges_after, pass_at, passes_on, played_on, played_at, played_in, played_from, WritesPass, first_on, first_at, first_by_slot, first, event_of, telling, after, doing, Next, Still, Through}
 use Rattle.std.specs.Prelude.{nat_eq}
 use Rattle.client_core.specs.Events.{progress}
 use Rattle.client_core.specs.Passes.{played_writes}
@@ -154,11 +154,11 @@ abbrev pub event_in : Progress → Option Event
 event_in p = option_map (λ s. s.event) p.standing
 
 -- the passes of the commands behind this one
-abbrev pub passes_behind : (node : ℕ) → Slots → List Command → Doing → List ℕ
+abbrev pub passes_behind : (node : ℕ) → Slots → List ClientCommand → Doing → List ℕ
 passes_behind node slots cs (stands e) = []
 passes_behind node slots cs (through ending next left) = passes_by node (λ m. event_in (progress_from (slots_after ending slots) next cs m)) left
 
-one_command : (node : ℕ) (slots : Slots) (step : ℕ) (c : Command) (cs : List Command) (n : Next) (at : ℕ) (rs : List Response)
+one_command : (node : ℕ) (slots : Slots) (step : ℕ) (c : ClientCommand) (cs : List ClientCommand) (n : Next) (at : ℕ) (rs : List Response)
     → passes_by node (λ m. event_in (progress_of slots step c cs (doing n at m))) rs ≡ passed_by node n at rs ++ passes_behind node slots cs (doing n at rs)
 one_command node slots step c cs (Through ending) at rs = refl
 one_command node slots step c cs (Still t) at [] = refl
@@ -167,7 +167,7 @@ one_command node slots step c cs (Still t) at (r ∷ rs) =
     ∙ sym (append_assoc (pass_at node (event_of t at)) (passed_by node (after t r) (at + 1) rs) (passes_behind node slots cs (doing (after t r) (at + 1) rs)))
 
 -- the passes of a command, and of those behind it
-pub first_and_rest : (node : ℕ) (slots : Slots) (step : ℕ) (c : Command) (cs : List Command) (rs : List Response)
+pub first_and_rest : (node : ℕ) (slots : Slots) (step : ℕ) (c : ClientCommand) (cs : List ClientCommand) (rs : List Response)
     → passes_by node (λ m. event_in (progress_from slots step (c ∷ cs) m)) rs ≡ passed_by node (first slots c.target c.deed) step rs ++ passes_behind node slots cs (done slots c.target c.deed step rs)
 first_and_rest node slots step c cs rs =
     let n : Next = first slots c.target c.deed in
@@ -176,7 +176,7 @@ first_and_rest node slots step c cs rs =
     ∙ one_command node slots step c cs n step rs
     ∙ ap (λ d. passed_by node n step rs ++ passes_behind node slots cs d) (sym (are_done slots c.target c.deed step rs))
 
-all_pass : (node : ℕ) (slots : Slots) (step : ℕ) (cs : List Command) (rs : List Response) → node < 32 → (progress_from slots step cs rs).standing ≡ None
+all_pass : (node : ℕ) (slots : Slots) (step : ℕ) (cs : List ClientCommand) (rs : List Response) → node < 32 → (progress_from slots step cs rs).standing ≡ None
     → passes_by node (λ m. event_in (progress_from slots step cs m)) rs ≡ played_from slots step cs rs
 all_pass node slots step [] rs low none = no_passes node rs
 all_pass node slots step (c ∷ cs) rs low none =

@@ -1,7 +1,7 @@
 -- What a command does by small steps: that it is `done`, what each task goes on with, and that a reply more is one step more.
 use Rattle.client_core.proofs.Imports.{◌≡◌, refl, sym, subst, ℕ, zero, suc, ◌+◌, ◌<◌, ◌≤◌, Bool, true, false, List, [], ◌∷◌, Option, Some, None, arith, nat_lt, if◌then◌else◌, slice_index_or, IfSome, All-head, All-tail, nat_tests, DEMUX_NODES, KeepTap, AttachTap, DetachTap, Response, Done, Busy, Ready, TapChange, IsTargetInRange, Target, Node, Slot, Dvr, Want, Open, Read, Deed, Once, ReadWait, Drain, GetStc, Write, Event, Own, Ending, Made, Bound, AllBusy, Task, Call, OpenFrom, Play, Slots, Doing, stands, through, once, told, called, opened, passed, written, read_until, done_on, done_at, done_by_slot, done, ends_wait, ends_drain, Batches, IsEndingInRange, IsCallEnding, IsTaskInRange, IsTaskOf, AreSlots, CanAsk, IsWantInRange, IsDeedInRange, IsDeedOf, IsRequestInRange, IsRequestOf, IsNextInRange, IsNextCalling, IsNextOf, HasNextClock, Next, Still, Through, first_on, first_at, first_by_slot, first, event_of, telling, after, doing, StepsAreDone}
 use Rattle.client_core.specs.declared.task.Task.TheVariants as task
-use Rattle.client_core.specs.declared.event.Request.TheVariants as ask
+use Rattle.client_core.specs.declared.event.ClientRequest.TheVariants as ask
 
 -- ------ both forms are the same
 

@@ -1,10 +1,10 @@
 -- The events of one client: its calls, one after another, by the replies that it gets (this project's own).
 use Rattle.std.specs.Prelude.{ℕ, false, List, [], ◌∷◌, Option, Some, None, option_map, nat_lt, nat_eq, replicate, slice_set, if◌then◌else◌}
 use Rattle.client_core.specs.Imports.{Again, DEMUX_NODES, Read, Response, Scripted}
-use Rattle.client_core.specs.declared.command.Command.{Command}
+use Rattle.client_core.specs.declared.command.ClientCommand.{ClientCommand}
 use Rattle.client_core.specs.declared.event.Event.{Event}
-use Rattle.client_core.specs.declared.event.Request.{Request}
-use Rattle.client_core.specs.declared.event.Request.TheVariants.{Own}
+use Rattle.client_core.specs.declared.event.ClientRequest.{ClientRequest}
+use Rattle.client_core.specs.declared.event.ClientRequest.TheVariants.{Own}
 use Rattle.client_core.specs.declared.task.Ending.{Ending}
 use Rattle.client_core.specs.declared.task.Ending.TheVariants.{Bound}
 use Rattle.client_core.specs.Commands.{commands_of, stands, through, Slots, done}
@@ -38,7 +38,7 @@ with_ended command p = record { ended = command ∷ p.ended; standing = p.standi
 
 -- These commands are done one after another from this step on. Each uses up its own of the
 -- replies and leaves the rest to the next.
-abbrev pub progress_from : Slots → (step : ℕ) → List Command → List Response → Progress
+abbrev pub progress_from : Slots → (step : ℕ) → List ClientCommand → List Response → Progress
 progress_from slots step [] replies = record { ended = []; standing = None }
 progress_from slots step (c ∷ cs) replies = elim (done slots c.target c.deed step replies) [
   | stands event ↦ record { ended = []; standing = Some (record { line = c.line; from = step; event = event }) }
@@ -60,7 +60,7 @@ abbrev pub next_event : (client : ℕ) → Scripted → List Response → Option
 next_event client script replies = option_map (λ s. s.event) (progress client script replies).standing
 
 -- the node on which a call reads, if it does
-abbrev pub reading : Request → (node : ℕ) → Option ℕ
+abbrev pub reading : ClientRequest → (node : ℕ) → Option ℕ
 reading (Own (Read count)) node = Some node
 reading _ node = None
 

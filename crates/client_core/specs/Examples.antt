@@ -1,7 +1,7 @@
 -- Worked examples: what clients ask for by replies that were worked out by hand.
 use Rattle.std.specs.Prelude.{◌≡◌, ℕ, ◌+◌, List, [], ◌∷◌, ◌++◌, map, replicate, take, drop, Option, Some, None, true, false}
 use Rattle.client_core.specs.Imports.{Again, Attach as AttachTap, Busy, Close, Command, Data, Detach as DetachTap, Done, Drain, Dvr, Ebadf, Feed, Frontend, GetStc, Keep as KeepTap, Line, Node, Once, Open, Outcome, Overflow, Passed, Pes, PesParams, Poll, Quiet, Read, ReadWait, Ready, Refused, Response, Scripted, Size, Slot, Start, Stop, TimedOut, TsTap, TsdemuxTap, Write, flat_map, plain, range_with_len}
-use Rattle.client_core.specs.declared.event.Request.TheVariants.{Own, Attach as AskAttach, Detach as AskDetach, Pass as AskPass}
+use Rattle.client_core.specs.declared.event.ClientRequest.TheVariants.{Own, Attach as AskAttach, Detach as AskDetach, Pass as AskPass}
 use Rattle.dmx_calls.specs.declared.outcome.OutcomeKind.TheVariants.{Done as WasDone, Emfile, Unbound, Stc, NoStc}
 use Rattle.client_core.specs.Events.{next_event, waits_on}
 use Rattle.client_core.specs.Outcomes.{outcomes}

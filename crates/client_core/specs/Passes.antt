@@ -3,10 +3,10 @@ use Rattle.std.specs.Prelude.{ℕ, ◌≡◌, ◌<◌, true, List, [], ◌∷◌
 use Rattle.client_core.specs.Imports.{DEMUX_NODES, Ready, Response, Scripted, Slot, Target}
 use Rattle.client_core.specs.declared.deed.Deed.{Deed}
 use Rattle.client_core.specs.declared.deed.Deed.TheVariants.{Write}
-use Rattle.client_core.specs.declared.command.Command.{Command}
+use Rattle.client_core.specs.declared.command.ClientCommand.{ClientCommand}
 use Rattle.client_core.specs.declared.event.Event.{Event}
-use Rattle.client_core.specs.declared.event.Request.{Request}
-use Rattle.client_core.specs.declared.event.Request.TheVariants.{Pass}
+use Rattle.client_core.specs.declared.event.ClientRequest.{ClientRequest}
+use Rattle.client_core.specs.declared.event.ClientRequest.TheVariants.{Pass}
 use Rattle.client_core.specs.Commands.{Slots, stands, through, done, commands_of}
 use Rattle.client_core.specs.Events.{slots_after, no_slots, next_event}
 use Rattle.client_core.specs.Stc.{Exchange, exchanges}
@@ -14,7 +14,7 @@ use Rattle.client_core.specs.Stc.{Exchange, exchanges}
 -- ------ the passes of a client
 
 -- the write whose batch passes, if a pass is asked for
-abbrev pub pass_in : Request → List ℕ
+abbrev pub pass_in : ClientRequest → List ℕ
 pass_in (Pass write) = write ∷ []
 pass_in _ = []
 
@@ -44,7 +44,7 @@ played_in slots (Slot slot) deed replies = played_at (slice_index_or slots slot 
 played_in slots _ deed replies = played_on deed replies
 
 -- the writes of these commands that are played, in the order of their lines
-abbrev pub played_from : Slots → (step : ℕ) → List Command → List Response → List ℕ
+abbrev pub played_from : Slots → (step : ℕ) → List ClientCommand → List Response → List ℕ
 played_from slots step [] replies = []
 played_from slots step (c ∷ cs) replies =
     played_in slots c.target c.deed replies ++ (elim (done slots c.target c.deed step replies) [

@@ -3,8 +3,8 @@
 use Rattle.std.specs.Prelude.{ℕ, ◌+◌, ◌*◌, ◌==◌, Bool, true, false, ◌&&◌, List, [], ◌∷◌, ◌++◌, Option, Some, None, nat_le, nat_eq, if◌then◌else◌}
 use Rattle.client_core.specs.Imports.{Close, Data, Done, Open, Output, Overflow, Pes, Response, Scripted, Section, Size, Start, TsdemuxTap, Want}
 use Rattle.client_core.specs.declared.event.Event.{Event}
-use Rattle.client_core.specs.declared.event.Request.{Request}
-use Rattle.client_core.specs.declared.event.Request.TheVariants.{Own}
+use Rattle.client_core.specs.declared.event.ClientRequest.{ClientRequest}
+use Rattle.client_core.specs.declared.event.ClientRequest.TheVariants.{Own}
 use Rattle.client_core.specs.Events.{next_event}
 use Rattle.client_core.specs.Clock.{clock_of}
 
@@ -42,12 +42,12 @@ begins_anew Start = true
 begins_anew (Size size) = true
 begins_anew _ = false
 
-abbrev pub begins : Request → Bool
+abbrev pub begins : ClientRequest → Bool
 begins (Own want) = begins_anew want
 begins _ = false
 
 -- the bytes after a reply to this request
-abbrev pub bytes_after : Request → Response → List ℕ → List ℕ
+abbrev pub bytes_after : ClientRequest → Response → List ℕ → List ℕ
 bytes_after want (Data bytes) read = read ++ bytes
 bytes_after want (Overflow from to item need room) read = []
 bytes_after want (Done from to tap) read = if begins want then [] else read
@@ -73,12 +73,12 @@ set_by_call (Section params) set = None
 set_by_call (Pes params) set = type_of params.output params.pes_type
 set_by_call _ set = set
 
-abbrev pub set_by : Request → Option ℕ → Option ℕ
+abbrev pub set_by : ClientRequest → Option ℕ → Option ℕ
 set_by (Own want) set = set_by_call want set
 set_by _ set = set
 
 -- what is set after a reply to this request
-abbrev pub type_after : Request → Response → Option ℕ → Option ℕ
+abbrev pub type_after : ClientRequest → Response → Option ℕ → Option ℕ
 type_after want (Done from to tap) set = set_by want set
 type_after want _ set = set
 

@@ -5,7 +5,7 @@ use Rattle.client_core.specs.Imports.{Attach as AttachTap, Busy, DEMUX_NODES, De
 use Rattle.client_core.specs.declared.deed.Deed.{Deed}
 use Rattle.client_core.specs.declared.deed.Deed.TheVariants as deed
 use Rattle.client_core.specs.declared.event.Event.{Event}
-use Rattle.client_core.specs.declared.event.Request.TheVariants as ask
+use Rattle.client_core.specs.declared.event.ClientRequest.TheVariants as ask
 use Rattle.client_core.specs.declared.task.Ending.{Ending}
 use Rattle.client_core.specs.declared.task.Ending.TheVariants.{Made, Bound, AllBusy, NoNode, Asked}
 use Rattle.client_core.specs.declared.task.Task.{Task}

@@ -2,11 +2,11 @@
 
 ghost use Rattle.std.specs.Prelude.{◌≡◌, ◌⊎◌, ℕ, Some, IfOk, IsErr};
 ghost use Rattle.client_core.specs.Imports.{Read as AskRead, invocation_of};
-ghost use Rattle.client_core.specs.declared.event.Request.TheVariants.{Own, Pass};
+ghost use Rattle.client_core.specs.declared.event.ClientRequest.TheVariants.{Own, Pass};
 ghost use Rattle.client_core.specs.Commands.{call_of as call_at, pass_of as pass_at, own_call, IsRequestInRange, IsRequestOf, IsFresh};
 
 use crate::client::ClientCore;
-use crate::event::Request;
+use crate::event::ClientRequest;
 use client_script::Want;
 use dmx_calls::{ByteBuf, Call, Input};
 use std::alloc::{AllocError as NoMemory, Global};
@@ -57,7 +57,7 @@ fn pass_of(batch: &Arc<Batch>, now: u64) -> Result<Call, NoMemory>
 pub fn call_of(
     alloc: Global,
     core: &ClientCore,
-    request: &Request,
+    request: &ClientRequest,
     now: u64,
 ) -> Result<Call, NoMemory>
     requires range { IsRequestInRange request.now }
@@ -67,12 +67,12 @@ pub fn call_of(
     ensures memory { IsErr result → ((count : ℕ) × (request.now ≡ Own (AskRead count))) ⊎ ((write : ℕ) × (request.now ≡ Pass write)) }
 {
     match request {
-        Request::Own(want) => call_of_want(alloc, *want, now),
-        Request::Attach { node, pids } => Ok(Call::Attach {
+        ClientRequest::Own(want) => call_of_want(alloc, *want, now),
+        ClientRequest::Attach { node, pids } => Ok(Call::Attach {
             node: *node,
             pids: pids.copied(),
         }),
-        Request::Detach { node } => Ok(Call::Detach { node: *node }),
-        Request::Pass { write } => pass_of(core.batch(*write).unwrap(), now),
+        ClientRequest::Detach { node } => Ok(Call::Detach { node: *node }),
+        ClientRequest::Pass { write } => pass_of(core.batch(*write).unwrap(), now),
     }
 }

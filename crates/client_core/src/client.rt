@@ -13,7 +13,7 @@ ghost use Rattle.client_core.specs.Inside.Tasks.{IsTaskInRange};
 ghost use Rattle.client_core.specs.Inside.Core.{coming, one_if_some, IsCommandInRange, IsCommandOf, IsMade, CanBegin, IsSound, IsAfter, HasTaken, next_of, waits_with};
 
 use crate::clocks::Clocks;
-use crate::command::{Command, Commands};
+use crate::command::{ClientCommand, Commands};
 use crate::current::{Current, add, begin, bind, kind_of};
 use crate::deed::{Deed, deed_of};
 use crate::dvr_play::Plays;
@@ -68,7 +68,7 @@ fn commands(
     lines: &[Line],
     client: u32,
     plays: &Plays,
-) -> Result<Vec<Command>, NoMemory>
+) -> Result<Vec<ClientCommand>, NoMemory>
     requires ranges { All IsInRange lines.now }
     requires made { All (IsMade client (length plays.now.batches)) lines.now }
     ensures value { IfOk result (λ commands. commands.items ≡ commands_among client plays.now.batches lines.now) }
@@ -86,7 +86,7 @@ fn commands(
         {
             if who == client {
                 let deed = deed_of(plays, verb);
-                commands.push(Command { line, target, deed })?;
+                commands.push(ClientCommand { line, target, deed })?;
             }
         }
     }
@@ -94,7 +94,7 @@ fn commands(
 }
 
 // Whether a command asks for a counter.
-fn asks(command: &Command) -> bool
+fn asks(command: &ClientCommand) -> bool
     ensures none { result ≡ false → CanBegin 0 command.now }
     ensures some { result ≡ true → CanBegin 0 command.now → ⊥ }
 {
@@ -102,7 +102,7 @@ fn asks(command: &Command) -> bool
 }
 
 // Whether one of these commands asks for a counter.
-fn one_asks(commands: &[Command]) -> bool
+fn one_asks(commands: &[ClientCommand]) -> bool
     ensures none { result ≡ false → All (CanBegin 0) commands.now }
     ensures some { result ≡ true → All (CanBegin 0) commands.now → ⊥ }
 {

@@ -5,7 +5,7 @@ ghost use Rattle.client_core.specs.Clock.{HasFollowed};
 ghost use Rattle.client_core.specs.Stc.{Exchange, begins_anew as begins_by, type_of as type_by, set_by_call, bytes_after, type_after, with_reply, is_counter as is_counter_by};
 ghost use Rattle.client_core.specs.Inside.Clocks.{uncalled, counter_of, counter_in, HaveFollowed, AreFew};
 
-use crate::event::{Event, Request};
+use crate::event::{ClientRequest, Event};
 use crate::stc_clock::StcClock;
 use client_script::Want;
 use dmx_calls::limits::DEMUX_NODES;
@@ -98,7 +98,7 @@ impl NodeClock {
     }
 
     // A call on the node, and its reply.
-    fn follow(&mut self, request: &Request, reply: &LogReply)
+    fn follow(&mut self, request: &ClientRequest, reply: &LogReply)
         requires few { bytes_counted self.old.clock.cutting < 2 ^ 62 }
         ensures followed { (bytes : List ℕ) → HasFollowed bytes self.old.clock → HasFollowed (bytes_after request.now (response_of reply.now) bytes) self.new.clock }
         ensures set { self.new.filter_type ≡ type_after request.now (response_of reply.now) self.old.filter_type }
@@ -108,7 +108,7 @@ impl NodeClock {
             Reply::Data(buf) => self.read(buf),
             Reply::Overflow { .. } => self.clock.clear(),
             Reply::Done { .. } => {
-                if let Request::Own(want) = request {
+                if let ClientRequest::Own(want) = request {
                     self.accept(want);
                 }
             }

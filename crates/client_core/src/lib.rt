@@ -37,7 +37,7 @@ mod task;
 
 pub use call::{call_of, call_of_want};
 pub use client::ClientCore;
-pub use event::{Event, Request};
+pub use event::{ClientRequest, Event};
 pub use laws::{
     calls_are_few, one_reply_repeats_once, small_steps_are_the_whole, writes_pass_their_batches,
 };

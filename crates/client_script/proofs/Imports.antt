@@ -26,7 +26,7 @@ pub use Rattle.client_script.specs.declared.said.Said.{Said}
 pub use Rattle.client_script.specs.declared.said.Said.TheVariants.{Asks, Writes}
 pub use Rattle.client_script.specs.declared.wanted.NumberName.{NumberName}
 pub use Rattle.client_script.specs.declared.wanted.NumberName.TheVariants.{Flags, N, PesType, Pid, Timeout}
-pub use Rattle.client_script.specs.declared.wanted.Wanted.TheVariants.{Byte}
+pub use Rattle.client_script.specs.declared.wanted.WantedWord.TheVariants.{Byte}
 pub use Rattle.dmx_abi.specs.declared.numbers.TheConstants.{GET_STC}
 pub use Rattle.filter_match.specs.Places.{place_at, with_place}
 pub use Rattle.std.proofs.Common.{Bool, List, [], add-one, ap, append-nil, append_assoc, arith, codes, cond, drop, false, fold, get_or, inl, inr, length, length-append, map, nat_eq, refl, rules, subst, suc, sym, take, take-add, true, zero, ℕ, ◌%◌, ◌*◌, ◌++◌, ◌+◌, ◌-◌, ◌/◌, ◌<◌, ◌^◌, ◌∙◌, ◌∷◌, ◌≡◌, ◌≢◌, ◌≤◌, ◌⊎◌}

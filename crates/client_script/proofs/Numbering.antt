@@ -1,7 +1,7 @@
 -- The lines of a client name its writes in their order, each once.
 use Rattle.client_script.proofs.Imports.{◌≡◌, ◌≢◌, ◌<◌, ◌≤◌, ◌+◌, ◌⊎◌, inl, inr, refl, sym, ap, subst, ◌∙◌, ℕ, Bool, true, false, nat_eq, List, [], ◌∷◌, ◌++◌, length, codes, arith, length-append, append-nil, cases_eq, cases_lt, eq-eqb, nat_tests, flat_map-append, map-id, length-set, get_or-set_same, get_or-set_other, get_or_past, get_or-replicate, map-range_with_len_more, Option, Some, None, Result, Ok, Err, if◌then◌else◌, slice_set, range_with_len, option_map, LARGEST_READ, Request, is_word, client_named, Reading, and_then, mapped, or_fault, next_as, word_in, words_of, want_of, verb_of, request_number_in, request_in, written_named, number_in, pid_in, count_in, target_of, name_of, section_in, pes_in, dvr_named, alone, is_passed_over, some_said, IsPlainVerb, IsPlain, AreNumbered, Parsed, Scripted, plain, no_writes, with_said, with_write, writes_of, named_in, named_among, whole_lines, is_stream, Client, NoCommand, NoTarget, Name, Bytes, ScriptFault, CommandName, OpenName, CloseName, SectionName, PesName, AddName, RemoveName, StartName, StopName, SizeName, ReadName, ReadWaitName, DrainName, PollName, IoctlName, Said, Asks, Writes, Verb, Once, ReadWait, Drain, GetStc, Write, Want, Add, Remove, Size, Read, Target, Dvr, Line, Feed, Tick, Command, in_line, whole_in, N, ◌==◌}
 use Rattle.dmx_abi.specs.declared.request.Request.TheVariants as request
-use Rattle.client_script.specs.declared.wanted.Wanted.TheVariants as wanted
+use Rattle.client_script.specs.declared.wanted.WantedWord.TheVariants as wanted
 use Rattle.client_script.specs.Requests.{ioctl_in}
 use Rattle.client_script.specs.Grammar.{verb_in, command_in, write_in, asked_in, line_in, line_of, meaning}
 use Rattle.client_script.specs.Script.{lines_from, grammar}

@@ -3,7 +3,7 @@ use Rattle.client_script.proofs.Imports.{◌≡◌, ◌≤◌, ◌+◌, refl, ap
 use Rattle.client_script.specs.Words.{word_in}
 use Rattle.client_script.specs.Grammar.{write_in, asked_in, line_in, line_of, meaning}
 use Rattle.client_script.specs.Script.{lines_from, grammar}
-use Rattle.client_script.specs.declared.wanted.Wanted.TheVariants as wanted
+use Rattle.client_script.specs.declared.wanted.WantedWord.TheVariants as wanted
 use Rattle.client_script.proofs.Numbering.{Gives, if_gives, under_a_name, whole_gives}
 use Rattle.client_script.proofs.Writing.{named_short}
 

@@ -11,7 +11,7 @@ use Rattle.client_script.specs.declared.fault.FaultKind.{FaultKind}
 use Rattle.client_script.specs.declared.fault.ScriptFault.{ScriptFault}
 use Rattle.client_script.specs.declared.fault.FaultKind.TheVariants.{Client, Command as NoCommand, Target as NoTarget, Number, Name, Bytes, Count, NoStream}
 use Rattle.client_script.specs.declared.wanted.NumberName.TheVariants.{Pid, N}
-use Rattle.client_script.specs.declared.wanted.Wanted.TheVariants as wanted
+use Rattle.client_script.specs.declared.wanted.WantedWord.TheVariants as wanted
 use Rattle.client_script.specs.declared.line.Line.{Line}
 use Rattle.client_script.specs.declared.line.Line.TheVariants.{Feed, Tick, Command}
 use Rattle.client_script.specs.declared.line.Target.TheVariants.{Node, Slot, Dvr}

@@ -10,7 +10,7 @@ use Rattle.client_script.specs.declared.fault.ScriptFault.{ScriptFault}
 use Rattle.client_script.specs.declared.wanted.WordFault.{WordFault}
 use Rattle.client_script.specs.declared.wanted.NumberName.{NumberName}
 use Rattle.client_script.specs.declared.wanted.NumberName.TheVariants.{Pid, Timeout, Flags, PesType, N}
-use Rattle.client_script.specs.declared.wanted.Wanted.TheVariants as wanted
+use Rattle.client_script.specs.declared.wanted.WantedWord.TheVariants as wanted
 use Rattle.client_script.specs.declared.names.CommandName.{CommandName}
 use Rattle.client_script.specs.declared.names.CommandName.TheVariants.{Open as OpenName, Close as CloseName, Section as SectionName, Pes as PesName, Add as AddName, Remove as RemoveName, Start as StartName, Stop as StopName, Size as SizeName, Read as ReadName, ReadWait as ReadWaitName, Drain as DrainName, Poll as PollName, Ioctl as IoctlName}
 use Rattle.client_script.specs.Writes.{written_named, IsWritten}

@@ -3,7 +3,7 @@ use Rattle.std.specs.Prelude.{ℕ, zero, suc, ◌+◌, List, [], ◌∷◌, Ok}
 use Rattle.client_script.specs.Imports.{Place, SectionFilter, filter_with, place_named}
 use Rattle.client_script.specs.Words.{Reading, and_then, mapped, or_fault}
 use Rattle.client_script.specs.declared.fault.FaultKind.TheVariants.{Bytes}
-use Rattle.client_script.specs.declared.wanted.Wanted.TheVariants.{Byte}
+use Rattle.client_script.specs.declared.wanted.WantedWord.TheVariants.{Byte}
 
 -- The places that the words at the front spell, of at most `left` words. Each has a greater number than the one
 -- before, and the first has `least` or more.

@@ -6,7 +6,7 @@ use Rattle.client_script.specs.Imports.{Decoder, Dvr, Frontend, Input, Output, R
 use Rattle.dmx_abi.specs.declared.request.Request.TheVariants as request
 use Rattle.client_script.specs.Words.{Reading, and_then, or_fault, next_as}
 use Rattle.client_script.specs.declared.fault.FaultKind.TheVariants.{Number, Name, Bytes}
-use Rattle.client_script.specs.declared.wanted.Wanted.TheVariants.{Request as RequestNumber, Argument}
+use Rattle.client_script.specs.declared.wanted.WantedWord.TheVariants.{Request as RequestNumber, Argument}
 use Rattle.client_script.specs.declared.line.Verb.{Verb}
 use Rattle.client_script.specs.declared.line.Verb.TheVariants.{Once, GetStc}
 use Rattle.client_script.specs.declared.line.Want.{Want}

@@ -3,7 +3,7 @@ use Rattle.std.specs.Prelude.{◌≡◌, ℕ, ◌==◌, List, [], ◌∷◌, Opt
 use Rattle.client_script.specs.Imports.{slice_split}
 use Rattle.client_script.specs.declared.fault.FaultKind.{FaultKind}
 use Rattle.client_script.specs.declared.fault.FaultKind.TheVariants.{Count}
-use Rattle.client_script.specs.declared.wanted.Wanted.{Wanted}
+use Rattle.client_script.specs.declared.wanted.WantedWord.{WantedWord}
 use Rattle.client_script.specs.declared.wanted.WordFault.{WordFault}
 
 -- the words of a line: it is split at each single space, byte 32
@@ -25,18 +25,18 @@ abbrev pub mapped : {A B : Type 0} → (A → B) → Reading A → Reading B
 mapped name reading = and_then reading (λ value words. Ok (name value, words))
 
 -- the value that a word spells; where it spells none, the fault is of this kind, in a place that asks for this
-abbrev pub or_fault : {A : Type 0} → FaultKind → Wanted → Option A → (behind : List (List ℕ)) → Reading A
+abbrev pub or_fault : {A : Type 0} → FaultKind → WantedWord → Option A → (behind : List (List ℕ)) → Reading A
 or_fault kind wanted (Some value) behind = Ok (value, behind)
 or_fault kind wanted None behind = Err (record { kind = kind; wanted = wanted }, behind)
 
 -- the word in the next place, which asks for this; a missing word is a fault of the count
-unfoldable pub word_in : Wanted → List (List ℕ) → Reading (List ℕ)
+unfoldable pub word_in : WantedWord → List (List ℕ) → Reading (List ℕ)
 word_in wanted [] = Err (record { kind = Count; wanted = wanted }, [])
 word_in wanted (word ∷ words) = Ok (word, words)
 
 -- What the word in the next place spells, as that place asks; where it spells nothing of the sort, the fault is of this
 -- kind. So a number from 1 to 9 is read from `7 x` as 7, with the word `x` behind it (specs/Examples.antt, `OneWord`).
-abbrev pub next_as : {A : Type 0} → FaultKind → Wanted → (spelled : List ℕ → Option A) → List (List ℕ) → Reading A
+abbrev pub next_as : {A : Type 0} → FaultKind → WantedWord → (spelled : List ℕ → Option A) → List (List ℕ) → Reading A
 next_as kind wanted spelled words = and_then (word_in wanted words) (λ word words. or_fault kind wanted (spelled word) words)
 
 -- a reader has answered as the definition says, and has left the words behind what it read

@@ -2,7 +2,7 @@
 ghost use Rattle.std.specs.Prelude.{◌≡◌};
 ghost use Rattle.client_script.specs.declared.fault.ScriptError.TheVariants.{NoMemory as WantOfMemory};
 
-use crate::wanted::Wanted;
+use crate::wanted::WantedWord;
 use std::alloc::{AllocError, AllocFailed};
 use thiserror::Error;
 
@@ -42,7 +42,7 @@ pub struct FaultyWord {
     /// Its number in the line, from 1 on; where a word is missing, the number that it would have.
     pub number: usize,
     /// What its place asks for.
-    pub wanted: Wanted,
+    pub wanted: WantedWord,
 }
 
 /// A script's first fault, the number of its line, and the word.

@@ -71,4 +71,4 @@ pub use part::ScriptPart;
 pub use requests::{Argument, argument_named, request_number, want_of};
 pub use script::{MOST_BYTES, Script};
 pub use spelling::print;
-pub use wanted::{NumberName, Wanted};
+pub use wanted::{NumberName, WantedWord};

@@ -5,7 +5,7 @@ ghost use Rattle.client_script.specs.Places.{filter_in};
 ghost use Rattle.client_script.specs.Words.{Reads};
 
 use crate::fault::FaultKind;
-use crate::wanted::{Wanted, WordFault};
+use crate::wanted::{WantedWord, WordFault};
 use crate::words::Words;
 use filter_match::SectionFilter;
 use text_forms::place_named;
@@ -26,7 +26,7 @@ pub fn read_filter(words: &mut Words<'_>) -> Result<SectionFilter, WordFault>
             return Ok(filter);
         };
         let Some(place) = place_named(least, word) else {
-            return Err(Wanted::Byte(least).fault(FaultKind::Bytes));
+            return Err(WantedWord::Byte(least).fault(FaultKind::Bytes));
         };
         filter.set(place);
         least = place.number + 1;

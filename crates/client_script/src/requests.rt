@@ -7,7 +7,7 @@ ghost use Rattle.client_script.specs.Requests.{input_of as input_by, output_of a
 
 use crate::fault::FaultKind;
 use crate::line::{Verb, Want};
-use crate::wanted::{Wanted, WordFault};
+use crate::wanted::{WantedWord, WordFault};
 use crate::words::Words;
 use arrayvec::ArrayVec;
 use byteorder::{BigEndian, ByteOrder};
@@ -163,7 +163,7 @@ pub fn argument_named(word: &[u8]) -> Option<Argument>
 fn read_number(words: &mut Words<'_>) -> Result<u32, WordFault>
     ensures { Reads result words.new (request_number_in words.old) }
 {
-    let wanted = Wanted::Request;
+    let wanted = WantedWord::Request;
     let word = words.word(wanted)?;
     let number = request_number(word).ok_or(wanted.fault(FaultKind::Number))?;
     if argument_len(number).is_none() {
@@ -177,7 +177,7 @@ fn read_number(words: &mut Words<'_>) -> Result<u32, WordFault>
 fn read_request(number: u32, words: &mut Words<'_>) -> Result<Request, WordFault>
     ensures { Reads result words.new (request_in number words.old) }
 {
-    let wanted = Wanted::Argument(number);
+    let wanted = WantedWord::Argument(number);
     let word = words.word(wanted)?;
     let argument = argument_named(word).ok_or(wanted.fault(FaultKind::Bytes))?;
     decode(number, &argument)
@@ -193,5 +193,5 @@ pub fn read_ioctl(words: &mut Words<'_>) -> Result<Verb, WordFault>
 {
     let number = read_number(words)?;
     let request = read_request(number, words)?;
-    verb_of(request).ok_or(Wanted::Argument(number).fault(FaultKind::Name))
+    verb_of(request).ok_or(WantedWord::Argument(number).fault(FaultKind::Name))
 }

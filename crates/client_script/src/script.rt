@@ -11,7 +11,7 @@ use crate::line::{Line, Target, Verb};
 use crate::pieces::cut_at;
 use crate::said::Said;
 use crate::verbs::read_words;
-use crate::wanted::{Wanted, WordFault};
+use crate::wanted::{WantedWord, WordFault};
 use crate::words::Words;
 use crate::writes::ClientWrites;
 use std::alloc::Global;
@@ -58,7 +58,7 @@ fn read_whole<'a>(number: u32, words: &mut Words<'a>) -> Result<Said<'a>, WordFa
     if words.count() == 0 {
         Ok(said)
     } else {
-        Err(Wanted::End.fault(FaultKind::Count))
+        Err(WantedWord::End.fault(FaultKind::Count))
     }
 }
 

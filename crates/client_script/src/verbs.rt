@@ -5,7 +5,7 @@ ghost use Rattle.client_script.specs.Words.{Reads, next_as};
 ghost use Rattle.client_script.specs.Grammar.{number_in, pid_in, count_in, target_of, name_of, section_in, pes_in, verb_in, command_in, dvr_named, write_in, asked_in, line_in, IsWantInRange, IsVerbInRange, IsTargetInRange, IsInRange, IsSaidInRange};
 ghost use Rattle.client_script.specs.declared.fault.FaultKind.TheVariants.{Name as NoName, Target as NoTarget, Command as NoCommand};
 ghost use Rattle.client_script.specs.declared.wanted.NumberName.TheVariants.{N as CountName};
-ghost use Rattle.client_script.specs.declared.wanted.Wanted.TheVariants.{Input as InputWanted, Output as OutputWanted, Target as TargetWanted, Dvr as DvrWanted};
+ghost use Rattle.client_script.specs.declared.wanted.WantedWord.TheVariants.{Input as InputWanted, Output as OutputWanted, Target as TargetWanted, Dvr as DvrWanted};
 
 use crate::fault::FaultKind;
 use crate::line::{Line, Target, Verb, Want};
@@ -13,7 +13,7 @@ use crate::names::{CommandName, command_named, target_named};
 use crate::places::read_filter;
 use crate::requests::read_ioctl;
 use crate::said::{Said, written_named};
-use crate::wanted::{NumberName, Wanted, WordFault};
+use crate::wanted::{NumberName, WantedWord, WordFault};
 use crate::words::Words;
 use dmx_calls::limits::LARGEST_READ;
 use dmx_calls::{Input, Output, PesParams, SectionParams};
@@ -30,7 +30,7 @@ fn read_number(
     ensures value { Reads result words.new (number_in name least most words.old) }
     ensures bound { IfOk result (λ n. (least ≤ n) × (n ≤ most)) }
 {
-    let wanted = Wanted::Number { name, least, most };
+    let wanted = WantedWord::Number { name, least, most };
     let word = words.word(wanted)?;
     let n = number_between(least as u64, most as u64, word).ok_or(wanted.fault(FaultKind::Number))?;
     Ok(n as u32)
@@ -65,16 +65,16 @@ fn read_length(words: &mut Words<'_>) -> Result<u32, WordFault>
 fn read_input(words: &mut Words<'_>) -> Result<Input, WordFault>
     ensures { Reads result words.new (next_as NoName InputWanted input_of_word words.old) }
 {
-    let word = words.word(Wanted::Input)?;
-    input_named(word).ok_or(Wanted::Input.fault(FaultKind::Name))
+    let word = words.word(WantedWord::Input)?;
+    input_named(word).ok_or(WantedWord::Input.fault(FaultKind::Name))
 }
 
 // Where a filter's items go.
 fn read_output(words: &mut Words<'_>) -> Result<Output, WordFault>
     ensures { Reads result words.new (next_as NoName OutputWanted output_of_word words.old) }
 {
-    let word = words.word(Wanted::Output)?;
-    output_named(word).ok_or(Wanted::Output.fault(FaultKind::Name))
+    let word = words.word(WantedWord::Output)?;
+    output_named(word).ok_or(WantedWord::Output.fault(FaultKind::Name))
 }
 
 // The target of a command.
@@ -82,8 +82,8 @@ fn read_target(words: &mut Words<'_>) -> Result<Target, WordFault>
     ensures value { Reads result words.new (next_as NoTarget TargetWanted target_of words.old) }
     ensures range { IfOk result IsTargetInRange }
 {
-    let word = words.word(Wanted::Target)?;
-    target_named(word).ok_or(Wanted::Target.fault(FaultKind::Target))
+    let word = words.word(WantedWord::Target)?;
+    target_named(word).ok_or(WantedWord::Target.fault(FaultKind::Target))
 }
 
 // The call that sets a section filter.
@@ -153,11 +153,11 @@ fn read_verb(name: CommandName, words: &mut Words<'_>) -> Result<Verb, WordFault
 fn read_dvr(words: &mut Words<'_>) -> Result<Target, WordFault>
     ensures { Reads result words.new (next_as NoTarget DvrWanted dvr_named words.old) }
 {
-    let word = words.word(Wanted::Dvr)?;
+    let word = words.word(WantedWord::Dvr)?;
     if is_word(word, "dvr") {
         Ok(Target::Dvr)
     } else {
-        Err(Wanted::Dvr.fault(FaultKind::Target))
+        Err(WantedWord::Dvr.fault(FaultKind::Target))
     }
 }
 
@@ -170,8 +170,8 @@ fn read_write<'a>(line: u32, client: u32, words: &mut Words<'a>) -> Result<Said<
     ensures range { IfOk result IsSaidInRange }
 {
     read_dvr(words)?;
-    let word = words.word(Wanted::Written)?;
-    let bytes = written_named(word).ok_or(Wanted::Written.fault(FaultKind::Bytes))?;
+    let word = words.word(WantedWord::Written)?;
+    let bytes = written_named(word).ok_or(WantedWord::Written.fault(FaultKind::Bytes))?;
     Ok(Said::Writes {
         line,
         client,
@@ -192,7 +192,7 @@ fn read_command(
     ensures value { Reads result words.new (command_in line client name words.old) }
     ensures range { IfOk result IsInRange }
 {
-    let name = name.ok_or(Wanted::Command.fault(FaultKind::Command))?;
+    let name = name.ok_or(WantedWord::Command.fault(FaultKind::Command))?;
     let target = read_target(words)?;
     let verb = read_verb(name, words)?;
     Ok(Line::Command {
@@ -211,7 +211,7 @@ fn read_asked<'a>(line: u32, client: u32, words: &mut Words<'a>) -> Result<Said<
     ensures value { Reads result words.new (asked_in line client words.old) }
     ensures range { IfOk result IsSaidInRange }
 {
-    let word = words.word(Wanted::Command)?;
+    let word = words.word(WantedWord::Command)?;
     if is_word(word, "write") {
         return read_write(line, client, words);
     }
@@ -226,13 +226,13 @@ pub fn read_words<'a>(line: u32, words: &mut Words<'a>) -> Result<Said<'a>, Word
     ensures value { Reads result words.new (line_in line words.old) }
     ensures range { IfOk result IsSaidInRange }
 {
-    let first = words.word(Wanted::First)?;
+    let first = words.word(WantedWord::First)?;
     if is_word(first, "feed") {
         return Ok(Said::Asks(Line::Feed(read_number(NumberName::N, 1, u32::MAX, words)?)));
     }
     if is_word(first, "tick") {
         return Ok(Said::Asks(Line::Tick(read_count(NumberName::N, words)?)));
     }
-    let client = client_named(first).ok_or(Wanted::First.fault(FaultKind::Client))?;
+    let client = client_named(first).ok_or(WantedWord::First.fault(FaultKind::Client))?;
     read_asked(line, client, words)
 }

@@ -21,7 +21,7 @@ pub enum NumberName {
 
 /// What a place of a line asks for.
 #[derive(Clone, Copy, Debug, PartialEq, Eq, Drop)]
-pub enum Wanted {
+pub enum WantedWord {
     /// `feed`, `tick` or a client.
     First,
     /// The name of a command.
@@ -59,10 +59,10 @@ pub enum Wanted {
 #[derive(Clone, Copy, Debug, PartialEq, Eq, Drop)]
 pub struct WordFault {
     pub kind: FaultKind,
-    pub wanted: Wanted,
+    pub wanted: WantedWord,
 }
 
-impl Wanted {
+impl WantedWord {
     /// A fault of this kind in such a place.
     pub fn fault(self, kind: FaultKind) -> WordFault
         ensures { result ≡ record { kind = kind; wanted = self } }

@@ -4,7 +4,7 @@ ghost use Rattle.client_script.specs.Words.{words_of, word_in};
 
 use crate::fault::FaultKind;
 use crate::pieces::cut_at;
-use crate::wanted::{Wanted, WordFault};
+use crate::wanted::{WantedWord, WordFault};
 use std::marker::Model;
 
 // How many spaces there are.
@@ -51,7 +51,7 @@ impl<'a> Words<'a> {
 
     /// The word in the next place, which asks for this.
     #[tactic(auto, unfolding(crate::specs::Words::word_in))]
-    pub fn word(&mut self, wanted: Wanted) -> Result<&'a [u8], WordFault>
+    pub fn word(&mut self, wanted: WantedWord) -> Result<&'a [u8], WordFault>
         ensures { MatchResult result (λ word. word_in wanted self.old ≡ Ok (word.now, self.new)) (λ fault. word_in wanted self.old ≡ Err (fault, self.new)) }
     {
         self.next().ok_or(wanted.fault(FaultKind::Count))

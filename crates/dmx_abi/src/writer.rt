@@ -10,10 +10,10 @@ use crate::request::Request;
 use arrayvec::ArrayVec;
 
 // The bytes of an argument that are written so far.
-type Written = ArrayVec<u8, 60>;
+type ArgumentBytes = ArrayVec<u8, 60>;
 
 // Writes bytes behind the others, for which there is room.
-fn put(written: &mut Written, bytes: &[u8])
+fn put(written: &mut ArgumentBytes, bytes: &[u8])
     requires { length written.old.items + length bytes.now ≤ 60 }
     ensures { written.new.items ≡ written.old.items ++ bytes.now }
 {
@@ -24,7 +24,7 @@ fn put(written: &mut Written, bytes: &[u8])
 }
 
 // Writes a number as two bytes, the lowest first.
-fn put_u16(written: &mut Written, number: u16)
+fn put_u16(written: &mut ArgumentBytes, number: u16)
     requires { length written.old.items + 2 ≤ 60 }
     ensures { written.new.items ≡ written.old.items ++ little_bytes 2 number }
 {
@@ -32,7 +32,7 @@ fn put_u16(written: &mut Written, number: u16)
 }
 
 // Writes a number as four bytes, the lowest first.
-fn put_u32(written: &mut Written, number: u32)
+fn put_u32(written: &mut ArgumentBytes, number: u32)
     requires { length written.old.items + 4 ≤ 60 }
     ensures { written.new.items ≡ written.old.items ++ little_bytes 4 number }
 {
@@ -56,10 +56,10 @@ fn number_of(request: &Request) -> u32
 }
 
 // The argument of a request, with 0 in the bytes that no field has.
-fn argument_of(request: &Request) -> Written
+fn argument_of(request: &Request) -> ArgumentBytes
     ensures { result.items ≡ argument_of_request request.now }
 {
-    let mut written = Written::new();
+    let mut written = ArgumentBytes::new();
     match request {
         Request::Start | Request::Stop => {}
         Request::SetFilter {

@@ -15,7 +15,7 @@ use std::sync::Arc;
 
 /// What a `KeptAct` holds: the variants are those of `Act`.
 #[derive(Drop)]
-pub enum Held {
+pub enum HeldAct {
     Open,
     Close,
     SetFilter {
@@ -59,7 +59,7 @@ pub enum Held {
 /// A call where a log keeps it. A contract sees it as the call.
 #[derive(Drop)]
 pub struct KeptAct {
-    held: Held,
+    held: HeldAct,
 }
 
 impl Model for KeptAct {
@@ -77,37 +77,37 @@ impl KeptAct {
         ensures { IfOk result (λ kept. kept ≡ act) }
     {
         let held = match act {
-            Act::Open => Held::Open,
-            Act::Close => Held::Close,
-            Act::SetFilter { params, now } => Held::SetFilter {
+            Act::Open => HeldAct::Open,
+            Act::Close => HeldAct::Close,
+            Act::SetFilter { params, now } => HeldAct::SetFilter {
                 params: Box::new(alloc, params)?,
                 now,
             },
-            Act::SetPes { params, now } => Held::SetPes { params, now },
-            Act::AddPid(pid) => Held::AddPid(pid),
-            Act::RemovePid(pid) => Held::RemovePid(pid),
-            Act::Start { now } => Held::Start { now },
-            Act::Stop => Held::Stop,
-            Act::SetSize(size) => Held::SetSize(size),
-            Act::Read { now, count } => Held::Read { now, count },
-            Act::Poll { now } => Held::Poll { now },
+            Act::SetPes { params, now } => HeldAct::SetPes { params, now },
+            Act::AddPid(pid) => HeldAct::AddPid(pid),
+            Act::RemovePid(pid) => HeldAct::RemovePid(pid),
+            Act::Start { now } => HeldAct::Start { now },
+            Act::Stop => HeldAct::Stop,
+            Act::SetSize(size) => HeldAct::SetSize(size),
+            Act::Read { now, count } => HeldAct::Read { now, count },
+            Act::Poll { now } => HeldAct::Poll { now },
             Act::Pass {
                 input,
                 first,
                 count,
                 now,
-            } => Held::Pass {
+            } => HeldAct::Pass {
                 first,
                 now,
                 count,
                 input,
             },
-            Act::End => Held::End,
-            Act::Attach { node, pids } => Held::Attach {
+            Act::End => HeldAct::End,
+            Act::Attach { node, pids } => HeldAct::Attach {
                 node,
                 pids: KeptPids::of(alloc, &pids)?,
             },
-            Act::Detach { node } => Held::Detach { node },
+            Act::Detach { node } => HeldAct::Detach { node },
         };
         Ok(KeptAct { held })
     }
@@ -117,27 +117,27 @@ impl KeptAct {
         ensures { result ≡ self.now }
     {
         match &self.held {
-            Held::Open => Act::Open,
-            Held::Close => Act::Close,
-            Held::SetFilter { params, now } => Act::SetFilter {
+            HeldAct::Open => Act::Open,
+            HeldAct::Close => Act::Close,
+            HeldAct::SetFilter { params, now } => Act::SetFilter {
                 params: **params,
                 now: *now,
             },
-            Held::SetPes { params, now } => Act::SetPes {
+            HeldAct::SetPes { params, now } => Act::SetPes {
                 params: *params,
                 now: *now,
             },
-            Held::AddPid(pid) => Act::AddPid(*pid),
-            Held::RemovePid(pid) => Act::RemovePid(*pid),
-            Held::Start { now } => Act::Start { now: *now },
-            Held::Stop => Act::Stop,
-            Held::SetSize(size) => Act::SetSize(*size),
-            Held::Read { now, count } => Act::Read {
+            HeldAct::AddPid(pid) => Act::AddPid(*pid),
+            HeldAct::RemovePid(pid) => Act::RemovePid(*pid),
+            HeldAct::Start { now } => Act::Start { now: *now },
+            HeldAct::Stop => Act::Stop,
+            HeldAct::SetSize(size) => Act::SetSize(*size),
+            HeldAct::Read { now, count } => Act::Read {
                 now: *now,
                 count: *count,
             },
-            Held::Poll { now } => Act::Poll { now: *now },
-            Held::Pass {
+            HeldAct::Poll { now } => Act::Poll { now: *now },
+            HeldAct::Pass {
                 first,
                 now,
                 count,
@@ -148,12 +148,12 @@ impl KeptAct {
                 count: *count,
                 now: *now,
             },
-            Held::End => Act::End,
-            Held::Attach { node, pids } => Act::Attach {
+            HeldAct::End => Act::End,
+            HeldAct::Attach { node, pids } => Act::Attach {
                 node: *node,
                 pids: pids.set(),
             },
-            Held::Detach { node } => Act::Detach { node: *node },
+            HeldAct::Detach { node } => Act::Detach { node: *node },
         }
     }
 }

@@ -73,17 +73,17 @@ impl PidBits {
 
 // The PIDs that a node's filter was asked for.
 #[derive(Drop)]
-struct Wanted {
+struct WantedPids {
     words: Vec<AtomicU64>,
 }
 
-impl Wanted {
-    fn new(rt: &HostRuntime) -> io::Result<Wanted> {
+impl WantedPids {
+    fn new(rt: &HostRuntime) -> io::Result<WantedPids> {
         let mut words = Vec::with_capacity(rt.alloc(), WORDS)?;
         'words: for _ in 0..WORDS {
             words.push(AtomicU64::new(0))?;
         }
-        Ok(Wanted { words })
+        Ok(WantedPids { words })
     }
 
     fn add(&self, pid: u16) {
@@ -119,7 +119,7 @@ impl Wanted {
 #[derive(Drop)]
 pub struct Bells {
     files: Vec<File>,
-    wanted: Vec<Wanted>,
+    wanted: Vec<WantedPids>,
     // 1 where a program has looked at the node since its bell was rung.
     looked: Vec<AtomicU32>,
     // 1 where the stream has been read to its end.
@@ -158,7 +158,7 @@ impl Bells {
         };
         'nodes: for node in 0..NODES {
             bells.files.push(file_of(rt, folder, node)?)?;
-            bells.wanted.push(Wanted::new(rt)?)?;
+            bells.wanted.push(WantedPids::new(rt)?)?;
             bells.looked.push(AtomicU32::new(0))?;
         }
         Ok(bells)

@@ -27,7 +27,7 @@ use emu_io::{Ends, StdClock, StdSink, StdSource};
 use file::FileSink;
 use line::PipeLine;
 use seats::{Forgotten, JournalLine};
-use serve_top::{Handed, NoReport, Written, serve, serve_to, write_head};
+use serve_top::{Handed, NoReport, WrittenLines, serve, serve_to, write_head};
 use std::io;
 use std::process::ExitCode;
 use std::sync::{Arc, Wait};
@@ -75,9 +75,9 @@ fn forgetful_lines_of(
 }
 
 // A journal that writes the file of this name in a folder.
-fn written_in(rt: &HostRuntime, keep: &str, name: &str) -> io::Result<Written<FileSink>> {
+fn written_in(rt: &HostRuntime, keep: &str, name: &str) -> io::Result<WrittenLines<FileSink>> {
     let path = format!(in rt.alloc(); "{keep}/{name}")?;
-    Ok(Written::new(rt.alloc(), FileSink::create(rt, path.as_str())?))
+    Ok(WrittenLines::new(rt.alloc(), FileSink::create(rt, path.as_str())?))
 }
 
 // The lines of so many seats at the door of this folder, whose calls are written into that one.
@@ -87,7 +87,7 @@ fn written_lines_of(
     keep: &str,
     seats: u32,
     bells: &Arc<Bells>,
-) -> io::Result<Vec<JournalLine<PipeLine, Written<FileSink>>>>
+) -> io::Result<Vec<JournalLine<PipeLine, WrittenLines<FileSink>>>>
     requires { seats ≤ 8 }
     ensures { IfOk result (λ lines. vec_len lines ≤ 8) }
 {
@@ -171,8 +171,8 @@ fn serve_forgetting<R: Threads + Wait + Sync>(
 fn end_files(
     rt: &HostRuntime,
     keep: &str,
-    handed: &Handed<Written<FileSink>>,
-    batches: &Written<FileSink>,
+    handed: &Handed<WrittenLines<FileSink>>,
+    batches: &WrittenLines<FileSink>,
 ) -> io::Result<Result<(), NoReport>> {
     if !batches.whole || !handed.journals.iter().all(|journal| journal.whole) {
         return Ok(Err(NoReport::Failed));

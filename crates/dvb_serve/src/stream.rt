@@ -18,7 +18,7 @@ const BATCH: u32 = 64;
 
 // The packets of a stream, as its bytes come: as many PIDs as a batch has, and those of the batches that are whole.
 #[derive(Drop)]
-struct Passing {
+struct PassingPackets {
     // How many bytes of a packet were read.
     place: usize,
     // The upper bits of its PID, once its second byte was read.
@@ -30,10 +30,10 @@ struct Passing {
     due: PidBits,
 }
 
-impl Passing {
+impl PassingPackets {
     // Before the first byte.
-    fn new() -> Passing {
-        Passing {
+    fn new() -> PassingPackets {
+        PassingPackets {
             place: 0,
             high: 0,
             count: 0,
@@ -86,7 +86,7 @@ impl Passing {
 #[derive(Drop)]
 pub struct RungSource {
     input: StdSource,
-    passing: Passing,
+    passing: PassingPackets,
     bells: Arc<Bells>,
 }
 
@@ -105,7 +105,7 @@ impl RungSource {
     {
         RungSource {
             input,
-            passing: Passing::new(),
+            passing: PassingPackets::new(),
             bells,
         }
     }

@@ -8,7 +8,7 @@ ghost use Rattle.dvr_core.specs.Inside.Step.{next};
 ghost use Rattle.dvr_core.specs.Inside.KeptView.{knows_of, bytes_in};
 ghost use Rattle.dvr_core.specs.Stands.{StandsFor};
 
-use crate::kept::Kept;
+use crate::kept::KeptByDvr;
 use crate::taps::Taps;
 use dmx_calls::{Answer, Call, Input, Reply, Told};
 use machine::Machine;
@@ -25,7 +25,7 @@ pub struct DvrCore {
     alloc: Global,
     // How many calls were made.
     entries: u64,
-    kept: Kept,
+    kept: KeptByDvr,
 }
 
 impl Model for DvrCore {
@@ -42,7 +42,7 @@ impl Model for DvrCore {
 
 // Makes a call on what the node keeps.
 fn act<L: Ledger>(
-    kept: &mut Kept,
+    kept: &mut KeptByDvr,
     alloc: Global,
     who: u32,
     call: Call,
@@ -86,7 +86,7 @@ impl DvrCore {
         DvrCore {
             alloc,
             entries: 0,
-            kept: Kept {
+            kept: KeptByDvr {
                 has_ended: false,
                 tenure: None,
                 taps: Taps::new(),

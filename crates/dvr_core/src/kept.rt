@@ -13,7 +13,7 @@ ghost use Rattle.dvr_core.specs.Inside.KeptView.{knows_of, bytes_in, reply_to};
 
 use crate::record::record_all;
 use crate::taps::Taps;
-use crate::tenure::Tenure;
+use crate::tenure::DvrTenure;
 use dmx_calls::{Answer, Call, Errno, Input, Reply, Tap};
 use machine::steps::Steps;
 use node_buffer::{NOTHING, done, opened, refused};
@@ -24,16 +24,16 @@ use ts_batch::Batch;
 
 /// What the node keeps from call to call.
 #[derive(Drop)]
-pub struct Kept {
+pub struct KeptByDvr {
     /// An End came.
     pub has_ended: bool,
     /// None where the node is free.
-    pub tenure: Option<Tenure>,
+    pub tenure: Option<DvrTenure>,
     /// The taps of the demux nodes.
     pub taps: Taps,
 }
 
-impl Kept {
+impl KeptByDvr {
     /// The caller becomes the owner, and a capture begins.
     pub fn open(&mut self, alloc: Global, who: u32) -> Reply
         requires { CoherentIn (knows_of self.old).facts.ledger }
@@ -46,7 +46,7 @@ impl Kept {
             Some(tenure) => Reply::Busy {
                 owner: tenure.owner,
             },
-            None => opened(&mut self.tenure, Tenure::new(alloc, who)),
+            None => opened(&mut self.tenure, DvrTenure::new(alloc, who)),
         }
     }
 

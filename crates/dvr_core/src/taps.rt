@@ -11,12 +11,12 @@ use ts_batch::{Batch, PlaceSet};
 
 // A demux node's tap: the client that attached it, and the PIDs that it names.
 #[derive(Drop)]
-struct Tap {
+struct AttachedTap {
     by: u32,
     pids: Pids,
 }
 
-impl Model for Tap {
+impl Model for AttachedTap {
     ghost use Rattle.dmx_calls.specs.Taps.{Tap as TapValue};
 
     ghost Value = { TapValue };
@@ -28,7 +28,7 @@ impl Model for Tap {
 /// place for each of these nodes.
 #[derive(Drop)]
 pub struct Taps {
-    taps: [Option<Tap>; DEMUX_NODES as usize],
+    taps: [Option<AttachedTap>; DEMUX_NODES as usize],
 }
 
 impl Model for Taps {
@@ -60,7 +60,7 @@ impl Taps {
         ensures { self.new ≡ attached who node pids self.old }
     {
         if node < DEMUX_NODES {
-            self.taps[node as usize] = Some(Tap { by: who, pids });
+            self.taps[node as usize] = Some(AttachedTap { by: who, pids });
         }
     }
 
@@ -88,7 +88,7 @@ impl Taps {
 }
 
 // Whether the client `who` attached this tap.
-fn is_of(tap: &Option<Tap>, who: u32) -> bool
+fn is_of(tap: &Option<AttachedTap>, who: u32) -> bool
     ensures own { result ≡ true → detached_by who tap.now ≡ None }
     ensures other { result ≡ false → detached_by who tap.now ≡ tap.now }
 {

@@ -16,7 +16,7 @@ use std::alloc::{AllocError as NoMemory, Global};
 
 /// What the node keeps for its owner.
 #[derive(Drop)]
-pub struct Tenure {
+pub struct DvrTenure {
     /// The caller that opened it.
     pub owner: u32,
     /// The bytes and the ledger of its capture.
@@ -25,18 +25,18 @@ pub struct Tenure {
     ghost told: { buffer.terms ≡ terms_by Empty },
 }
 
-impl Tenure {
+impl DvrTenure {
     ghost use Rattle.dvr_core.specs.Inside.KeptView.{facts_in, knows_in, IsGranted, reply_to, Does};
 
     /// A node that was just opened: it has the default size, and its capture begins.
-    pub fn new(alloc: Global, owner: u32) -> Result<Tenure, NoMemory>
+    pub fn new(alloc: Global, owner: u32) -> Result<DvrTenure, NoMemory>
         ensures owner { IfOk result (λ t. t.owner ≡ owner) }
         ensures size { IfOk result (λ t. t.buffer.size ≡ size_of_open) }
         ensures ledger { IfOk result (λ t. t.buffer.ledger ≡ Some (begun 0)) }
     {
         let mut buffer = Buffer::new(alloc, DVR_SIZE)?;
         buffer.begin(terms_of(&Params::Empty), 0);
-        Ok(Tenure { owner, buffer })
+        Ok(DvrTenure { owner, buffer })
     }
 
     // Why a call of the owner is refused, if it is: by the table of calls. A SetSize to the size that the node has is

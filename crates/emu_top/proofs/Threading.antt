@@ -1,11 +1,11 @@
 -- The report of a run by threads.
 use Rattle.emu_top.proofs.Imports.{◌≡◌, ◌<◌, ◌≤◌, ℕ, Bool, false, List, ◌++◌, map, refl, subst, IsTrue, arith, ◌↔◌, IsAtEnd, SourceEnd, cut, PacketSize, Outcome, told_head, told_entry, LogEntry, clients_in, Scripted, IsWholeRun, few_in_all, writes_pass, Pulling, OfStream, AreWorked, report_of, AreFitting, Holds, IsThreadOutput, Takes, Makes}
-use Rattle.workers.specs.declared.left.Left.{Left}
+use Rattle.workers.specs.declared.left.LeftByThreads.{LeftByThreads}
 use Rattle.workers.specs.Left.{IsLeftBy}
 use Rattle.emu_top.proofs.Outputs.{made_of}
 use Rattle.emu_top.proofs.Ranged.{ranged}
 
-module _ (batch : ℕ) (size : PacketSize) (may : ℕ → Bool) (script : Scripted) (left : Left) where
+module _ (batch : ℕ) (size : PacketSize) (may : ℕ → Bool) (script : Scripted) (left : LeftByThreads) where
   -- what became of the commands of each client
   abbrev became : List (List Outcome)
   became = map (λ those. those.items) left.outcomes.items

@@ -47,7 +47,7 @@ fn run_threads<R: Threads + Wait + Sync, S: Source + Send, C: Clock + Sync, G: G
         Ok(left) => left,
         Err(stop) => return Err(status_of_run(stop)),
     };
-    let workers::Left {
+    let workers::LeftByThreads {
         feeding,
         logs,
         outcomes,

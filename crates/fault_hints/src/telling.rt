@@ -1,7 +1,7 @@
 // The second line, for each kind of fault.
 use crate::requests::{add_argument, add_request_name};
 use crate::shown::{add_characters, add_eight_digits, add_number, add_word};
-use client_script::{FaultyWord, MOST_BYTES, NumberName, ScriptFault, Wanted};
+use client_script::{FaultyWord, MOST_BYTES, NumberName, ScriptFault, WantedWord};
 use std::alloc::{AllocError as NoMemory, Global};
 use text_forms::{is_word, place_named};
 
@@ -49,23 +49,23 @@ fn name_of(name: NumberName) -> &'static str {
 }
 
 // What a place asks for; of a number its name.
-fn asked(wanted: Wanted) -> &'static str {
+fn asked(wanted: WantedWord) -> &'static str {
     match wanted {
-        Wanted::First => "feed, tick, a client c0 to c7, or the line stream",
-        Wanted::Command => {
+        WantedWord::First => "feed, tick, a client c0 to c7, or the line stream",
+        WantedWord::Command => {
             "a command: open, close, section, pes, add, remove, start, stop, size, read, readw, drain, poll, ioctl or write"
         }
-        Wanted::Target => "a target: n0 to n31, h0 to h31, or dvr",
-        Wanted::Dvr => "dvr, to which a client writes",
-        Wanted::Written => "HEX: 1 to 12,032 bytes, two hexadecimal digits each, in lower case",
-        Wanted::Number { name, .. } => name_of(name),
-        Wanted::Input => "INPUT: frontend or dvr",
-        Wanted::Output => "OUTPUT: decoder, tap, ts_tap or tsdemux_tap",
-        Wanted::Byte(_) => "I=FF/MM/DD, two hexadecimal digits each, places rising",
-        Wanted::Request =>
+        WantedWord::Target => "a target: n0 to n31, h0 to h31, or dvr",
+        WantedWord::Dvr => "dvr, to which a client writes",
+        WantedWord::Written => "HEX: 1 to 12,032 bytes, two hexadecimal digits each, in lower case",
+        WantedWord::Number { name, .. } => name_of(name),
+        WantedWord::Input => "INPUT: frontend or dvr",
+        WantedWord::Output => "OUTPUT: decoder, tap, ts_tap or tsdemux_tap",
+        WantedWord::Byte(_) => "I=FF/MM/DD, two hexadecimal digits each, places rising",
+        WantedWord::Request =>
             "REQ: the number of a request in eight hexadecimal digits, in lower case",
-        Wanted::Argument(_) => "ARG",
-        Wanted::End => "the end of the line",
+        WantedWord::Argument(_) => "ARG",
+        WantedWord::End => "the end of the line",
     }
 }
 
@@ -136,15 +136,15 @@ fn add_request(text: &mut String, word: &[u8]) -> Result<(), NoMemory> {
 }
 
 // Appends what a place asks for, and what is said of the word that stands there, if one does.
-fn add_asked(text: &mut String, wanted: Wanted, word: Option<&[u8]>) -> Result<(), NoMemory> {
+fn add_asked(text: &mut String, wanted: WantedWord, word: Option<&[u8]>) -> Result<(), NoMemory> {
     text.push_str("; expected ")?;
     text.push_str(asked(wanted))?;
     let shown = word.unwrap_or(&[]);
     match wanted {
-        Wanted::Number { least, most, .. } => add_range(text, least, most, shown),
-        Wanted::Byte(least) => add_spelling(text, least, shown),
-        Wanted::Request => add_request(text, shown),
-        Wanted::Argument(request) => add_argument(text, request, word),
+        WantedWord::Number { least, most, .. } => add_range(text, least, most, shown),
+        WantedWord::Byte(least) => add_spelling(text, least, shown),
+        WantedWord::Request => add_request(text, shown),
+        WantedWord::Argument(request) => add_argument(text, request, word),
         _ => Ok(()),
     }
 }
@@ -184,7 +184,7 @@ fn add_found(text: &mut String, line: &[u8], faulty: FaultyWord) -> Result<(), N
     text.push_str(" is ")?;
     add_word(text, word)?;
     add_asked(text, wanted, Some(word))?;
-    if wanted == Wanted::End {
+    if wanted == WantedWord::End {
         add_form(text, line)?;
     }
     add_remark(text, word)

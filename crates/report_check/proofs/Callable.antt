@@ -1,5 +1,5 @@
 -- Each entry of a run is one of its callers, and can be made again.
-use Rattle.report_check.proofs.Imports.{◌≡◌, ◌<◌, ◌≤◌, ◌+◌, refl, sym, ap, ◌∙◌, subst, ℕ, zero, suc, List, [], ◌∷◌, Bool, true, false, nat_eq, length, map, sum, take, drop, arith, length-take, nat_tests, All-head, All-tail, All-nil, All-cons, All-weaker, sum_by-cons, Option, Some, None, IsSome, IfSome, slice_get, slice_index_or, nat_le, All, range_with_len, length-drop, get_or-map-range_with_len, Packets, IsPlayedBatch, StandsAmong, are_few, are_placed, LARGEST_READ, LogEntry, act_of, Want, Read, clients_in, IsScript, Scripted, writes_of, IsWritten, Event, Request, Own, Attach, Detach, Pass, Batches, batch_at, call_of, own_call, pass_of, played, plays_of, IsRequestInRange, IsRequestOf, next_event, Batch, Step, feeding, steps_of, IsRun, replies, IsEvent, few_in_all, all_played, is_callable, are_sound}
+use Rattle.report_check.proofs.Imports.{◌≡◌, ◌<◌, ◌≤◌, ◌+◌, refl, sym, ap, ◌∙◌, subst, ℕ, zero, suc, List, [], ◌∷◌, Bool, true, false, nat_eq, length, map, sum, take, drop, arith, length-take, nat_tests, All-head, All-tail, All-nil, All-cons, All-weaker, sum_by-cons, Option, Some, None, IsSome, IfSome, slice_get, slice_index_or, nat_le, All, range_with_len, length-drop, get_or-map-range_with_len, Packets, IsPlayedBatch, StandsAmong, are_few, are_placed, LARGEST_READ, LogEntry, act_of, Want, Read, clients_in, IsScript, Scripted, writes_of, IsWritten, Event, ClientRequest, Own, Attach, Detach, Pass, Batches, batch_at, call_of, own_call, pass_of, played, plays_of, IsRequestInRange, IsRequestOf, next_event, Batch, Step, feeding, steps_of, IsRun, replies, IsEvent, few_in_all, all_played, is_callable, are_sound}
 use Rattle.std.proofs.Common.{nat_lt}
 use Rattle.report_check.proofs.Feeding.{Fits, size_of}
 use Rattle.client_core.proofs.Numbering.{next_is_asked}
@@ -82,7 +82,7 @@ module _ (script : Scripted) (known : IsScript script) (packets : ℕ) (c : ℕ)
   short : All (λ bytes. length bytes ≤ 12032) (writes_of c script.writes)
   short = All-weaker IsWritten (λ bytes. length bytes ≤ 12032) (λ bytes is. is.few) (writes_of c script.writes) (known.writes c [] (omega (arith, low, known.clients))).each
 
-  request_can : (r : Request) (moment : ℕ) → IsRequestInRange r → IsRequestOf (plays_of c script) r → is_callable packets counts (suc c) (act_of (call_of (plays_of c script) r moment)) ≡ true
+  request_can : (r : ClientRequest) (moment : ℕ) → IsRequestInRange r → IsRequestOf (plays_of c script) r → is_callable packets counts (suc c) (act_of (call_of (plays_of c script) r moment)) ≡ true
   request_can (Own w) moment is of = want_can packets counts (suc c) w moment is
   request_can (Attach node pids) moment is of = refl
   request_can (Detach node) moment is of = refl

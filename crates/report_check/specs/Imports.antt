@@ -5,7 +5,7 @@ pub use Rattle.client_core.specs.Events.{next_event}
 pub use Rattle.client_core.specs.Inside.Core.{Core, IsAfter}
 pub use Rattle.client_core.specs.Outcomes.{outcomes}
 pub use Rattle.client_core.specs.PlayLaws.{packets_in}
-pub use Rattle.client_core.specs.declared.event.Request.{Request}
+pub use Rattle.client_core.specs.declared.event.ClientRequest.{ClientRequest}
 pub use Rattle.client_script.specs.Script.{Scripted, clients_in}
 pub use Rattle.dmx_calls.specs.Calls.{invocation_of, response_of, told_entry}
 pub use Rattle.dmx_calls.specs.Entries.{told}

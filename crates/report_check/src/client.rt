@@ -5,7 +5,7 @@ ghost use Rattle.report_check.specs.Completed.{complete};
 ghost use Rattle.report_check.specs.Inside.Steps.{left_on};
 ghost use Rattle.report_check.specs.Inside.Parts.{told_nodes, dealt as dealt_to, IsDoneAs, AreDoneAs};
 
-use crate::fault::{FaultKind, Odd};
+use crate::fault::{Odd, ReportFaultKind};
 use crate::line::first_other;
 use crate::stop::odd_call;
 use crate::walk_check::is_walked;
@@ -54,7 +54,7 @@ fn odd_outcome(client: u32, told: &[Outcome], done: &[Outcome]) -> Odd {
     Odd::Client {
         client,
         behind: same.saturating_add(1),
-        kind: FaultKind::Outcome,
+        kind: ReportFaultKind::Outcome,
     }
 }
 

@@ -3,7 +3,7 @@ use thiserror::Error;
 
 /// What is wrong in a line of a report. Its text is its name, as the program tells it on standard error.
 #[derive(Clone, Copy, Debug, PartialEq, Eq, Drop, Error)]
-pub enum FaultKind {
+pub enum ReportFaultKind {
     /// The bytes are no report.
     #[error("text")]
     Text,
@@ -35,7 +35,7 @@ pub enum FaultKind {
 #[error("report line {line}: {kind}")]
 pub struct Fault {
     pub line: u64,
-    pub kind: FaultKind,
+    pub kind: ReportFaultKind,
 }
 
 /// Where a node or a client isn't as it should be.
@@ -46,14 +46,14 @@ pub enum Odd {
     Entry {
         node: u32,
         place: u64,
-        kind: FaultKind,
+        kind: ReportFaultKind,
     },
     /// In what is told of a client of this number, so many lines behind its own.
     #[error("client {client}, line {behind}: {kind}")]
     Client {
         client: u32,
         behind: u64,
-        kind: FaultKind,
+        kind: ReportFaultKind,
     },
 }
 

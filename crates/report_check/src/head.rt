@@ -3,7 +3,7 @@ ghost use Rattle.std.specs.Prelude.{◌≡◌, ◌≢◌, true, false};
 ghost use Rattle.ts_watch.specs.Head.{told_head};
 
 use crate::line::{first_other, line_of_end};
-use report_read::Told;
+use report_read::ReadReport;
 use ts_watch::{Head, PidRow};
 
 fn are_same_rows(this: &[(u16, PidRow)], other: &[(u16, PidRow)]) -> bool
@@ -25,7 +25,7 @@ pub fn is_same_head(this: &Head, other: &Head) -> bool
 
 /// The first line of a report that tells the stream otherwise than this head: that of its tally, of a row, or the last. Nothing
 /// is claimed of it.
-pub fn line_of_head(told: &Told, head: &Head) -> u64 {
+pub fn line_of_head(told: &ReadReport, head: &Head) -> u64 {
     if told.head.tally != head.tally {
         return 2;
     }

@@ -34,5 +34,5 @@ mod stop;
 mod text;
 pub mod walk_check;
 
-pub use fault::{Fault, FaultKind};
+pub use fault::{Fault, ReportFaultKind};
 pub use report::{check, first_fault};

@@ -1,6 +1,6 @@
 // Which line of a report tells what. Nothing is claimed of the numbers.
 use dmx_calls::Outcome;
-use report_read::Told;
+use report_read::ReadReport;
 
 /// The place of the first of these that isn't the one of the others.
 pub fn first_other<T: PartialEq>(these: &[T], those: &[T]) -> usize {
@@ -23,12 +23,12 @@ fn lines_of(outcomes: &[Vec<Outcome>]) -> u64 {
 }
 
 // The line behind the head.
-fn behind_head(told: &Told) -> u64 {
+fn behind_head(told: &ReadReport) -> u64 {
     (told.head.rows.len() as u64).saturating_add(3)
 }
 
 /// The line of a client, or so many lines behind it; the line behind the clients where it isn't told.
-pub fn line_of_client(told: &Told, client: u32, behind: u64) -> u64 {
+pub fn line_of_client(told: &ReadReport, client: u32, behind: u64) -> u64 {
     let before = told.outcomes.len().min(client as usize);
     behind_head(told)
         .saturating_add(lines_of(&told.outcomes[..before]))
@@ -36,7 +36,7 @@ pub fn line_of_client(told: &Told, client: u32, behind: u64) -> u64 {
 }
 
 /// The last line.
-pub fn line_of_end(told: &Told) -> u64 {
+pub fn line_of_end(told: &ReadReport) -> u64 {
     let mut line = behind_head(told).saturating_add(lines_of(&told.outcomes));
     'nodes: for (_, entries) in &told.nodes {
         line = line.saturating_add(1).saturating_add(entries.len() as u64);
@@ -45,7 +45,7 @@ pub fn line_of_end(told: &Told) -> u64 {
 }
 
 /// The line of the entry at this place of a node; the last line where the node isn't told.
-pub fn line_of_entry(told: &Told, node: u32, place: u64) -> u64 {
+pub fn line_of_entry(told: &ReadReport, node: u32, place: u64) -> u64 {
     let mut line = behind_head(told).saturating_add(lines_of(&told.outcomes));
     'nodes: for (number, entries) in &told.nodes {
         line = line.saturating_add(1);

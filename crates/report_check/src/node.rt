@@ -3,7 +3,7 @@ ghost use Rattle.std.specs.Prelude.{◌≡◌, length, map, true, false, MatchOp
 ghost use Rattle.dmx_calls.specs.Calls.{told_entry};
 ghost use Rattle.report_check.specs.Inside.Parts.{count_for as count_from, told_node, told_nodes, is_callable as can_be_called, is_sound as is_sound_entry, are_sound, IsSoundNode, AreSoundNodes};
 
-use crate::fault::{FaultKind, Odd};
+use crate::fault::{Odd, ReportFaultKind};
 use crate::feeder::{fed_unlike, unfed};
 use dmx_calls::limits::LARGEST_READ;
 use dmx_calls::{Act, Entry, Input, KeptAct};
@@ -79,14 +79,14 @@ fn odd_on(
         return Some(Odd::Entry {
             node: node.0,
             place,
-            kind: FaultKind::Place,
+            kind: ReportFaultKind::Place,
         });
     }
     if let Some(place) = fed_unlike(others, &node.1) {
         return Some(Odd::Entry {
             node: node.0,
             place,
-            kind: FaultKind::Feeder,
+            kind: ReportFaultKind::Feeder,
         });
     }
     None
@@ -132,7 +132,7 @@ pub fn odd_node(
         return Some(Odd::Entry {
             node: first.0,
             place,
-            kind: FaultKind::Feeder,
+            kind: ReportFaultKind::Feeder,
         });
     }
     odd_among(nodes, &first.1, clients, packets, played)

@@ -4,7 +4,7 @@ ghost use Rattle.report_check.specs.Imports.{DEMUX_NODES as nodes_of_demux, told
 ghost use Rattle.report_check.specs.Playing.{AreFewPackets, brought_from};
 ghost use Rattle.report_check.specs.Inside.Parts.{told_nodes, are_sound, IsPlayed};
 
-use crate::fault::{FaultKind, Odd};
+use crate::fault::{Odd, ReportFaultKind};
 use crate::history_check::is_played;
 use dmx_calls::Entry;
 use dmx_calls::limits::DEMUX_NODES;
@@ -127,7 +127,7 @@ pub fn odd_play(
             return Ok(Some(Odd::Entry {
                 node: node.0,
                 place,
-                kind: FaultKind::Reply,
+                kind: ReportFaultKind::Reply,
             }));
         }
         rest = after;

@@ -6,7 +6,7 @@ ghost use Rattle.report_check.specs.Right.{IsRunOf, IsRightReport};
 ghost use Rattle.report_check.specs.Inside.Parts.{HasPassed};
 
 use crate::client::odd_client;
-use crate::fault::{Fault, FaultKind, Odd};
+use crate::fault::{Fault, Odd, ReportFaultKind};
 use crate::head::{is_same_head, line_of_head};
 use crate::line::{line_of_client, line_of_entry};
 use crate::node::odd_node;
@@ -15,7 +15,7 @@ use crate::played::all_played;
 use crate::stop::first_of_both;
 use crate::text::line_of_text;
 use client_script::Script;
-use report_read::{Told, read_report};
+use report_read::{ReadReport, read_report};
 use std::alloc::{AllocError as NoMemory, Global};
 use ts_packet::Packet;
 use ts_watch::Head;
@@ -23,7 +23,7 @@ use ts_watch::Head;
 // What is wrong with what a report tells, if anything is.
 fn odd_part(
     alloc: Global,
-    told: &Told,
+    told: &ReadReport,
     script: &Script,
     packets: &[Packet],
 ) -> Result<Option<Odd>, NoMemory>
@@ -35,7 +35,7 @@ fn odd_part(
 {
     let clients = script.clients();
     if told.outcomes.len() != clients as usize {
-        let kind = FaultKind::Outcome;
+        let kind = ReportFaultKind::Outcome;
         return Ok(Some(Odd::Client {
             client: clients,
             behind: 0,
@@ -54,12 +54,12 @@ fn odd_part(
     odd_play(alloc, &told.nodes, packets, played)
 }
 
-fn fault_at(line: u64, kind: FaultKind) -> Fault {
+fn fault_at(line: u64, kind: ReportFaultKind) -> Fault {
     Fault { line, kind }
 }
 
 // The line of a fault.
-fn fault_of(told: &Told, odd: Odd) -> Fault {
+fn fault_of(told: &ReadReport, odd: Odd) -> Fault {
     match odd {
         Odd::Entry { node, place, kind } => fault_at(line_of_entry(told, node, place), kind),
         Odd::Client {
@@ -92,10 +92,10 @@ pub fn first_fault(
 {
     let Some(told) = read_report(alloc, bytes)? else {
         let line = line_of_text(alloc, bytes)?;
-        return Ok(Some(fault_at(line, FaultKind::Text)));
+        return Ok(Some(fault_at(line, ReportFaultKind::Text)));
     };
     if !is_same_head(&told.head, head) {
-        return Ok(Some(fault_at(line_of_head(&told, head), FaultKind::Head)));
+        return Ok(Some(fault_at(line_of_head(&told, head), ReportFaultKind::Head)));
     }
     // Each line is in the ranges of the grammar and each write is short, so each call of a run can be made again.
     let _lines = script.lines();

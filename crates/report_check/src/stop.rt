@@ -1,5 +1,5 @@
 // Where a client's walk stopped that isn't through, and what is told of it. Nothing is claimed of it.
-use crate::fault::{FaultKind, Odd};
+use crate::fault::{Odd, ReportFaultKind};
 use client_core::{ClientCore, Event};
 use dmx_calls::{Entry, Outcome};
 
@@ -24,14 +24,14 @@ fn left_over(client: u32, queues: &[&[Entry]]) -> Odd {
             return Odd::Entry {
                 node: entry.node,
                 place: entry.place,
-                kind: FaultKind::Left,
+                kind: ReportFaultKind::Left,
             };
         }
     }
     Odd::Client {
         client,
         behind: 0,
-        kind: FaultKind::Call,
+        kind: ReportFaultKind::Call,
     }
 }
 
@@ -87,7 +87,7 @@ fn odd_event(
     nodes: &[(u32, Vec<Entry>)],
     queues: &[&[Entry]],
 ) -> Odd {
-    let kind = FaultKind::Call;
+    let kind = ReportFaultKind::Call;
     let entries = told_on(nodes, event.node);
     match before_left(entries, left_of(queues, event.node)) {
         [.., entry] if taken_of(client, nodes, queues) > event.step => Odd::Entry {

@@ -16,7 +16,7 @@ const READ_FAULT: &[u8] = b"fault read\n";
 
 // What the line before tells.
 #[derive(Clone, Copy, Debug, PartialEq, Eq, Drop)]
-enum Part {
+enum TextPart {
     Nothing,
     First,
     Stream,
@@ -27,8 +27,8 @@ enum Part {
 
 // Lines that begin a report, as far as the next one asks for it.
 #[derive(Drop)]
-struct Front<'a> {
-    part: Part,
+struct FirstLines<'a> {
+    part: TextPart,
     // The line of the last PID, or of the last node.
     last: &'a [u8],
     clients: u64,
@@ -46,11 +46,11 @@ fn are_report(alloc: Global, parts: &[&[u8]]) -> Result<bool, NoMemory> {
     Ok(read_report(alloc, &text)?.is_some())
 }
 
-impl<'a> Front<'a> {
+impl<'a> FirstLines<'a> {
     // No line.
-    fn new() -> Front<'a> {
-        Front {
-            part: Part::Nothing,
+    fn new() -> FirstLines<'a> {
+        FirstLines {
+            part: TextPart::Nothing,
             last: &[],
             clients: 0,
             entries: 0,
@@ -59,19 +59,19 @@ impl<'a> Front<'a> {
     }
 
     fn takes_first(&mut self, line: &[u8]) -> bool {
-        self.part = Part::First;
+        self.part = TextPart::First;
         line == FIRST
     }
 
     fn takes_tally(&mut self, alloc: Global, line: &[u8]) -> Result<bool, NoMemory> {
-        self.part = Part::Stream;
+        self.part = TextPart::Stream;
         are_report(alloc, &[FIRST, line, END])
     }
 
     fn takes_row(&mut self, alloc: Global, line: &'a [u8]) -> Result<bool, NoMemory> {
         let before = self.last;
         self.last = line;
-        Ok(self.part == Part::Stream && are_report(alloc, &[HEAD, before, line, END])?)
+        Ok(self.part == TextPart::Stream && are_report(alloc, &[HEAD, before, line, END])?)
     }
 
     fn takes_client(&mut self, alloc: Global, line: &[u8]) -> Result<bool, NoMemory> {
@@ -79,24 +79,24 @@ impl<'a> Front<'a> {
         next.extend_from_slice(b"client ")?;
         write_decimal(&mut next, self.clients)?;
         next.extend_from_slice(b"\n")?;
-        let is_next = self.part != Part::Node && next.as_slice() == line;
-        self.part = Part::Clients;
+        let is_next = self.part != TextPart::Node && next.as_slice() == line;
+        self.part = TextPart::Clients;
         self.clients = self.clients.saturating_add(1);
         Ok(is_next)
     }
 
     fn takes_command(&mut self, alloc: Global, line: &[u8]) -> Result<bool, NoMemory> {
-        Ok(self.part == Part::Clients && are_report(alloc, &[HEAD, b"client 0\n", line, END])?)
+        Ok(self.part == TextPart::Clients && are_report(alloc, &[HEAD, b"client 0\n", line, END])?)
     }
 
     fn takes_node(&mut self, alloc: Global, line: &'a [u8]) -> Result<bool, NoMemory> {
         let is_next = match self.part {
-            Part::Node => {
+            TextPart::Node => {
                 self.called && are_report(alloc, &[HEAD, self.last, CALL, line, CALL, END])?
             }
             _ => are_report(alloc, &[HEAD, line, CALL, END])?,
         };
-        self.part = Part::Node;
+        self.part = TextPart::Node;
         self.last = line;
         self.entries = 0;
         self.called = false;
@@ -107,24 +107,24 @@ impl<'a> Front<'a> {
         let Some(entry) = read_line(alloc, 0, line)? else {
             return Ok(false);
         };
-        let is_next = self.part == Part::Node && entry.place == self.entries;
+        let is_next = self.part == TextPart::Node && entry.place == self.entries;
         self.entries = self.entries.saturating_add(1);
         self.called = self.called || entry.who > 0;
         Ok(is_next)
     }
 
     fn takes_end(&mut self) -> bool {
-        let is_whole = self.part != Part::Node || self.called;
-        self.part = Part::End;
+        let is_whole = self.part != TextPart::Node || self.called;
+        self.part = TextPart::End;
         is_whole
     }
 
     // Goes past one line more, its line feed with it; false where no report begins so.
     fn takes(&mut self, alloc: Global, line: &'a [u8]) -> Result<bool, NoMemory> {
         match self.part {
-            Part::Nothing => Ok(self.takes_first(line)),
-            Part::First => self.takes_tally(alloc, line),
-            Part::End => Ok(false),
+            TextPart::Nothing => Ok(self.takes_first(line)),
+            TextPart::First => self.takes_tally(alloc, line),
+            TextPart::End => Ok(false),
             _ if line.starts_with(b"pid ") => self.takes_row(alloc, line),
             _ if line.starts_with(b"client ") => self.takes_client(alloc, line),
             _ if line.starts_with(b"line ") => self.takes_command(alloc, line),
@@ -137,7 +137,7 @@ impl<'a> Front<'a> {
 
 /// The line at which a text stops being a report: the first with which no report begins, or the one in which the text ends.
 pub fn line_of_text(alloc: Global, text: &[u8]) -> Result<u64, NoMemory> {
-    let mut front = Front::new();
+    let mut front = FirstLines::new();
     let mut line: u64 = 1;
     let mut rest = text;
     'lines: while let Some(end) = rest.iter().position(|byte| *byte == b'\n') {

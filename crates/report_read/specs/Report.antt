@@ -1,7 +1,7 @@
 -- Which texts are reports (this project's own).
 use Rattle.std.specs.Prelude.{◌≡◌, ◌≢◌, ℕ, suc, ◌&&◌, Bool, true, List, [], ◌∷◌, map, nat_eq, nat_le, nat_lt}
 use Rattle.report_read.specs.Imports.{LARGEST_PID, LogEntry, PidRow, Told, ToldNode, entry_text, is_of_client, list_any, text_of, told_entry, told_head}
-use Rattle.report_read.specs.declared.whole.Told.{Told as ReadReport}
+use Rattle.report_read.specs.declared.whole.ReadReport.{ReadReport}
 use Rattle.report_read.specs.Ranges.{IsEntryOf, IsInRange}
 
 -- ------ what stands in its order

@@ -16,7 +16,7 @@ use std::alloc::{AllocError as NoMemory, Global};
 
 // What stands in front of a reply.
 #[derive(Drop)]
-struct Front {
+struct EntryFront {
     place: u64,
     step: u64,
     who: u32,
@@ -24,7 +24,7 @@ struct Front {
 }
 
 #[tactic(auto, unfolding(crate::specs::Inside::Entries::front_in))]
-fn read_front(bytes: &mut Bytes<'_>) -> Option<Front>
+fn read_front(bytes: &mut Bytes<'_>) -> Option<EntryFront>
     ensures value { Reads result bytes.new (front_in bytes.old) }
     ensures range { IfSome result (λ front. IsActInRange front.act) }
 {
@@ -35,7 +35,7 @@ fn read_front(bytes: &mut Bytes<'_>) -> Option<Front>
     bytes.past(b" ")?;
     let act = read_act(bytes)?;
     bytes.past(b" = ")?;
-    Some(Front {
+    Some(EntryFront {
         place,
         step,
         who,

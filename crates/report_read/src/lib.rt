@@ -32,7 +32,7 @@ mod whole;
 ghost use Rattle.report_read.specs.Laws.{LinesTellOneEntry, ReportsTellOneThing};
 
 pub use entries::read_line;
-pub use whole::{Told, read_report};
+pub use whole::{ReadReport, read_report};
 
 /// The law of lines: a line of a node tells one entry at most. It has nothing to do.
 #[tactic(auto, using(crate::proofs::Again::one_entry))]

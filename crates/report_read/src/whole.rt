@@ -20,7 +20,7 @@ use ts_watch::Head;
 
 /// What a report tells.
 #[derive(Drop)]
-pub struct Told {
+pub struct ReadReport {
     /// What was found in the stream.
     pub head: Head,
     /// What became of each client's commands, in the order of the clients.
@@ -52,7 +52,7 @@ fn read_first(bytes: &mut Bytes<'_>) -> Option<Tally>
 
 // What stands at the front of these bytes, in the form of a report.
 #[tactic(auto, unfolding(crate::specs::Inside::Whole::told_in))]
-fn read_told(alloc: Global, bytes: &mut Bytes<'_>) -> Result<Option<Told>, NoMemory>
+fn read_told(alloc: Global, bytes: &mut Bytes<'_>) -> Result<Option<ReadReport>, NoMemory>
     ensures value { IfOk result (λ told. Reads (option_map told_of told) bytes.new (told_in bytes.old)) }
     ensures range { IfOk result (λ told. IfSome told (λ t. ArePartsInRange (told_of t))) }
 {
@@ -76,7 +76,7 @@ fn read_told(alloc: Global, bytes: &mut Bytes<'_>) -> Result<Option<Told>, NoMem
         rows,
         read_fault,
     };
-    Ok(Some(Told {
+    Ok(Some(ReadReport {
         head,
         outcomes,
         nodes,
@@ -97,7 +97,7 @@ fn are_few(outcomes: &[Vec<Outcome>]) -> bool
 ///
 /// `NoMemory` where memory for what it tells, or for its text, was refused.
 #[tactic(auto, using(crate::proofs::WholeAgain::not_read, crate::proofs::WholeAgain::not_same, crate::proofs::WholeAgain::no_clients, crate::proofs::WholeAgain::no_rows, crate::proofs::WholeAgain::no_nodes))]
-pub fn read_report(alloc: Global, bytes: &[u8]) -> Result<Option<Told>, NoMemory>
+pub fn read_report(alloc: Global, bytes: &[u8]) -> Result<Option<ReadReport>, NoMemory>
     ensures { IfOk result (λ told. MatchOption told (IsNoReport bytes.now) (λ t. IsReport (told_of t) bytes.now)) }
 {
     let mut rest = Bytes::of(bytes);

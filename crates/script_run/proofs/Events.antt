@@ -1,5 +1,5 @@
 -- What the calls of a client bring: some of the packets that it plays.
-use Rattle.script_run.proofs.Imports.{refl, sym, subst, ℕ, zero, suc, ◌+◌, ◌≤◌, List, [], ◌∷◌, length, drop, Option, Some, None, add-one, arith, length-take, All, IfSome, All-head, All-tail, All-nil, IsPacket, Packets, StandsAmong, joined, are_packets, are_placed, Input, Frontend, Act, brought, IsFrom, filled_act, Scripted, writes_of, Open, Request, Own, Pass, Batches, batch_at, call_of, pass_of, played, plays_of, sources}
+use Rattle.script_run.proofs.Imports.{refl, sym, subst, ℕ, zero, suc, ◌+◌, ◌≤◌, List, [], ◌∷◌, length, drop, Option, Some, None, add-one, arith, length-take, All, IfSome, All-head, All-tail, All-nil, IsPacket, Packets, StandsAmong, joined, are_packets, are_placed, Input, Frontend, Act, brought, IsFrom, filled_act, Scripted, writes_of, Open, ClientRequest, Own, Pass, Batches, batch_at, call_of, pass_of, played, plays_of, sources}
 use Rattle.dmx_calls.specs.declared.params.Input.TheVariants.{Dvr}
 use Rattle.dmx_calls.specs.declared.log.Act.TheVariants as act
 
@@ -21,9 +21,9 @@ pass_from all None moment stands = refl
 pass_from all (Some batch) moment stands = stands
 
 -- a client's call brings some of the packets that it plays
-pub from_client : (script : Scripted) (stream : List (List ℕ)) (client : ℕ) (w : Request) (moment : ℕ) → IsFrom (sources script stream (client + 1)) (call_of (plays_of client script) w moment)
+pub from_client : (script : Scripted) (stream : List (List ℕ)) (client : ℕ) (w : ClientRequest) (moment : ℕ) → IsFrom (sources script stream (client + 1)) (call_of (plays_of client script) w moment)
 from_client script stream client w moment = subst (λ n. IsFrom (sources script stream n) (call_of (plays_of client script) w moment)) (sym (add-one client)) (go w) where
-  go : (w : Request) → IsFrom (sources script stream (suc client)) (call_of (plays_of client script) w moment)
+  go : (w : ClientRequest) → IsFrom (sources script stream (suc client)) (call_of (plays_of client script) w moment)
   go (Pass write) =
       pass_from (sources script stream (suc client)) (batch_at (plays_of client script) write) moment
       (batch_stands (played client script) (plays_of client script) write (are_placed (writes_of client script.writes)))
@@ -31,7 +31,7 @@ from_client script stream client w moment = subst (λ n. IsFrom (sources script 
   go _ = tt
 
 -- the same with its number behind another
-pub is_from : (script : Scripted) (stream : List (List ℕ)) (client : ℕ) (w : Request) (moment : ℕ) → IsFrom (sources script stream (suc client)) (call_of (plays_of client script) w moment)
+pub is_from : (script : Scripted) (stream : List (List ℕ)) (client : ℕ) (w : ClientRequest) (moment : ℕ) → IsFrom (sources script stream (suc client)) (call_of (plays_of client script) w moment)
 is_from script stream client w moment = subst (λ n. IsFrom (sources script stream n) (call_of (plays_of client script) w moment)) (add-one client) (from_client script stream client w moment)
 
 -- ------ how many

@@ -13,11 +13,11 @@ pub use Rattle.client_core.specs.PlayLaws.{StandsAmong, packets_in}
 pub use Rattle.client_core.specs.Plays.{cut_of, joined, plays}
 pub use Rattle.client_core.specs.Stc.{exchanges, with_reply}
 pub use Rattle.client_core.specs.Steps.{first}
-pub use Rattle.client_core.specs.declared.command.Command.{Command, Command as ClientCommand}
+pub use Rattle.client_core.specs.declared.command.ClientCommand.{ClientCommand}
 pub use Rattle.client_core.specs.declared.deed.Deed.{Deed}
 pub use Rattle.client_core.specs.declared.deed.Deed.TheVariants.{Drain, GetStc, Once, ReadWait, Write}
-pub use Rattle.client_core.specs.declared.event.Request.{Request}
-pub use Rattle.client_core.specs.declared.event.Request.TheVariants.{Own, Pass}
+pub use Rattle.client_core.specs.declared.event.ClientRequest.{ClientRequest}
+pub use Rattle.client_core.specs.declared.event.ClientRequest.TheVariants.{Own, Pass}
 pub use Rattle.client_core.specs.declared.task.Ending.{Ending}
 pub use Rattle.client_script.specs.Grammar.{IsInRange}
 pub use Rattle.client_script.specs.Script.{clients_of, named_among, named_by, named_in, writes_of}

@@ -1,5 +1,5 @@
 -- The passes of a client: each is of a write whose poll was Ready, and passes the nodes one after another.
-use Rattle.script_run.proofs.Imports.{◌≡◌, refl, sym, ap, ◌∙◌, ℕ, zero, suc, ◌+◌, ◌≤◌, Bool, true, false, nat_eq, List, [], ◌∷◌, ◌++◌, append-nil, Option, Some, None, length, map, filter, take, slice_get, arith, if◌then◌else◌, slice_index_or, filter_map, is_some, unwrap_or, flat_map, cons_option, flat_map-append, map-append, take_all, filter-append, at_place, Packets, LogEntry, act_of, filled_act, fills, Response, Ready, Scripted, Line, Feed, Tick, CommandLine, Verb, Target, Node, Slot, Dvr, Open, Command, Deed, Once, ReadWait, Drain, GetStc, Write, Event, Request, Own, Pass, Ending, Batches, batch_at, deed_of, Slots, Doing, stands, through, done, call_of, commands_among, commands_in, commands_of, pass_of, plays_of, slots_after, progress_from, no_slots, next_event, AreAsked, replies, sources, played_at, played_from, played_in, played_on, WritesPass, from_the_dvr, pass_in, pass_at, passes_on, exchanges, with_reply, exchanges_more, passed_by, passes_by, passes_behind, event_in, no_passes, own_write, done_passes, first_and_rest, by_calls, first, inl, inr, ◌⊎◌}
+use Rattle.script_run.proofs.Imports.{◌≡◌, refl, sym, ap, ◌∙◌, ℕ, zero, suc, ◌+◌, ◌≤◌, Bool, true, false, nat_eq, List, [], ◌∷◌, ◌++◌, append-nil, Option, Some, None, length, map, filter, take, slice_get, arith, if◌then◌else◌, slice_index_or, filter_map, is_some, unwrap_or, flat_map, cons_option, flat_map-append, map-append, take_all, filter-append, at_place, Packets, LogEntry, act_of, filled_act, fills, Response, Ready, Scripted, Line, Feed, Tick, CommandLine, Verb, Target, Node, Slot, Dvr, Open, ClientCommand, Deed, Once, ReadWait, Drain, GetStc, Write, Event, ClientRequest, Own, Pass, Ending, Batches, batch_at, deed_of, Slots, Doing, stands, through, done, call_of, commands_among, commands_in, commands_of, pass_of, plays_of, slots_after, progress_from, no_slots, next_event, AreAsked, replies, sources, played_at, played_from, played_in, played_on, WritesPass, from_the_dvr, pass_in, pass_at, passes_on, exchanges, with_reply, exchanges_more, passed_by, passes_by, passes_behind, event_in, no_passes, own_write, done_passes, first_and_rest, by_calls, first, inl, inr, ◌⊎◌}
 use Rattle.client_script.specs.declared.line.Verb.TheVariants as verb
 use Rattle.client_core.specs.Events.{progress}
 use Rattle.client_core.specs.Passes.{played_writes}
@@ -29,7 +29,7 @@ abbrev IsDeed : Batches → Deed → Type 0
 IsDeed batches (Write write true) = is_some (batch_at batches write) ≡ true
 IsDeed batches _ = Unit {0}
 
-abbrev AreDeeds : Batches → List Command → Type 0
+abbrev AreDeeds : Batches → List ClientCommand → Type 0
 AreDeeds batches [] = Unit {0}
 AreDeeds batches (c ∷ cs) = IsDeed batches c.deed × AreDeeds batches cs
 
@@ -48,7 +48,7 @@ module _ (batches : Batches) where
     go true yea = yea
     go false nay = tt
 
-  line_deeds : (client : ℕ) (l : Line) (cs : List Command) → AreDeeds batches cs → AreDeeds batches (commands_in client batches l ++ cs)
+  line_deeds : (client : ℕ) (l : Line) (cs : List ClientCommand) → AreDeeds batches cs → AreDeeds batches (commands_in client batches l ++ cs)
   line_deeds client (CommandLine line who target v) cs are = go (nat_eq who client) where
     go : (b : Bool) → AreDeeds batches ((if b then record { line = line; target = target; deed = deed_of batches v } ∷ [] else []) ++ cs)
     go true = (verb_deed v, are)
@@ -83,7 +83,7 @@ module _ (batches : Batches) where
   both_batches [] ys are also = also
   both_batches (x ∷ xs) ys are also = (are.0, both_batches xs ys are.1 also)
 
-  from_batches : (slots : Slots) (step : ℕ) (cs : List Command) (rs : List Response) → AreDeeds batches cs → AreBatches batches (played_from slots step cs rs)
+  from_batches : (slots : Slots) (step : ℕ) (cs : List ClientCommand) (rs : List Response) → AreDeeds batches cs → AreBatches batches (played_from slots step cs rs)
   from_batches slots step [] rs are = tt
   from_batches slots step (c ∷ cs) rs are = go (λ ending next left. from_batches (slots_after ending slots) next cs left are.1) (done slots c.target c.deed step rs) where
     go : ((ending : Ending) (next : ℕ) (left : List Response) → AreBatches batches (played_from (slots_after ending slots) next cs left))
@@ -112,7 +112,7 @@ module _ (batches : Batches) where
   none_either true = refl
   none_either false = refl
 
-  event_brings : (node at moment : ℕ) (w : Request) → (if nat_eq at node then from_the_dvr (call_of batches w moment) else []) ≡ map batch_of (if nat_eq at node then pass_in w else [])
+  event_brings : (node at moment : ℕ) (w : ClientRequest) → (if nat_eq at node then from_the_dvr (call_of batches w moment) else []) ≡ map batch_of (if nat_eq at node then pass_in w else [])
   event_brings node at moment (Pass write) = go (nat_eq at node) where
     go : (b : Bool) → (if b then from_the_dvr (pass_of (batch_at batches write) moment) else []) ≡ map batch_of (if b then write ∷ [] else [])
     go true = pass_brings (batch_at batches write) moment
@@ -158,7 +158,7 @@ module _ (script : Scripted) (client : ℕ) (log : List LogEntry) (events : AreA
         ap (flat_map brought) (filter-append (λ (e : LogEntry). nat_eq e.node node) xs ys)
         ∙ flat_map-append brought (filter (λ e. nat_eq e.node node) xs) (filter (λ e. nat_eq e.node node) ys)
 
-    asks_for : (e : LogEntry) (w : Request) (moment : ℕ) → e.who ≡ client + 1 → e.act ≡ act_of (call_of batches w moment) → brought e ≡ from_the_dvr (call_of batches w moment)
+    asks_for : (e : LogEntry) (w : ClientRequest) (moment : ℕ) → e.who ≡ client + 1 → e.act ≡ act_of (call_of batches w moment) → brought e ≡ from_the_dvr (call_of batches w moment)
     asks_for e w moment who act =
         ap (λ k. from_the_dvr (filled_act (sources script stream k) e.act)) who ∙ ap (λ c. from_the_dvr (filled_act (sources script stream (client + 1)) c)) act
         ∙ ap from_the_dvr (fills (sources script stream (client + 1)) (call_of batches w moment) (from_client script stream client w moment))
@@ -221,7 +221,7 @@ module _ (node : ℕ) (worth : ℕ → ℕ) where
   own_worth (Drain count) ws (inr all) = rw all (omega arith)
   own_worth (GetStc num) ws (inr all) = rw all (omega arith)
 
-  all_worth : (slots : Slots) (step : ℕ) (cs : List Command) (rs : List Response) → sum_of worth (passes_by node (λ m. event_in (progress_from slots step cs m)) rs) ≤ sum_of (λ c. worth_of worth c.deed) cs
+  all_worth : (slots : Slots) (step : ℕ) (cs : List ClientCommand) (rs : List Response) → sum_of worth (passes_by node (λ m. event_in (progress_from slots step cs m)) rs) ≤ sum_of (λ c. worth_of worth c.deed) cs
   all_worth slots step [] rs = omega (arith, ap (sum_of worth) (no_passes node rs))
   all_worth slots step (c ∷ cs) rs =
       let ws : List ℕ = passed_by node (first slots c.target c.deed) step rs in

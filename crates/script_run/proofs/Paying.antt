@@ -1,6 +1,6 @@
 -- At each moment of a run, the commands and the bytes pay for the calls of a client: a repeat that follows bytes is paid for by
 -- them, and a repeat that follows Again by the entry right behind the read, which is the feeder's or adds no repeat to its own client's.
-use Rattle.script_run.proofs.Imports.{◌≡◌, ◌≢◌, refl, sym, ap, subst, ◌∙◌, ℕ, zero, suc, ◌+◌, ◌*◌, ◌<◌, ◌≤◌, Bool, true, false, nat_eq, List, [], ◌∷◌, ◌++◌, Option, Some, None, length, filter, slice_get, inl, inr, arith, ◌⊎◌, if◌then◌else◌, All, nat_tests, All-weaker, slice_get_within, Has, at_place, one_value, has_at, IsPacket, Ebadf, LogEntry, Sources, act_of, filled_act, filled_entry, HasRead, Response, Refused, Line, Feed, Tick, Target, Verb, clients_in, Scripted, ClientCommand, Event, Request, Own, Pass, Open, Packets, packets_in, Batches, batch_at, deed_of, call_of, commands_among, ends_drain, pass_of, played, plays_of, all_commands, bytes_in, most_calls, AreAsked, StandsIn, replies, sources, Payers, feeder, others, MayPay, IsPaidBehind, HasDoneSoFar, IsSoFar, commands_for, CallsArePaid, pass_in, pass_at}
+use Rattle.script_run.proofs.Imports.{◌≡◌, ◌≢◌, refl, sym, ap, subst, ◌∙◌, ℕ, zero, suc, ◌+◌, ◌*◌, ◌<◌, ◌≤◌, Bool, true, false, nat_eq, List, [], ◌∷◌, ◌++◌, Option, Some, None, length, filter, slice_get, inl, inr, arith, ◌⊎◌, if◌then◌else◌, All, nat_tests, All-weaker, slice_get_within, Has, at_place, one_value, has_at, IsPacket, Ebadf, LogEntry, Sources, act_of, filled_act, filled_entry, HasRead, Response, Refused, Line, Feed, Tick, Target, Verb, clients_in, Scripted, ClientCommand, Event, ClientRequest, Own, Pass, Open, Packets, packets_in, Batches, batch_at, deed_of, call_of, commands_among, ends_drain, pass_of, played, plays_of, all_commands, bytes_in, most_calls, AreAsked, StandsIn, replies, sources, Payers, feeder, others, MayPay, IsPaidBehind, HasDoneSoFar, IsSoFar, commands_for, CallsArePaid, pass_in, pass_at}
 use Rattle.client_script.specs.declared.line.Line.TheVariants.{Command}
 use Rattle.script_run.proofs.Lists.{has_filter}
 use Rattle.script_run.proofs.Counting.{total, total_le, total_add, total_same, total_33, total_but, total_one, one_at, but, sum_of, Pool, both, all_pools, HaveTokens, counts_fit, weigh_places, weight_at, weight_got}
@@ -72,7 +72,7 @@ zero_either : (batches : Batches) (b : Bool) → (if b then 0 else 0) ≤ sum_of
 zero_either batches true = omega arith
 zero_either batches false = omega arith
 
-asked_size : (batches : Batches) (node at moment : ℕ) (w : Request) → (if nat_eq at node then count_of (act_of (call_of batches w moment)) else 0) ≤ sum_of (write_size batches) (if nat_eq at node then pass_in w else [])
+asked_size : (batches : Batches) (node at moment : ℕ) (w : ClientRequest) → (if nat_eq at node then count_of (act_of (call_of batches w moment)) else 0) ≤ sum_of (write_size batches) (if nat_eq at node then pass_in w else [])
 asked_size batches node at moment (Pass write) = go (nat_eq at node) where
   go : (b : Bool) → (if b then count_of (act_of (pass_of (batch_at batches write) moment)) else 0) ≤ sum_of (write_size batches) (if b then write ∷ [] else [])
   go true = omega (arith, pass_size (batch_at batches write) moment)

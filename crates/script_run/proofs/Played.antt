@@ -1,5 +1,5 @@
 -- The packets that the writes complete which a script's lines name.
-use Rattle.script_run.proofs.Imports.{◌≡◌, refl, sym, ap, subst, ◌∙◌, ℕ, zero, suc, ◌+◌, ◌*◌, ◌≤◌, Bool, true, false, nat_eq, List, [], ◌∷◌, ◌++◌, length, map, None, arith, length-append, sum, if◌then◌else◌, flat_map, range_with_len, get_or-append_seam, sum_by-cons, plays, joined, cut_of, packets_in, few_in, are_joined, are_counted, Line, Feed, Tick, CommandLine, Verb, Scripted, writes_of, named_by, named_in, named_among, Command, Deed, Once, ReadWait, Drain, GetStc, Write, Batches, batch_at, deed_of, played, plays_of, commands_in, commands_among, bytes_written}
+use Rattle.script_run.proofs.Imports.{◌≡◌, refl, sym, ap, subst, ◌∙◌, ℕ, zero, suc, ◌+◌, ◌*◌, ◌≤◌, Bool, true, false, nat_eq, List, [], ◌∷◌, ◌++◌, length, map, None, arith, length-append, sum, if◌then◌else◌, flat_map, range_with_len, get_or-append_seam, sum_by-cons, plays, joined, cut_of, packets_in, few_in, are_joined, are_counted, Line, Feed, Tick, CommandLine, Verb, Scripted, writes_of, named_by, named_in, named_among, ClientCommand, Deed, Once, ReadWait, Drain, GetStc, Write, Batches, batch_at, deed_of, played, plays_of, commands_in, commands_among, bytes_written}
 use Rattle.std.proofs.lemmas.List.{append_assoc}
 use Rattle.client_script.specs.declared.line.Verb.TheVariants as verb
 use Rattle.script_run.proofs.Counting.{total, total_le, total_same, total_first, sum_of}
@@ -21,11 +21,11 @@ abbrev write_in : Deed → List ℕ
 write_in (Write write has) = write ∷ []
 write_in _ = []
 
-abbrev writes_in : List Command → List ℕ
+abbrev writes_in : List ClientCommand → List ℕ
 writes_in [] = []
 writes_in (c ∷ cs) = write_in c.deed ++ writes_in cs
 
-writes_append : (xs ys : List Command) → writes_in (xs ++ ys) ≡ writes_in xs ++ writes_in ys
+writes_append : (xs ys : List ClientCommand) → writes_in (xs ++ ys) ≡ writes_in xs ++ writes_in ys
 writes_append [] ys = refl
 writes_append (x ∷ xs) ys = ap (λ ws. write_in x.deed ++ ws) (writes_append xs ys) ∙ sym (append_assoc (write_in x.deed) (writes_in xs) (writes_in ys))
 
@@ -36,7 +36,7 @@ one_worth f (Drain count) = refl
 one_worth f (GetStc num) = refl
 one_worth f (Write write has) = omega arith
 
-all_worth : (f : ℕ → ℕ) (cs : List Command) → sum_of (λ (c : Command). worth_of f c.deed) cs ≡ weight f (writes_in cs)
+all_worth : (f : ℕ → ℕ) (cs : List ClientCommand) → sum_of (λ (c : ClientCommand). worth_of f c.deed) cs ≡ weight f (writes_in cs)
 all_worth f [] = omega arith
 all_worth f (c ∷ cs) = omega (arith, one_worth f c.deed, weight_append f (write_in c.deed) (writes_in cs), all_worth f cs)
 
@@ -87,7 +87,7 @@ all_played ws =
 
 -- Where the lines of a client name its writes each once, the packets that these complete are those that the client plays.
 pub named_once : (client : ℕ) (script : Scripted) → named_among client script.lines ≡ range_with_len 0 (length (writes_of client script.writes))
-    → sum_of (λ (c : Command). worth_of (packets_at (plays_of client script)) c.deed) (commands_among client (plays_of client script) script.lines) ≡ length (played client script)
+    → sum_of (λ (c : ClientCommand). worth_of (packets_at (plays_of client script)) c.deed) (commands_among client (plays_of client script) script.lines) ≡ length (played client script)
 named_once client script numbered =
     all_worth (packets_at (plays_of client script)) (commands_among client (plays_of client script) script.lines)
     ∙ ap (weight (packets_at (plays_of client script))) (writes_named client (plays_of client script) script.lines ∙ numbered) ∙ all_played (writes_of client script.writes)

@@ -1,6 +1,6 @@
 -- How often a client repeats a read, by its log: each repeat follows a read that gave bytes, named some as lost, or was
 -- answered Again, after which the client waits on the same node.
-use Rattle.script_run.proofs.Imports.{◌≡◌, refl, sym, ap, subst, ◌∙◌, ℕ, zero, suc, ◌+◌, ◌-◌, ◌*◌, ◌<◌, ◌≤◌, Bool, true, false, List, [], ◌∷◌, ◌++◌, Option, Some, None, length, take, slice_get, inl, inr, arith, ◌⊎◌, if◌then◌else◌, IsSome, map-append, Act, ReadAct, LogEntry, act_of, Response, Done, Busy, Refused, NoMemory, Data, Again, Overflow, TimedOut, Ready, Passed, Scripted, Event, Request, Own, Pass, Open, Packets, Batches, batch_at, call_of, commands_of, ends_drain, pass_of, plays_of, Standing, progress, next_event, waits_on, no_slots, AreAsked, IsEvent, replies, bytes_in, added_by, one_reply_more, some_of, repeats_none, at_place, first_calls, stays_on}
+use Rattle.script_run.proofs.Imports.{◌≡◌, refl, sym, ap, subst, ◌∙◌, ℕ, zero, suc, ◌+◌, ◌-◌, ◌*◌, ◌<◌, ◌≤◌, Bool, true, false, List, [], ◌∷◌, ◌++◌, Option, Some, None, length, take, slice_get, inl, inr, arith, ◌⊎◌, if◌then◌else◌, IsSome, map-append, Act, ReadAct, LogEntry, act_of, Response, Done, Busy, Refused, NoMemory, Data, Again, Overflow, TimedOut, Ready, Passed, Scripted, Event, ClientRequest, Own, Pass, Open, Packets, Batches, batch_at, call_of, commands_of, ends_drain, pass_of, plays_of, Standing, progress, next_event, waits_on, no_slots, AreAsked, IsEvent, replies, bytes_in, added_by, one_reply_more, some_of, repeats_none, at_place, first_calls, stays_on}
 use Rattle.client_core.specs.Repeats.{repeats}
 use Rattle.script_run.proofs.Counting.{total, total_le, total_add, weigh, weight_at, weigh_places, weight_got}
 use Rattle.script_run.proofs.Lists.{take_next, length_taken}
@@ -21,7 +21,7 @@ passed_adds : (batch : Option Packets) (moment : ℕ) (r : Response) → adds_to
 passed_adds None m r = refl
 passed_adds (Some batch) m r = refl
 
-asked : (batches : Batches) (w : Request) (moment : ℕ) (r : Response) → adds_to (act_of (call_of batches w moment)) r ≡ added_by w r
+asked : (batches : Batches) (w : ClientRequest) (moment : ℕ) (r : Response) → adds_to (act_of (call_of batches w moment)) r ≡ added_by w r
 asked batches (Own Open) m r = refl
 asked batches (Pass write) m r = passed_adds (batch_at batches write) m r
 asked batches _ m r = refl

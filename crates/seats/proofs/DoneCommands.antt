@@ -1,7 +1,7 @@
 -- Each command that a request spells is done by its calls, as a script's command is.
-use Rattle.seats.proofs.Imports.{◌≡◌, ◌≢◌, ℕ, zero, suc, ◌+◌, ◌<◌, ◌≤◌, Bool, true, false, nat_lt, eq-eqb, ne_eqb, List, [], ◌∷◌, ◌++◌, length, take, Some, None, IsTrue, refl, ap, sym, ◌∙◌, subst, arith, slice_get, if◌then◌else◌, nat_tests, dite, ℕ_discrete, DEMUX_NODES, OpenAct, WasDone, WasEmfile, KeepTap, AttachTap, DetachTap, LogEntry, act_of, Response, TapChange, Done, Busy, Refused, NoMemory, Data, Again, Overflow, TimedOut, Ready, Passed, Node, Dvr, Want, Open, Close, Section, Pes, Add, Remove, Size, Once, Event, Request, Own, Ending, WasMade, Bound, AllBusy, Batches, Doing, stands, through, Slots, told, called, opened, done, own_call, call_of, Counters, kind_by, IsEvent, replies, IsGiven, act_by_tap, act_behind, IsBehind, is_busy, DoneCommand, done_command, target_of, opened_kind}
+use Rattle.seats.proofs.Imports.{◌≡◌, ◌≢◌, ℕ, zero, suc, ◌+◌, ◌<◌, ◌≤◌, Bool, true, false, nat_lt, eq-eqb, ne_eqb, List, [], ◌∷◌, ◌++◌, length, take, Some, None, IsTrue, refl, ap, sym, ◌∙◌, subst, arith, slice_get, if◌then◌else◌, nat_tests, dite, ℕ_discrete, DEMUX_NODES, OpenAct, WasDone, WasEmfile, KeepTap, AttachTap, DetachTap, LogEntry, act_of, Response, TapChange, Done, Busy, Refused, NoMemory, Data, Again, Overflow, TimedOut, Ready, Passed, Node, Dvr, Want, Open, Close, Section, Pes, Add, Remove, Size, Once, Event, ClientRequest, Own, Ending, WasMade, Bound, AllBusy, Batches, Doing, stands, through, Slots, told, called, opened, done, own_call, call_of, Counters, kind_by, IsEvent, replies, IsGiven, act_by_tap, act_behind, IsBehind, is_busy, DoneCommand, done_command, target_of, opened_kind}
 use Rattle.client_script.specs.declared.line.Want.TheVariants.{Start, Stop, Read, Poll}
-use Rattle.client_core.specs.declared.event.Request.TheVariants.{Attach, Detach}
+use Rattle.client_core.specs.declared.event.ClientRequest.TheVariants.{Attach, Detach}
 
 -- ------ what a command does by the replies to these calls
 
@@ -29,7 +29,7 @@ fits_none may ending = record {
 }
 
 -- one call, and then these
-pub fits_more : (may : ℕ → Bool) (does next : Steps) (ending : Ending) (node : ℕ) (want : Request) (moment : ℕ) (b : LogEntry) (rest : List LogEntry)
+pub fits_more : (may : ℕ → Bool) (does next : Steps) (ending : Ending) (node : ℕ) (want : ClientRequest) (moment : ℕ) (b : LogEntry) (rest : List LogEntry)
     → ((step : ℕ) → does step [] ≡ stands (record { step = step; node = node; want = want }))
     → ((step : ℕ) (rs : List Response) → does step (b.response ∷ rs) ≡ next (step + 1) rs)
     → b.node ≡ node → ((batches : Batches) → b.act ≡ act_of (call_of batches want moment)) → IsGiven may b.act

@@ -12,8 +12,8 @@ pub use Rattle.client_core.specs.Deeds.{Batches}
 pub use Rattle.client_core.specs.Events.{Ended, Progress, Standing, no_slots, progress_from, slots_after, waits_after, with_ended}
 pub use Rattle.client_core.specs.Outcomes.{Counters, counters_after, kind_by, outcome_by}
 pub use Rattle.client_core.specs.declared.event.Event.{Event}
-pub use Rattle.client_core.specs.declared.event.Request.{Request}
-pub use Rattle.client_core.specs.declared.event.Request.TheVariants.{Own}
+pub use Rattle.client_core.specs.declared.event.ClientRequest.{ClientRequest}
+pub use Rattle.client_core.specs.declared.event.ClientRequest.TheVariants.{Own}
 pub use Rattle.client_core.specs.declared.task.Ending.{Ending}
 pub use Rattle.client_core.specs.declared.task.Ending.TheVariants.{AllBusy, Bound, Made as WasMade}
 pub use Rattle.client_script.specs.declared.line.Want.TheVariants.{Add, Close, Open, Pes, Remove, Section, Size}
@@ -42,7 +42,7 @@ pub use Rattle.seats.specs.Asks.{IsWantInRange, ask_of, asked}
 pub use Rattle.seats.specs.Calls.{MakesCall, MakesCalls, PassesNone}
 pub use Rattle.seats.specs.Doing.{ClosesHeld, Does, DoesCommand, HasAnswered, HasGone, HasMade, Keeps, KeepsBy, KeepsClosed, KeepsOne, KeepsOpened, MakesOne, MarksNoMore}
 pub use Rattle.seats.specs.Holding.{AreMarked, CloseHeld, GivesBack, HasLeft, IsOwnPass, KnowsItsNodes, has_then, holds}
-pub use Rattle.seats.specs.Imports.{Act, Again, Appends, AreAsked, AreFreshCallers, Attach as AttachAct, Busy, Caller, Close as CloseAct, Command, Consumes, DEMUX_NODES, Data, Detach as DetachAct, Done, Dvr, Entry, Fits, IsAtEnd, IsGiven, KnowsItsCalls, LogEntry, MakesEntry, NoMemory, Node, Once, Open as OpenAct, Outcome, OutcomeKind, Overflow, Passed, Ready, Refused, Response, Scripted, SinkEnd, Slot, SourceEnd, TableId, TapChange, Target, TimedOut, View, Want, act_of, caller_of, commands_of, field, flat_map, invocation_of, is_accepted, own_call, raised, replies, response_of, told_entry, waits_on}
+pub use Rattle.seats.specs.Imports.{Act, Again, Appends, AreAsked, AreFreshCallers, Attach as AttachAct, Busy, Caller, Close as CloseAct, ClientCommand, Consumes, DEMUX_NODES, Data, Detach as DetachAct, Done, Dvr, Entry, Fits, IsAtEnd, IsGiven, KnowsItsCalls, LogEntry, MakesEntry, NoMemory, Node, Once, Open as OpenAct, Outcome, OutcomeKind, Overflow, Passed, Ready, Refused, Response, Scripted, SinkEnd, Slot, SourceEnd, TableId, TapChange, Target, TimedOut, View, Want, act_of, caller_of, commands_of, field, flat_map, invocation_of, is_accepted, own_call, raised, replies, response_of, told_entry, waits_on}
 pub use Rattle.seats.specs.Line.{BreaksOff, HasStopped, RunsOut, Takes, Writes}
 pub use Rattle.seats.specs.Numbered.{numbered}
 pub use Rattle.seats.specs.Scripts.{IsPlayed, LinesArePlayed}

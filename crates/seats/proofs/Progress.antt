@@ -1,5 +1,5 @@
 -- How far a client is whose commands were done one after another.
-use Rattle.seats.proofs.Imports.{◌≡◌, ◌≢◌, ◌⊎◌, ⊎_elim, ℕ, zero, suc, ◌+◌, ◌<◌, ◌≤◌, Bool, false, List, [], ◌∷◌, ◌++◌, length, map, take, Some, None, inl, inr, refl, ap, sym, ◌∙◌, subst, arith, slice_get, map-append, take-append-le, slice_get_within, take-append-add, Outcome, OutcomeKind, LogEntry, Response, Again, Command, Once, Event, stands, Slots, done, Standing, Ended, Progress, with_ended, slots_after, progress_from, waits_after, Counters, outcome_by, progress_of, waits_not, replies, IsGiven, DoneCommand, calls_in, line_behind, commands_by, outcomes_by}
+use Rattle.seats.proofs.Imports.{◌≡◌, ◌≢◌, ◌⊎◌, ⊎_elim, ℕ, zero, suc, ◌+◌, ◌<◌, ◌≤◌, Bool, false, List, [], ◌∷◌, ◌++◌, length, map, take, Some, None, inl, inr, refl, ap, sym, ◌∙◌, subst, arith, slice_get, map-append, take-append-le, slice_get_within, take-append-add, Outcome, OutcomeKind, LogEntry, Response, Again, ClientCommand, Once, Event, stands, Slots, done, Standing, Ended, Progress, with_ended, slots_after, progress_from, waits_after, Counters, outcome_by, progress_of, waits_not, replies, IsGiven, DoneCommand, calls_in, line_behind, commands_by, outcomes_by}
 use Rattle.seats.proofs.DoneCommands.{IsDone, IsEventOf}
 
 -- each of these was done
@@ -27,8 +27,8 @@ in_rest xs ys k a at = ⊎_elim (λ here. absurd (let low = slice_get_within xs 
 
 -- ------ behind one command
 
-module _ (may : ℕ → Bool) (slots : Slots) (count step : ℕ) (d : DoneCommand) (is : IsDone may d) (cs : List Command) where
-  abbrev c : Command
+module _ (may : ℕ → Bool) (slots : Slots) (count step : ℕ) (d : DoneCommand) (is : IsDone may d) (cs : List ClientCommand) where
+  abbrev c : ClientCommand
   c = record { line = line_behind count; target = d.target; deed = Once d.want }
 
   abbrev after : Slots

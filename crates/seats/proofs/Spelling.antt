@@ -1,5 +1,5 @@
 -- What was answered on a line is what the commands that it spells do.
-use Rattle.seats.proofs.Imports.{◌≡◌, ℕ, zero, suc, ◌+◌, ◌≤◌, Bool, true, false, eq-eqb, ne_eqb, List, [], ◌∷◌, ◌++◌, length, map, take, Option, Some, None, IsTrue, All, inl, inr, refl, ap, sym, ◌∙◌, subst, arith, slice_get, option_map, if◌then◌else◌, flat_map, append-nil, map-append, flat_map-append, slice_get_within, dite, ℕ_discrete, all_front, all_behind, DEMUX_NODES, CloseAct, OutcomeKind, WasDone, WasEmfile, KeepTap, AttachTap, DetachTap, LogEntry, act_of, Response, TapChange, Done, Busy, Refused, NoMemory, Data, Again, Overflow, TimedOut, Ready, Passed, Scripted, Target, Slot, Want, Open, Close, Command, AllBusy, commands_of, own_call, plays_of, Standing, Ended, Progress, progress_from, no_slots, waits_on, waits_after, outcome_by, counters_after, last_counts, AreAsked, IsEvent, replies, IsGiven, ask_of, Ask, OpenDemux, Call, Leave, RefusedAsk, Tell, act_by_tap, act_behind, IsBehind, IsCommand, AreBusy, IsClosing, AreClosings, IsOpened, IsAnsweredBy, IsAnswered, AreOnNodes, IsPlayed, LinesArePlayed, DoneCommand, done_command, calls_in, target_of, done_command_by, opened_kind, is_close, Closings, closings, commands_done_by, commands_by, outcomes_by, Turn, IsTurn, calls_of, spelled, take_next, add-one}
+use Rattle.seats.proofs.Imports.{◌≡◌, ℕ, zero, suc, ◌+◌, ◌≤◌, Bool, true, false, eq-eqb, ne_eqb, List, [], ◌∷◌, ◌++◌, length, map, take, Option, Some, None, IsTrue, All, inl, inr, refl, ap, sym, ◌∙◌, subst, arith, slice_get, option_map, if◌then◌else◌, flat_map, append-nil, map-append, flat_map-append, slice_get_within, dite, ℕ_discrete, all_front, all_behind, DEMUX_NODES, CloseAct, OutcomeKind, WasDone, WasEmfile, KeepTap, AttachTap, DetachTap, LogEntry, act_of, Response, TapChange, Done, Busy, Refused, NoMemory, Data, Again, Overflow, TimedOut, Ready, Passed, Scripted, Target, Slot, Want, Open, Close, ClientCommand, AllBusy, commands_of, own_call, plays_of, Standing, Ended, Progress, progress_from, no_slots, waits_on, waits_after, outcome_by, counters_after, last_counts, AreAsked, IsEvent, replies, IsGiven, ask_of, Ask, OpenDemux, Call, Leave, RefusedAsk, Tell, act_by_tap, act_behind, IsBehind, IsCommand, AreBusy, IsClosing, AreClosings, IsOpened, IsAnsweredBy, IsAnswered, AreOnNodes, IsPlayed, LinesArePlayed, DoneCommand, done_command, calls_in, target_of, done_command_by, opened_kind, is_close, Closings, closings, commands_done_by, commands_by, outcomes_by, Turn, IsTurn, calls_of, spelled, take_next, add-one}
 use Rattle.lemmas.proofs.Lists.{at_place}
 use Rattle.client_core.specs.Events.{progress}
 use Rattle.seats.specs.Spelled.{with_call}
@@ -199,7 +199,7 @@ module _ (may : ℕ → Bool) where
 module _ (may : ℕ → Bool) (client : ℕ) (script : Scripted) (ds : List DoneCommand) (done : AreDone may ds) (are : commands_of client script ≡ commands_by 0 ds) where
   how_far : (rs : List Response) → progress client script rs ≡ progress_from no_slots 0 (commands_by 0 ds) rs
   unfolding progress
-  how_far rs = ap (λ (cs : List Command). progress_from no_slots 0 cs rs) are
+  how_far rs = ap (λ (cs : List ClientCommand). progress_from no_slots 0 cs rs) are
 
   there : (i : ℕ) (e : LogEntry) → slice_get (calls_in ds) i ≡ Some e → Stands may (progress client script (replies (take i (calls_in ds)))) (calls_in ds) i e
   there i e at = subst (λ (p : Progress). Stands may p (calls_in ds) i e) (sym (how_far (replies (take i (calls_in ds))))) (stands_before may no_slots 0 0 ds done i e at)

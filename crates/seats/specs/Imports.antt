@@ -7,7 +7,7 @@ pub use Rattle.byteorder.specs.Endian.{little_bytes}
 pub use Rattle.client_core.specs.Commands.{commands_of, own_call}
 pub use Rattle.client_core.specs.Events.{next_event, waits_on}
 pub use Rattle.client_core.specs.Outcomes.{outcomes}
-pub use Rattle.client_core.specs.declared.command.Command.{Command}
+pub use Rattle.client_core.specs.declared.command.ClientCommand.{ClientCommand}
 pub use Rattle.client_core.specs.declared.deed.Deed.TheVariants.{Once}
 pub use Rattle.client_script.specs.Requests.{want_of}
 pub use Rattle.client_script.specs.Script.{Scripted}

@@ -1,6 +1,6 @@
 -- The commands of a script that the requests of a line spell, by the calls that were made for them.
 use Rattle.std.specs.Prelude.{◌≡◌, ◌++◌, ◌+◌, ◌-◌, ◌^◌, ℕ, Bool, true, false, nat_eq, nat_lt, if◌then◌else◌, List, [], ◌∷◌, length}
-use Rattle.seats.specs.Imports.{Act, Close as CloseAct, Command, DEMUX_NODES, Dvr, LogEntry, Node, Once, Outcome, OutcomeKind, Slot, Target, Want, flat_map}
+use Rattle.seats.specs.Imports.{Act, Close as CloseAct, ClientCommand, DEMUX_NODES, Dvr, LogEntry, Node, Once, Outcome, OutcomeKind, Slot, Target, Want, flat_map}
 use Rattle.dmx_calls.specs.declared.outcome.OutcomeKind.TheVariants.{Done as WasDone, Emfile as WasEmfile}
 use Rattle.client_script.specs.declared.line.Want.TheVariants.{Open, Close}
 use Rattle.seats.specs.declared.serve_frames.ask.Ask.{Ask}
@@ -69,7 +69,7 @@ abbrev pub line_behind : (count : ℕ) → ℕ
 line_behind count = if nat_lt count (2 ^ 32 - 1) then count + 1 else 2 ^ 32 - 1
 
 -- these as commands of a client, behind so many
-abbrev pub commands_by : (count : ℕ) → List DoneCommand → List Command
+abbrev pub commands_by : (count : ℕ) → List DoneCommand → List ClientCommand
 commands_by count [] = []
 commands_by count (d ∷ ds) =
     record { line = line_behind count; target = d.target; deed = Once d.want } ∷ commands_by (count + 1) ds

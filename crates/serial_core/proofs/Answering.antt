@@ -1,9 +1,9 @@
 -- Which calls leave the packets of a node and its end as they were.
-use Rattle.serial_core.proofs.Imports.{◌≡◌, refl, ap, ◌∙◌, ℕ, Bool, true, false, [], ◌∷◌, Option, Some, None, ◌||◌, Invocation, Response, Passed, is_accepted, History, event, entry_of, is_end, has_ended, Rules, has_ended_refused, has_ended_after, Request, Own, Batches, batch_at, Packets, Open, call_of, pass_of, from_frontend}
+use Rattle.serial_core.proofs.Imports.{◌≡◌, refl, ap, ◌∙◌, ℕ, Bool, true, false, [], ◌∷◌, Option, Some, None, ◌||◌, Invocation, Response, Passed, is_accepted, History, event, entry_of, is_end, has_ended, Rules, has_ended_refused, has_ended_after, ClientRequest, Own, Batches, batch_at, Packets, Open, call_of, pass_of, from_frontend}
 use Rattle.dmx_calls.specs.Invocation as call
 use Rattle.dmx_calls.specs.Facts.{facts}
 use Rattle.dmx_calls.specs.Answer.{answer}
-use Rattle.client_core.specs.declared.event.Request.TheVariants.{Pass}
+use Rattle.client_core.specs.declared.event.ClientRequest.TheVariants.{Pass}
 
 -- ------ calls of the feeder and of clients
 
@@ -26,7 +26,7 @@ pass_brings : (o : Option Packets) (now : ℕ) → from_frontend (pass_of o now)
 pass_brings None now = refl
 pass_brings (Some batch) now = refl
 
-pub none_brought : (batches : Batches) (w : Request) (now : ℕ) → from_frontend (call_of batches w now) ≡ []
+pub none_brought : (batches : Batches) (w : ClientRequest) (now : ℕ) → from_frontend (call_of batches w now) ≡ []
 none_brought batches (Own Open) now = refl
 none_brought batches (Pass write) now = pass_brings (batch_at batches write) now
 none_brought batches _ now = refl
@@ -36,7 +36,7 @@ pass_ends : (o : Option Packets) (now who : ℕ) (r : Response) (h : History) �
 pass_ends None now who r h = refl
 pass_ends (Some batch) now who r h = refl
 
-pub no_end : (batches : Batches) (w : Request) (now who : ℕ) (r : Response) (h : History) → is_end (event (entry_of who (call_of batches w now) r) h) ≡ false
+pub no_end : (batches : Batches) (w : ClientRequest) (now who : ℕ) (r : Response) (h : History) → is_end (event (entry_of who (call_of batches w now) r) h) ≡ false
 no_end batches (Own Open) now who r h = refl
 no_end batches (Pass write) now who r h = pass_ends (batch_at batches write) now who r h
 no_end batches _ now who r h = refl

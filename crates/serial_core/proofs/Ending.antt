@@ -1,12 +1,12 @@
 -- What a run leaves.
-use Rattle.serial_core.proofs.Imports.{◌^◌, length-append, Result, Ok, Err, IfOk, ◌≡◌, refl, sym, ap, subst, ◌∙◌, ℕ, suc, ◌+◌, ◌≤◌, ◌<◌, true, List, [], ◌∷◌, ◌++◌, length, map, add-one, append-nil, arith, slice_index_or, range_with_len, length-map, get_or-replicate, get_or_append_left, IsPacket, cut, map-map, length-range_with_len, DEMUX_NODES, told_entry, Act, feeder_acts, histories_of, woven, woven_nodes, SourceEnd, IsInRange, AreNumbered, Scripted, Seat, Nodes, Core, IsAfter, outcomes, all_commands, bytes_written, most_calls, told_head, head_of, Pulls, IsDone, Pulls-done, Pulls-front, Pulls-size, Left, Runner, Node, log_of, Run, begun, replies_of, IsSerialRun, Pairs, IsSeat, IsNodes, acts_on, acts_of, AreLegal, IsAt, Moves, AreAfter, IsWholeBy, AllOverrunBy, IsLeftBy, IsFreshRunner, AreFreshCores, histories_in, OfStream, are_packets, commands_shared}
+use Rattle.serial_core.proofs.Imports.{◌^◌, length-append, Result, Ok, Err, IfOk, ◌≡◌, refl, sym, ap, subst, ◌∙◌, ℕ, suc, ◌+◌, ◌≤◌, ◌<◌, true, List, [], ◌∷◌, ◌++◌, length, map, add-one, append-nil, arith, slice_index_or, range_with_len, length-map, get_or-replicate, get_or_append_left, IsPacket, cut, map-map, length-range_with_len, DEMUX_NODES, told_entry, Act, feeder_acts, histories_of, woven, woven_nodes, SourceEnd, IsInRange, AreNumbered, Scripted, SerialNode, Nodes, Core, IsAfter, outcomes, all_commands, bytes_written, most_calls, told_head, head_of, Pulls, IsDone, Pulls-done, Pulls-front, Pulls-size, Left, Runner, Node, log_of, Run, begun, replies_of, IsSerialRun, Pairs, IsSeat, IsNodes, acts_on, acts_of, AreLegal, IsAt, Moves, AreAfter, IsWholeBy, AllOverrunBy, IsLeftBy, IsFreshRunner, AreFreshCores, histories_in, OfStream, are_packets, commands_shared}
 use Rattle.std.specs.Prelude.{All}
 use Rattle.serial_core.proofs.Lawful.{serial_legal}
 use Rattle.serial_core.proofs.Runs.{within_budget}
 
 -- ------ histories
 
-nodes_woven : (first : ℕ) (acts : List Act) (seats : List Seat) (ns : List Node) → Pairs (IsSeat acts) seats ns → map (λ n. n.number) ns ≡ range_with_len first (length ns)
+nodes_woven : (first : ℕ) (acts : List Act) (seats : List SerialNode) (ns : List Node) → Pairs (IsSeat acts) seats ns → map (λ n. n.number) ns ≡ range_with_len first (length ns)
     → woven_nodes first acts (map (λ seat. map told_entry seat.entries.items) seats) ≡ map (λ n. (log_of n).entries) ns
 nodes_woven first acts [] [] p numbers = refl
 nodes_woven first acts [] (n ∷ ns) p numbers = absurd p

@@ -1,5 +1,5 @@
 -- The feeder's call on one demux node after the other.
-use Rattle.serial_core.proofs.Imports.{◌≡◌, refl, sym, ap, subst, ◌∙◌, ℕ, zero, suc, ◌+◌, ◌-◌, ◌<◌, ◌≤◌, ◌^◌, List, [], ◌∷◌, ◌++◌, length, map, replicate, get_or, set, add-one, arith, length-replicate, get_or-replicate, DEMUX_NODES, Invocation, Act, act_of, Seat, Node, answered, Pairs, IsSeat, IsUnder, AreUnder, entries_in}
+use Rattle.serial_core.proofs.Imports.{◌≡◌, refl, sym, ap, subst, ◌∙◌, ℕ, zero, suc, ◌+◌, ◌-◌, ◌<◌, ◌≤◌, ◌^◌, List, [], ◌∷◌, ◌++◌, length, map, replicate, get_or, set, add-one, arith, length-replicate, get_or-replicate, DEMUX_NODES, Invocation, Act, act_of, SerialNode, Node, answered, Pairs, IsSeat, IsUnder, AreUnder, entries_in}
 use Rattle.serial_core.proofs.Pairs.{map_replicate, same_length}
 
 -- ------ lists of which a front has come to stand in another relation
@@ -43,13 +43,13 @@ module _ {X Y : Type 0} (R S : X → Y → Type 0) (f : Y → Y) where
 -- ------ the feeder's call on one node after the other
 
 -- it was made on the first so many of these nodes
-pub record FedOn (c : Invocation) (start now : List Seat) (count : ℕ) : Type 0 where
+pub record FedOn (c : Invocation) (start now : List SerialNode) (count : ℕ) : Type 0 where
   pub at : (acts : List Act) (ns : List Node) → Pairs (IsSeat acts) start ns
       → Through (IsSeat acts) (IsSeat (acts ++ act_of c ∷ [])) (answered 0 (length acts) c) count now ns
   pub under : (most : ℕ) → AreUnder start most → Through IsUnder IsUnder (λ n. n + 1) count now (replicate (DEMUX_NODES + 1) most)
 
 -- the next node takes the call
-pub fed_more : (c : Invocation) (start now : List Seat) (i : ℕ) (seat d : Seat) → i < length now
+pub fed_more : (c : Invocation) (start now : List SerialNode) (i : ℕ) (seat d : SerialNode) → i < length now
     → ((acts : List Act) (n : Node) → IsSeat acts (get_or now i d) n → IsSeat (acts ++ act_of c ∷ []) seat (answered 0 (length acts) c n))
     → entries_in seat.core ≡ entries_in (get_or now i d).core + 1
     → FedOn c start now i → FedOn c start (set now i seat) (i + 1)
@@ -58,14 +58,14 @@ fed_more c start now i seat d there goes rises fed = record {
   under = λ most p. through_more IsUnder IsUnder (λ n. n + 1) i now (replicate (DEMUX_NODES + 1) most) seat d there (λ m u. omega (arith, rises, u)) (fed.under most p);
 }
 
-same_through : (count i : ℕ) (xs : List Seat) (most : ℕ) → Through IsUnder IsUnder (λ n. n + 1) i xs (replicate count most) → length xs ≡ count
+same_through : (count i : ℕ) (xs : List SerialNode) (most : ℕ) → Through IsUnder IsUnder (λ n. n + 1) i xs (replicate count most) → length xs ≡ count
 same_through count zero xs most p = same_length IsUnder xs (replicate count most) p ∙ length-replicate count most
 same_through zero (suc i) [] most p = refl
 same_through zero (suc i) (x ∷ xs) most p = absurd p
 same_through (suc count) (suc i) [] most p = absurd p
 same_through (suc count) (suc i) (x ∷ xs) most p = ap suc (same_through count i xs most p.1)
 
-pub fed_few : (c : Invocation) (start now : List Seat) (i : ℕ) (d : Seat) → i < length now → AreUnder start (2 ^ 50 - 1) → FedOn c start now i
+pub fed_few : (c : Invocation) (start now : List SerialNode) (i : ℕ) (d : SerialNode) → i < length now → AreUnder start (2 ^ 50 - 1) → FedOn c start now i
     → entries_in (get_or now i d).core < 2 ^ 50
 fed_few c start now i d there few fed =
     let p = fed.under (2 ^ 50 - 1) few in
@@ -73,11 +73,11 @@ fed_few c start now i d there few fed =
     let u : entries_in (get_or now i d).core ≤ get_or (replicate (DEMUX_NODES + 1) (2 ^ 50 - 1)) i (2 ^ 50 - 1) = through_at IsUnder IsUnder (λ n. n + 1) i now (replicate (DEMUX_NODES + 1) (2 ^ 50 - 1)) d (2 ^ 50 - 1) there p in
     omega (arith, u, get_or-replicate (DEMUX_NODES + 1) i (2 ^ 50 - 1) (2 ^ 50 - 1) here)
 
-pub fed_at : (c : Invocation) (start now : List Seat) (i : ℕ) → length now ≤ i → FedOn c start now i
+pub fed_at : (c : Invocation) (start now : List SerialNode) (i : ℕ) → length now ≤ i → FedOn c start now i
     → (acts : List Act) (ns : List Node) → Pairs (IsSeat acts) start ns → Pairs (IsSeat (acts ++ act_of c ∷ [])) now (map (answered 0 (length acts) c) ns)
 fed_at c start now i all fed acts ns p = through_all (IsSeat acts) (IsSeat (acts ++ act_of c ∷ [])) (answered 0 (length acts) c) i now ns all (fed.at acts ns p)
 
-pub fed_under : (c : Invocation) (start now : List Seat) (i : ℕ) → length now ≤ i → FedOn c start now i
+pub fed_under : (c : Invocation) (start now : List SerialNode) (i : ℕ) → length now ≤ i → FedOn c start now i
     → (most : ℕ) → AreUnder start most → AreUnder now (most + 1)
 fed_under c start now i all fed most p =
     subst (λ ms. Pairs IsUnder now ms) (map_replicate (DEMUX_NODES + 1) (λ n. n + 1) most) (through_all IsUnder IsUnder (λ n. n + 1) i now (replicate (DEMUX_NODES + 1) most) all (fed.under most p))

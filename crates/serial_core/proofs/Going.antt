@@ -1,5 +1,5 @@
 -- What a call does to the nodes.
-use Rattle.serial_core.proofs.Imports.{◌≡◌, refl, sym, ap, subst, ◌∙◌, ℕ, ◌+◌, ◌<◌, ◌≤◌, false, List, [], ◌++◌, length, replicate, take, drop, get_or, set, arith, length-replicate, get_or-replicate, take-append-le, take_all, DEMUX_NODES, Seat, Nodes, Node, Run, begun, Pairs, IsSeat, IsNodes, IsUnder, AreUnder, acts_on, entries_in}
+use Rattle.serial_core.proofs.Imports.{◌≡◌, refl, sym, ap, subst, ◌∙◌, ℕ, ◌+◌, ◌<◌, ◌≤◌, false, List, [], ◌++◌, length, replicate, take, drop, get_or, set, arith, length-replicate, get_or-replicate, take-append-le, take_all, DEMUX_NODES, SerialNode, Nodes, Node, Run, begun, Pairs, IsSeat, IsNodes, IsUnder, AreUnder, acts_on, entries_in}
 use Rattle.serial_core.proofs.Pairs.{pair_at, same_length, same_set, same_weaker}
 
 -- ------ before the first call
@@ -27,16 +27,16 @@ nodes_called old new r ns seats feeding end at =
 
 -- ------ how many entries there are
 
-pub under_more : (seats : List Seat) (m n : ℕ) → m ≤ n → AreUnder seats m → AreUnder seats n
+pub under_more : (seats : List SerialNode) (m n : ℕ) → m ≤ n → AreUnder seats m → AreUnder seats n
 under_more seats m n le under = same_weaker IsUnder (DEMUX_NODES + 1) seats m n (λ seat u. omega (arith, u, le)) under
 
-pub seats_count : (seats : List Seat) (m : ℕ) → AreUnder seats m → length seats ≡ DEMUX_NODES + 1
+pub seats_count : (seats : List SerialNode) (m : ℕ) → AreUnder seats m → length seats ≡ DEMUX_NODES + 1
 seats_count seats m under = same_length IsUnder seats (replicate (DEMUX_NODES + 1) m) under ∙ length-replicate (DEMUX_NODES + 1) m
 
-pub seat_under : (seats : List Seat) (i m : ℕ) (d : Seat) → i ≤ DEMUX_NODES → AreUnder seats m → entries_in (get_or seats i d).core ≤ m
+pub seat_under : (seats : List SerialNode) (i m : ℕ) (d : SerialNode) → i ≤ DEMUX_NODES → AreUnder seats m → entries_in (get_or seats i d).core ≤ m
 seat_under seats i m d there under =
     let there' : i < length seats = omega (arith, seats_count seats m under, there) in
     subst (λ n. entries_in (get_or seats i d).core ≤ n) (get_or-replicate (DEMUX_NODES + 1) i m m (omega (arith, there))) (pair_at IsUnder i seats (replicate (DEMUX_NODES + 1) m) d m there' under)
 
-pub under_set : (seats : List Seat) (i m : ℕ) (seat : Seat) → IsUnder seat m → AreUnder seats m → AreUnder (set seats i seat) m
+pub under_set : (seats : List SerialNode) (i m : ℕ) (seat : SerialNode) → IsUnder seat m → AreUnder seats m → AreUnder (set seats i seat) m
 under_set seats i m seat u under = same_set IsUnder (DEMUX_NODES + 1) i seats m seat u under

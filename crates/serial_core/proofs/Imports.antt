@@ -5,10 +5,10 @@ pub use Rattle.client_core.proofs.Numbering.{AreThrough, next_is_numbered, throu
 pub use Rattle.client_core.specs.Commands.{commands_among, commands_in, pass_of}
 pub use Rattle.client_core.specs.Deeds.{batch_at, deed_of}
 pub use Rattle.client_core.specs.Events.{Standing, next_event, no_slots, progress, progress_from, standing_at, waits_after}
-pub use Rattle.client_core.specs.declared.command.Command.{Command as ClientCommand}
+pub use Rattle.client_core.specs.declared.command.ClientCommand.{ClientCommand}
 pub use Rattle.client_core.specs.declared.deed.Deed.{Deed}
-pub use Rattle.client_core.specs.declared.event.Request.{Request}
-pub use Rattle.client_core.specs.declared.event.Request.TheVariants.{Own}
+pub use Rattle.client_core.specs.declared.event.ClientRequest.{ClientRequest}
+pub use Rattle.client_core.specs.declared.event.ClientRequest.TheVariants.{Own}
 pub use Rattle.client_core.specs.declared.stop.Stop.TheVariants.{TooLong}
 pub use Rattle.client_script.specs.declared.line.Target.{Target}
 pub use Rattle.client_script.specs.declared.line.Verb.{Verb}
@@ -63,7 +63,7 @@ pub use Rattle.serial_core.specs.declared.node.AnyCore.TheVariants.{Demux, Dvr}
 pub use Rattle.serial_core.specs.declared.nodes.Nodes.{Nodes}
 pub use Rattle.serial_core.specs.declared.run.Left.{Left}
 pub use Rattle.serial_core.specs.declared.runner.Runner.{Runner}
-pub use Rattle.serial_core.specs.declared.seat.Seat.{Seat}
+pub use Rattle.serial_core.specs.declared.seat.SerialNode.{SerialNode}
 pub use Rattle.std.proofs.Common.{Bool, Err, IfOk, IsErrAnd, List, None, Ok, OnErr, Option, Result, Some, [], add-one, ap, append-nil, append_assoc, arith, drop, false, fold, get_or, inl, inr, length, length-append, length-drop, length-take-le, map, min, nat_eq, nat_lt, not, refl, replicate, reverse, set, subst, suc, sym, take, true, vec_len, zero, zero-add, ℕ, ⊎_elim, ◌%◌, ◌*◌, ◌++◌, ◌+◌, ◌-◌, ◌/◌, ◌<◌, ◌==◌, ◌^◌, ◌∙◌, ◌∷◌, ◌≡◌, ◌≢◌, ◌≤◌, ◌⊎◌}
 pub use Rattle.std.proofs.Math.Nat.{add-div_right, add-mod_right, div-eq_of_lt, mod-eq_of_lt}
 pub use Rattle.std.proofs.Math.Seq.{drop-append_seam, drop-cons, get_or-append_seam, map-set_same, take-append_seam}

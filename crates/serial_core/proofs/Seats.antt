@@ -1,5 +1,5 @@
 -- What one call does to a node with its entries.
-use Rattle.serial_core.proofs.Imports.{◌≡◌, refl, sym, ap, subst, ◌∙◌, ℕ, ◌+◌, List, [], ◌∷◌, ◌++◌, length, map, length-append, add-one, arith, map-append, NodeKind, Invocation, Close, SetFilter, SetPes, AddPid, RemovePid, Start, Stop, SetSize, Read, Poll, Pass, End, Attach, Detach, Passed, History, entry_of, Rules, rules_at, Facts, facts, dmx_answer, with_call, Act, LogEntry, act_of, feeder_entry, woven, AreInPlace, in_place-append, woven-call, woven-fed, CodeEntry, told_entry, Seat, AnyCore, Demux, Dvr, Node, Told, history_in, history_of, uncalled, answer_by, answered, log_in, log_of, IsFeeding, IsSeat, StandsAt, entries_in}
+use Rattle.serial_core.proofs.Imports.{◌≡◌, refl, sym, ap, subst, ◌∙◌, ℕ, ◌+◌, List, [], ◌∷◌, ◌++◌, length, map, length-append, add-one, arith, map-append, NodeKind, Invocation, Close, SetFilter, SetPes, AddPid, RemovePid, Start, Stop, SetSize, Read, Poll, Pass, End, Attach, Detach, Passed, History, entry_of, Rules, rules_at, Facts, facts, dmx_answer, with_call, Act, LogEntry, act_of, feeder_entry, woven, AreInPlace, in_place-append, woven-call, woven-fed, CodeEntry, told_entry, SerialNode, AnyCore, Demux, Dvr, Node, Told, history_in, history_of, uncalled, answer_by, answered, log_in, log_of, IsFeeding, IsSeat, StandsAt, entries_in}
 use Rattle.dmx_calls.specs.declared.node.NodeKind.TheVariants as kind
 use Rattle.dmx_calls.specs.Invocation.{Open}
 use Rattle.dmx_calls.specs.Answer.{answer}
@@ -53,7 +53,7 @@ entries_count (Demux core) number h at = at.1.count
 entries_count (Dvr core) number h at = at.1.count
 
 -- a node before the first call
-pub seat_fresh : (seat : Seat) (number : ℕ) → StandsAt seat.core number [] → seat.node ≡ number → seat.entries.items ≡ [] → IsSeat [] seat (uncalled number)
+pub seat_fresh : (seat : SerialNode) (number : ℕ) → StandsAt seat.core number [] → seat.node ≡ number → seat.entries.items ≡ [] → IsSeat [] seat (uncalled number)
 seat_fresh seat number core node entries = record {
   core = core;
   number = node;
@@ -61,7 +61,7 @@ seat_fresh seat number core node entries = record {
 }
 
 -- a call of the feeder
-pub seat_fed : (acts : List Act) (old new : Seat) (n : Node) (c : Invocation) → IsFeeding c → new.node ≡ old.node → new.entries ≡ old.entries
+pub seat_fed : (acts : List Act) (old new : SerialNode) (n : Node) (c : Invocation) → IsFeeding c → new.node ≡ old.node → new.entries ≡ old.entries
     → StandsAt new.core n.number (entry_of 0 c (answer_by 0 c n) ∷ history_of n) → IsSeat acts old n
     → IsSeat (acts ++ act_of c ∷ []) new (answered 0 (length acts) c n)
 seat_fed acts old new n c feeding node entries core at =
@@ -79,7 +79,7 @@ seat_fed acts old new n c feeding node entries core at =
     }
 
 -- a call of a client
-pub seat_called : (acts : List Act) (old new : Seat) (n : Node) (who step : ℕ) (c : Invocation) (e : CodeEntry)
+pub seat_called : (acts : List Act) (old new : SerialNode) (n : Node) (who step : ℕ) (c : Invocation) (e : CodeEntry)
     → new.node ≡ old.node → new.entries.items ≡ old.entries.items ++ e ∷ []
     → e.node ≡ old.node → e.place ≡ length (history_of n) → e.step ≡ step → e.who ≡ who → (told_entry e).act ≡ act_of c → (told_entry e).response ≡ answer_by who c n
     → StandsAt new.core n.number (entry_of who c (answer_by who c n) ∷ history_of n) → IsSeat acts old n

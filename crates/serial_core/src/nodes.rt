@@ -7,7 +7,7 @@ ghost use Rattle.serial_core.specs.SerialRun.{Run, begun, ended, fed_to_all, mad
 ghost use Rattle.serial_core.specs.Inside.Standing.{AreCounted, AreUnder, IsNodes, IsSeat, Pairs};
 
 use crate::node::AnyCore;
-use crate::seat::Seat;
+use crate::seat::SerialNode;
 use client_core::{ClientCore, Event, call_of};
 use dmx_calls::limits::DEMUX_NODES;
 use dmx_calls::{Entry, Fed, Histories};
@@ -24,29 +24,29 @@ use ts_batch::Batch;
 #[derive(Drop)]
 pub struct Nodes {
     pub alloc: Global,
-    pub seats: Vec<Seat>,
+    pub seats: Vec<SerialNode>,
     pub feeding: Vec<Fed>,
     pub has_ended: bool,
     pub made: u64,
 }
 
 // The 33 nodes before the first call.
-fn fresh_seats(alloc: Global) -> Result<Vec<Seat>, NoMemory>
+fn fresh_seats(alloc: Global) -> Result<Vec<SerialNode>, NoMemory>
     ensures at { IfOk result (λ seats. Pairs (IsSeat []) seats.items (map uncalled (range_with_len 0 (nodes + 1)))) }
     ensures none { IfOk result (λ seats. AreUnder seats.items 0) }
 {
     let mut seats = Vec::new(alloc);
     'nodes: for node in 0..DEMUX_NODES {
         let core = AnyCore::Demux(NodeCore::new(alloc, node));
-        seats.push(Seat::new(alloc, node, core))?;
+        seats.push(SerialNode::new(alloc, node, core))?;
     }
     let core = AnyCore::Dvr(DvrCore::new(alloc));
-    seats.push(Seat::new(alloc, DEMUX_NODES, core))?;
+    seats.push(SerialNode::new(alloc, DEMUX_NODES, core))?;
     Ok(seats)
 }
 
 // A batch passes each node.
-fn pass_all<L: Ledger>(seats: &mut [Seat], batch: &Batch, now: u64, steps: &mut Steps<L>)
+fn pass_all<L: Ledger>(seats: &mut [SerialNode], batch: &Batch, now: u64, steps: &mut Steps<L>)
     requires few { AreUnder seats.old (2 ^ 50 - 1) }
     ensures at { (acts : List ToldAct) (ns : List RunNode) → Pairs (IsSeat acts) seats.old ns
         → Pairs (IsSeat (acts ++ PassAct Frontend batch.now.first (length batch.now.packets) now ∷ [])) seats.new
@@ -59,7 +59,7 @@ fn pass_all<L: Ledger>(seats: &mut [Seat], batch: &Batch, now: u64, steps: &mut 
 }
 
 // End passes each node.
-fn end_all<L: Ledger>(seats: &mut [Seat], steps: &mut Steps<L>) -> Result<(), NoMemory>
+fn end_all<L: Ledger>(seats: &mut [SerialNode], steps: &mut Steps<L>) -> Result<(), NoMemory>
     requires few { AreUnder seats.old (2 ^ 50 - 1) }
     ensures at { OnOk result ((acts : List ToldAct) (ns : List RunNode) → Pairs (IsSeat acts) seats.old ns
         → Pairs (IsSeat (acts ++ EndAct ∷ [])) seats.new (map (answered 0 (length acts) asks.End) ns)) }
@@ -72,7 +72,7 @@ fn end_all<L: Ledger>(seats: &mut [Seat], steps: &mut Steps<L>) -> Result<(), No
 }
 
 // The entries of the clients on all nodes.
-fn entries_of(alloc: Global, seats: Vec<Seat>) -> Result<Vec<Vec<Entry>>, NoMemory>
+fn entries_of(alloc: Global, seats: Vec<SerialNode>) -> Result<Vec<Vec<Entry>>, NoMemory>
     ensures { IfOk result (λ nodes. map (λ calls. calls.items) nodes.items ≡ map (λ seat. seat.entries.items) seats.items) }
 {
     let mut nodes = Vec::new(alloc);

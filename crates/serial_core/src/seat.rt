@@ -15,20 +15,20 @@ use ts_batch::Batch;
 
 /// A node, its number, which is 32 for the dvr node, and the entries of its clients, the oldest first.
 #[derive(Drop)]
-pub struct Seat {
+pub struct SerialNode {
     pub core: AnyCore,
     pub node: u32,
     pub entries: Vec<Entry>,
 }
 
-impl Seat {
+impl SerialNode {
     /// The node of this number with this core, on which no call was made.
-    pub fn new(alloc: Global, node: u32, core: AnyCore) -> Seat
+    pub fn new(alloc: Global, node: u32, core: AnyCore) -> SerialNode
         ensures core { result.core ≡ core }
         ensures node { result.node ≡ node }
         ensures entries { result.entries.items ≡ [] }
     {
-        Seat {
+        SerialNode {
             core,
             node,
             entries: Vec::new(alloc),

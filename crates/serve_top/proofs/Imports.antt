@@ -9,7 +9,7 @@ pub use Rattle.client_core.specs.Deeds.{Batches, deed_of}
 pub use Rattle.client_core.specs.Events.{Ended, Progress, next_event, no_slots, progress_from}
 pub use Rattle.client_core.specs.Outcomes.{outcome_by, outcome_of, outcomes}
 pub use Rattle.client_core.specs.Stc.{Exchange, exchanges_after, stc, with_reply}
-pub use Rattle.client_core.specs.declared.command.Command.{Command}
+pub use Rattle.client_core.specs.declared.command.ClientCommand.{ClientCommand}
 pub use Rattle.client_core.specs.declared.deed.Deed.{Deed}
 pub use Rattle.client_core.specs.declared.deed.Deed.TheVariants.{Drain, GetStc, Once, ReadWait, Write}
 pub use Rattle.client_core.specs.declared.event.Event.{Event}
@@ -54,10 +54,10 @@ pub use Rattle.serve_top.specs.Lines.{HasWritten, call_line, fed_line}
 pub use Rattle.serve_top.specs.Read.{HasReadTo, HasReadTooOften}
 pub use Rattle.serve_top.specs.Reported.{FindMemory, HasReported, IsLeftBy, IsNewFeeder, IsRunOf, IsServed, every, fed_by}
 pub use Rattle.serve_top.specs.declared.journals.Handed.{Handed}
-pub use Rattle.serve_top.specs.declared.left.Left.{Left}
+pub use Rattle.serve_top.specs.declared.left.ReportParts.{ReportParts}
 pub use Rattle.serve_top.specs.declared.passing.Passing.{Passing}
 pub use Rattle.serve_top.specs.declared.server.NoReport.TheVariants.{Failed, TooLong}
-pub use Rattle.serve_top.specs.declared.written.Written.{Written}
+pub use Rattle.serve_top.specs.declared.written.WrittenLines.{WrittenLines}
 pub use Rattle.std.proofs.Common.{Bool, Err, Global, List, None, Option, Result, Some, Vec, [], ap, arith, eq-eqb, false, fold, inl, inr, length, length-append, map, max, nat_lt, ne_eqb, refl, replicate, reverse, rules, set, subst, suc, sym, take, true, zero, ℕ, ⊎_elim, ◌++◌, ◌+◌, ◌-◌, ◌<◌, ◌^◌, ◌∙◌, ◌∷◌, ◌≡◌, ◌≢◌, ◌≤◌}
 pub use Rattle.std.proofs.lemmas.Bool.{cases_lt}
 pub use Rattle.std.proofs.lemmas.Bool.Decides.{nat_tests}

@@ -1,5 +1,5 @@
 -- What was called for the requests of the lines is a run of the script of their commands.
-use Rattle.serve_top.proofs.Imports.{◌≡◌, ◌≢◌, ℕ, zero, suc, ◌+◌, ◌<◌, ◌≤◌, Bool, true, false, nat_lt, set, List, [], ◌∷◌, length, take, Option, Some, None, refl, ap, sym, ◌∙◌, subst, arith, slice_get, get_or, IsSome, nat_tests, append-nil, length-set, slice_get_within, slice_get-get_or, dite, ℕ_discrete, at_place, one_value, set_there, set_elsewhere, Caller, Fed, Outcome, Input, IsAccounted, History, IsLegalFor, LogEntry, Sources, filled, rules_at, Response, NoMemory, Scripted, plain, clients_in, Command, Event, commands_of, plays_of, next_event, outcomes, IsRun, IsEvent, HasDone, replies, sources, IsGiven, IsWholeRun, HasFedAll, HasWorked, AreWorked, BringFrom, HasLogged, HaveCalled, IsPlayed, every, fed_by, FindMemory, IsRunOf}
+use Rattle.serve_top.proofs.Imports.{◌≡◌, ◌≢◌, ℕ, zero, suc, ◌+◌, ◌<◌, ◌≤◌, Bool, true, false, nat_lt, set, List, [], ◌∷◌, length, take, Option, Some, None, refl, ap, sym, ◌∙◌, subst, arith, slice_get, get_or, IsSome, nat_tests, append-nil, length-set, slice_get_within, slice_get-get_or, dite, ℕ_discrete, at_place, one_value, set_there, set_elsewhere, Caller, Fed, Outcome, Input, IsAccounted, History, IsLegalFor, LogEntry, Sources, filled, rules_at, Response, NoMemory, Scripted, plain, clients_in, ClientCommand, Event, commands_of, plays_of, next_event, outcomes, IsRun, IsEvent, HasDone, replies, sources, IsGiven, IsWholeRun, HasFedAll, HasWorked, AreWorked, BringFrom, HasLogged, HaveCalled, IsPlayed, every, fed_by, FindMemory, IsRunOf}
 use Rattle.dmx_calls.proofs.Filled.{same_filled}
 use Rattle.std.proofs.Common.{All}
 use Rattle.serve_top.proofs.Filled.{same_sources}
@@ -45,7 +45,7 @@ module _ (may : ℕ → Bool) (stream : List (List ℕ)) (feeder : Caller) (feed
   }
 
   -- f has the commands of each client, which are what it has done
-  module _ (f : ℕ → List Command) (are : (c : ℕ) → AreCalls (f c)) (played : (c : ℕ) (book : List LogEntry) (out : List Outcome) → slice_get books c ≡ Some book → slice_get told c ≡ Some out
+  module _ (f : ℕ → List ClientCommand) (are : (c : ℕ) → AreCalls (f c)) (played : (c : ℕ) (book : List LogEntry) (out : List Outcome) → slice_get books c ≡ Some book → slice_get told c ≡ Some out
       → (script : Scripted) → commands_of c script ≡ f c → IsPlayed may c script book out)
       (idle : (c : ℕ) (book : List LogEntry) (out : List Outcome) → slice_get books c ≡ Some book → slice_get told c ≡ Some out → f c ≡ [] → (book ≡ []) × (out ≡ [])) where
     abbrev n : ℕ

@@ -1,5 +1,5 @@
 -- From what the threads have left to what the report tells.
-use Rattle.serve_top.proofs.Imports.{Vec, Global, ◌≡◌, ◌≢◌, ◌≤◌, ◌<◌, ◌-◌, ◌^◌, ◌+◌, ℕ, length, None, refl, sym, Bool, true, false, List, [], ◌∷◌, ◌++◌, map, replicate, reverse, Option, ap, ◌∙◌, subst, arith, slice_index_or, option_map, All, get_or-replicate, length-map, slice_get-map, slice_get-get_or, is_in, DEMUX_NODES, Appends, SourceEnd, SinkEnd, TableId, cut, PacketSize, Of188, told_head, head_of, Going, TooMany, Pulling, Pulls, IsDone, has_failed, Outcome, report_of, Caller, IsSameCaller, AreFreshCallers, AreAllCallers, FeederWorker, HasFedAll, HaveCalled, HasPassed, HasPassedAll, HasFedToEnd, MayPass, begun_feeder, begun_passed, as_named, plain, worked_feeder, no_stop, Desk, log_of, AreOnNodes, IsReady, AreReady, HaveServed, Left, every, fed_by, HasReported, IsNewFeeder, IsLeftBy}
+use Rattle.serve_top.proofs.Imports.{Vec, Global, ◌≡◌, ◌≢◌, ◌≤◌, ◌<◌, ◌-◌, ◌^◌, ◌+◌, ℕ, length, None, refl, sym, Bool, true, false, List, [], ◌∷◌, ◌++◌, map, replicate, reverse, Option, ap, ◌∙◌, subst, arith, slice_index_or, option_map, All, get_or-replicate, length-map, slice_get-map, slice_get-get_or, is_in, DEMUX_NODES, Appends, SourceEnd, SinkEnd, TableId, cut, PacketSize, Of188, told_head, head_of, Going, TooMany, Pulling, Pulls, IsDone, has_failed, Outcome, report_of, Caller, IsSameCaller, AreFreshCallers, AreAllCallers, FeederWorker, HasFedAll, HaveCalled, HasPassed, HasPassedAll, HasFedToEnd, MayPass, begun_feeder, begun_passed, as_named, plain, worked_feeder, no_stop, Desk, log_of, AreOnNodes, IsReady, AreReady, HaveServed, ReportParts, every, fed_by, HasReported, IsNewFeeder, IsLeftBy}
 use Rattle.serve_top.proofs.Playing.{is_run}
 use Rattle.serve_top.proofs.Streaming.{read_to}
 use Rattle.serve_top.proofs.Seating.{each_line, bring_none, have_called, have_left, have_answered, have_played, have_idled, commands_at, calls_at, the_script, still_callers, all_nodes}
@@ -17,7 +17,7 @@ desks_ready locks clients desks ready k d low =
 module _ {T : Type 0} (source : T → SourceEnd) (sink : T → SinkEnd) (may : ℕ → Bool) (lines : List T) (locks : List TableId) (n : ℕ) (feeder : Caller) (clients : List Caller) (fresh : AreFreshCallers locks n feeder clients) (all : AreAllCallers locks (clients ++ feeder ∷ []))
     (old new : List (Desk T)) (ready : AreReady locks clients (map (λ (d : Desk T). d.seat) old)) (served : HaveServed source sink may locks old new) (are : map (λ (d : Desk T). d.line) old ≡ reverse lines)
     (x y : SourceEnd) (first : Pulling) (size : first.cutting.size ≡ Of188) (pulls : Pulls [] [] [] first) (going : first.reading ≡ Going)
-    (f : FeederWorker) (passed : HasPassedAll every 64 may x y first f) (few : f.puller.reading ≢ TooMany) (what : Left) (is : IsLeftBy f new what) where
+    (f : FeederWorker) (passed : HasPassedAll every 64 may x y first f) (few : f.puller.reading ≢ TooMany) (what : ReportParts) (is : IsLeftBy f new what) where
   taken : List ℕ
   taken = passed.draws.carries.more
 
@@ -99,7 +99,7 @@ module _ {T : Type 0} (source : T → SourceEnd) (sink : T → SinkEnd) (may : �
   pub are_on_nodes : All (λ (d : Desk T). AreOnNodes (log_of d.seat)) new
   are_on_nodes = all_nodes source sink may locks n feeder clients fresh all old new ready served
 
-  pub is_reported : (what : Left) → IsLeftBy g new what → (was now : Option (List ℕ)) (those : List (Vec Outcome Global)) → those ≡ what.outcomes.items
+  pub is_reported : (what : ReportParts) → IsLeftBy g new what → (was now : Option (List ℕ)) (those : List (Vec Outcome Global)) → those ≡ what.outcomes.items
       → Appends was now (report_of (told_head what.head) (map (λ (v : Vec Outcome Global). v.items) those) what.histories) → HasReported source sink lines may x y was now
   is_reported what left was now those same written = has_reported source sink may lines locks n feeder clients fresh all old new ready served are x y f.puller is.size is.pulls is.going g passed (fed.few stop) what left
       was now (subst (λ (l : List (Vec Outcome Global)). Appends was now (report_of (told_head what.head) (map (λ (v : Vec Outcome Global). v.items) l) what.histories)) same written)

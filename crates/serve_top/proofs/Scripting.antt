@@ -1,12 +1,12 @@
 -- A script of which each client has given commands.
-use Rattle.serve_top.proofs.Imports.{◌≡◌, ◌≢◌, ℕ, zero, suc, ◌+◌, ◌<◌, ◌≤◌, eq-eqb, ne_eqb, List, [], ◌∷◌, ◌++◌, length, map, take, replicate, fold, max, Option, Some, None, refl, ap, sym, ◌∙◌, subst, arith, slice_get, option_map, if◌then◌else◌, append-nil, flat_map-append, dite, ℕ_discrete, Outcome, Response, Scripted, plain, clients_of, clients_in, Line, CommandLine, Dvr, Verb, Want, Command, Deed, Once, ReadWait, Drain, GetStc, Write, Event, Batches, deed_of, commands_in, commands_among, commands_of, plays_of, Ended, Progress, progress_from, no_slots, next_event, outcome_by, outcome_of, outcomes, Exchange, with_reply, exchanges_after, stc, DoneCommand, commands_by}
+use Rattle.serve_top.proofs.Imports.{◌≡◌, ◌≢◌, ℕ, zero, suc, ◌+◌, ◌<◌, ◌≤◌, eq-eqb, ne_eqb, List, [], ◌∷◌, ◌++◌, length, map, take, replicate, fold, max, Option, Some, None, refl, ap, sym, ◌∙◌, subst, arith, slice_get, option_map, if◌then◌else◌, append-nil, flat_map-append, dite, ℕ_discrete, Outcome, Response, Scripted, plain, clients_of, clients_in, Line, CommandLine, Dvr, Verb, Want, ClientCommand, Deed, Once, ReadWait, Drain, GetStc, Write, Event, Batches, deed_of, commands_in, commands_among, commands_of, plays_of, Ended, Progress, progress_from, no_slots, next_event, outcome_by, outcome_of, outcomes, Exchange, with_reply, exchanges_after, stc, DoneCommand, commands_by}
 use Rattle.client_script.specs.declared.line.Verb.TheVariants as verb
 use Rattle.client_core.specs.Events.{progress}
 
 -- ------ the lines of one client
 
 -- each of these commands is one call
-abbrev pub AreCalls : List Command → Type 0
+abbrev pub AreCalls : List ClientCommand → Type 0
 AreCalls [] = Unit {0}
 AreCalls (c ∷ cs) = ((want : Want) × (c.deed ≡ Once want)) × AreCalls cs
 
@@ -26,25 +26,25 @@ verb_of (Write write has_batch) = verb.Write write
 call_verb : (batches : Batches) (deed : Deed) (want : Want) → deed ≡ Once want → deed_of batches (verb_of deed) ≡ deed
 call_verb batches deed want is = subst (λ (d : Deed). deed_of batches (verb_of d) ≡ d) (sym is) refl
 
-abbrev pub line_of : (client : ℕ) → Command → Line
+abbrev pub line_of : (client : ℕ) → ClientCommand → Line
 line_of client c = CommandLine c.line client c.target (verb_of c.deed)
 
-abbrev with_deed : Command → Deed → Command
+abbrev with_deed : ClientCommand → Deed → ClientCommand
 with_deed c deed = record { line = c.line; target = c.target; deed = deed }
 
 -- the command that its line has
-abbrev read : Batches → Command → Command
+abbrev read : Batches → ClientCommand → ClientCommand
 read batches c = with_deed c (deed_of batches (verb_of c.deed))
 
-pub own_lines : (client : ℕ) (batches : Batches) (cs : List Command) → AreCalls cs → commands_among client batches (map (line_of client) cs) ≡ cs
+pub own_lines : (client : ℕ) (batches : Batches) (cs : List ClientCommand) → AreCalls cs → commands_among client batches (map (line_of client) cs) ≡ cs
 own_lines client batches [] are = refl
 own_lines client batches (c ∷ cs) are =
     let same : read batches c ≡ c = ap (λ (d : Deed). with_deed c d) (call_verb batches c.deed are.0.0 are.0.1) in
     ap (λ b. (if b then read batches c ∷ [] else []) ++ commands_among client batches (map (line_of client) cs)) (eq-eqb client client refl)
-    ∙ (ap (λ (x : Command). x ∷ commands_among client batches (map (line_of client) cs)) same
-    ∙ ap (λ (l : List Command). c ∷ l) (own_lines client batches cs are.1))
+    ∙ (ap (λ (x : ClientCommand). x ∷ commands_among client batches (map (line_of client) cs)) same
+    ∙ ap (λ (l : List ClientCommand). c ∷ l) (own_lines client batches cs are.1))
 
-pub other_lines : (client other : ℕ) (batches : Batches) (cs : List Command) → other ≢ client → commands_among client batches (map (line_of other) cs) ≡ []
+pub other_lines : (client other : ℕ) (batches : Batches) (cs : List ClientCommand) → other ≢ client → commands_among client batches (map (line_of other) cs) ≡ []
 other_lines client other batches [] not = refl
 other_lines client other batches (c ∷ cs) not =
     ap (λ b. (if b then read batches c ∷ [] else []) ++ commands_among client batches (map (line_of other) cs)) (ne_eqb other client not) ∙ other_lines client other batches cs not
@@ -54,7 +54,7 @@ among_both client batches xs ys = flat_map-append (commands_in client batches) x
 
 -- ------ the lines of all clients
 
-module _ (f : ℕ → List Command) where
+module _ (f : ℕ → List ClientCommand) where
   abbrev pub lines_of : (n : ℕ) → List Line
   lines_of zero = []
   lines_of (suc n) = lines_of n ++ map (line_of n) (f n)
@@ -63,7 +63,7 @@ module _ (f : ℕ → List Command) where
   lines_none batches zero k low = refl
   lines_none batches (suc n) k low =
       among_both k batches (lines_of n) (map (line_of n) (f n))
-      ∙ (ap (λ (l : List Command). l ++ commands_among k batches (map (line_of n) (f n))) (lines_none batches n k (omega (arith, low)))
+      ∙ (ap (λ (l : List ClientCommand). l ++ commands_among k batches (map (line_of n) (f n))) (lines_none batches n k (omega (arith, low)))
       ∙ other_lines k n batches (f n) (λ same. absurd (omega (arith, low, same))))
 
   -- each client has its own
@@ -71,11 +71,11 @@ module _ (f : ℕ → List Command) where
   lines_at are batches zero k low = absurd (omega (arith, low))
   lines_at are batches (suc n) k low = among_both k batches (lines_of n) (map (line_of n) (f n)) ∙ dite (ℕ_discrete n k)
       (λ here.
-      ap (λ (l : List Command). l ++ commands_among k batches (map (line_of n) (f n))) (lines_none batches n k (omega (arith, here)))
+      ap (λ (l : List ClientCommand). l ++ commands_among k batches (map (line_of n) (f n))) (lines_none batches n k (omega (arith, here)))
       ∙ subst (λ i. commands_among i batches (map (line_of n) (f n)) ≡ f i) here (own_lines n batches (f n) (are n)))
       (λ not.
-      ap (λ (l : List Command). l ++ commands_among k batches (map (line_of n) (f n))) (lines_at are batches n k (omega (arith, low, not)))
-      ∙ (ap (λ (l : List Command). f k ++ l) (other_lines k n batches (f n) not) ∙ append-nil (f k)))
+      ap (λ (l : List ClientCommand). l ++ commands_among k batches (map (line_of n) (f n))) (lines_at are batches n k (omega (arith, low, not)))
+      ∙ (ap (λ (l : List ClientCommand). f k ++ l) (other_lines k n batches (f n) not) ∙ append-nil (f k)))
 
 -- ------ how many clients there are
 
@@ -92,7 +92,7 @@ most_both : (most : ℕ) (xs ys : List Line) → most_of most (xs ++ ys) ≡ mos
 most_both most [] ys = refl
 most_both most (x ∷ xs) ys = most_both (max most (clients_of x)) xs ys
 
-most_low : (n most : ℕ) (client : ℕ) (cs : List Command) → most ≤ n → client < n → most_of most (map (line_of client) cs) ≤ n
+most_low : (n most : ℕ) (client : ℕ) (cs : List ClientCommand) → most ≤ n → client < n → most_of most (map (line_of client) cs) ≤ n
 most_low n most client [] low less = low
 most_low n most client (c ∷ cs) low less = most_low n (max most (client + 1)) client cs (max_low most (client + 1) n low (omega (arith, less))) less
 
@@ -101,7 +101,7 @@ most_grows most [] = omega arith
 most_grows most (x ∷ xs) = let a = max_grows most (clients_of x) in let b = most_grows (max most (clients_of x)) xs in omega (arith, a, b)
 
 -- no more than these
-pub clients_low : (f : ℕ → List Command) (n : ℕ) → clients_in (plain (lines_of f n)) ≤ n
+pub clients_low : (f : ℕ → List ClientCommand) (n : ℕ) → clients_in (plain (lines_of f n)) ≤ n
 clients_low f zero = omega arith
 clients_low f (suc n) =
     let a = clients_low f n in
@@ -109,7 +109,7 @@ clients_low f (suc n) =
     (most_low (suc n) (most_of 0 (lines_of f n)) n (f n) (omega (arith, a)) (omega arith))
 
 -- a client behind the last one has no command
-pub behind_none : (f : ℕ → List Command) (n k : ℕ) → k < n → clients_in (plain (lines_of f n)) ≤ k → f k ≡ []
+pub behind_none : (f : ℕ → List ClientCommand) (n k : ℕ) → k < n → clients_in (plain (lines_of f n)) ≤ k → f k ≡ []
 behind_none f zero k low most = absurd (omega (arith, low))
 behind_none f (suc n) k low most = dite (ℕ_discrete n k)
     (λ here. subst (λ i. f i ≡ []) here (nothing (f n) (most_of 0 (lines_of f n)) (subst (λ m. m ≤ n) (most_both 0 (lines_of f n) (map (line_of n) (f n))) (let h = here in omega (arith, most, h)))))
@@ -117,7 +117,7 @@ behind_none f (suc n) k low most = dite (ℕ_discrete n k)
     let b = subst (λ m. m ≤ k) (most_both 0 (lines_of f n) (map (line_of n) (f n))) most in
     let a = most_grows (most_of 0 (lines_of f n)) (map (line_of n) (f n)) in
     behind_none f n k (omega (arith, low, not)) (omega (arith, a, b))) where
-      nothing : (cs : List Command) (most : ℕ) → most_of most (map (line_of n) cs) ≤ n → cs ≡ []
+      nothing : (cs : List ClientCommand) (most : ℕ) → most_of most (map (line_of n) cs) ≤ n → cs ≡ []
       nothing [] most low = refl
       nothing (c ∷ cs) most low =
           let a = most_grows (max most (n + 1)) (map (line_of n) cs) in
@@ -130,7 +130,7 @@ behind_none f (suc n) k low most = dite (ℕ_discrete n k)
 abbrev pub asked_last : (last : ℕ) → List Line → Scripted
 asked_last last lines = plain (lines ++ CommandLine 1 last Dvr (verb.GetStc 0) ∷ [])
 
-abbrev pub question : Command
+abbrev pub question : ClientCommand
 question = record { line = 1; target = Dvr; deed = GetStc 0 }
 
 -- what is played is the same in each script that writes nothing
@@ -144,7 +144,7 @@ pub asked_own : (last : ℕ) (lines : List Line) → commands_of last (plain lin
 asked_own last lines none =
     let batches : Batches = plays_of last (plain lines) in
     among_both last batches lines (CommandLine 1 last Dvr (verb.GetStc 0) ∷ [])
-    ∙ (ap (λ b. commands_among last batches lines ++ ((if b then question ∷ [] else []) ++ [])) (eq-eqb last last refl) ∙ ap (λ (l : List Command). l ++ question ∷ []) none)
+    ∙ (ap (λ b. commands_among last batches lines ++ ((if b then question ∷ [] else []) ++ [])) (eq-eqb last last refl) ∙ ap (λ (l : List ClientCommand). l ++ question ∷ []) none)
 
 pub asked_clients : (last : ℕ) (lines : List Line) → clients_in (plain lines) ≤ last → clients_in (asked_last last lines) ≡ last + 1
 asked_clients last lines low =
@@ -157,7 +157,7 @@ asked_clients last lines low =
 module _ (client : ℕ) (s t : Scripted) (same : commands_of client s ≡ commands_of client t) where
   pub progress_same : (rs : List Response) → progress client s rs ≡ progress client t rs
   unfolding progress
-  progress_same rs = ap (λ (cs : List Command). progress_from no_slots 0 cs rs) same
+  progress_same rs = ap (λ (cs : List ClientCommand). progress_from no_slots 0 cs rs) same
 
   pub next_same : (rs : List Response) → next_event client s rs ≡ next_event client t rs
   next_same rs = ap (λ (p : Progress). option_map (λ x. x.event) p.standing) (progress_same rs)
@@ -181,11 +181,11 @@ module _ (client : ℕ) (s t : Scripted) (same : commands_of client s ≡ comman
 -- a client with no command, or with a question alone, calls nothing
 pub none_next : (client : ℕ) (s : Scripted) → commands_of client s ≡ [] → (rs : List Response) → next_event client s rs ≡ None
 unfolding progress
-none_next client s none rs = ap (λ (cs : List Command). option_map (λ x. x.event) (progress_from no_slots 0 cs rs).standing) none
+none_next client s none rs = ap (λ (cs : List ClientCommand). option_map (λ x. x.event) (progress_from no_slots 0 cs rs).standing) none
 
 pub question_next : (client : ℕ) (s : Scripted) → commands_of client s ≡ question ∷ [] → (rs : List Response) → next_event client s rs ≡ None
 unfolding progress
-question_next client s one rs = ap (λ (cs : List Command). option_map (λ x. x.event) (progress_from no_slots 0 cs rs).standing) one
+question_next client s one rs = ap (λ (cs : List ClientCommand). option_map (λ x. x.event) (progress_from no_slots 0 cs rs).standing) one
 
 -- ------ lists behind which nothing stands
 

@@ -1,5 +1,5 @@
 -- The seats at their end: what they have called, that they are still the adapter's callers, and that they own no node.
-use Rattle.serve_top.proofs.Imports.{◌≡◌, ⊎_elim, ℕ, Bool, true, ◌+◌, ◌≤◌, ◌^◌, List, [], ◌∷◌, ◌++◌, length, map, Some, refl, ap, sym, ◌∙◌, subst, arith, length-append, None, slice_get, slice_index_or, option_map, All, slice_get-map, get_or_from_slice_get, slice_get_within, length-map, length-reverse, TableId, SourceEnd, SinkEnd, Fed, DEMUX_NODES, Input, LogEntry, Sources, Outcome, Scripted, plain, Command, commands_of, plays_of, Caller, IsSameCaller, AreFreshCallers, AreAllCallers, still_all, at_place, at_end, one_value, HasFedAll, BringFrom, IsLogged, HasLogged, HaveCalled, called_none, mapped, Desk, Seat, MakesCalls, HasLeft, log_of, AreOnNodes, AreReady, GoesOn, HasServed, HaveServed, IsPlayed, commands_by, HasAnsweredAll, spelled, answers_played, answers_idle, every, fed_by, IsServed}
+use Rattle.serve_top.proofs.Imports.{◌≡◌, ⊎_elim, ℕ, Bool, true, ◌+◌, ◌≤◌, ◌^◌, List, [], ◌∷◌, ◌++◌, length, map, Some, refl, ap, sym, ◌∙◌, subst, arith, length-append, None, slice_get, slice_index_or, option_map, All, slice_get-map, get_or_from_slice_get, slice_get_within, length-map, length-reverse, TableId, SourceEnd, SinkEnd, Fed, DEMUX_NODES, Input, LogEntry, Sources, Outcome, Scripted, plain, ClientCommand, commands_of, plays_of, Caller, IsSameCaller, AreFreshCallers, AreAllCallers, still_all, at_place, at_end, one_value, HasFedAll, BringFrom, IsLogged, HasLogged, HaveCalled, called_none, mapped, Desk, Seat, MakesCalls, HasLeft, log_of, AreOnNodes, AreReady, GoesOn, HasServed, HaveServed, IsPlayed, commands_by, HasAnsweredAll, spelled, answers_played, answers_idle, every, fed_by, IsServed}
 use Rattle.std.specs.Prelude.{reverse, Option}
 use Rattle.serve_top.proofs.Scripting.{AreCalls, spelled_calls, lines_of, lines_at}
 use Rattle.serve_top.proofs.Logged.{same_calls, logged_calls, brings_calls}
@@ -124,7 +124,7 @@ module _ {T : Type 0} (source : T → SourceEnd) (sink : T → SinkEnd) (may : �
   -- ------ the script
 
   -- what this seat has called and told is what the requests of its line ask for
-  pub record IsAt (k : ℕ) (lines : List T) (d : Desk T) (commands : List Command) : Type 0 where
+  pub record IsAt (k : ℕ) (lines : List T) (d : Desk T) (commands : List ClientCommand) : Type 0 where
     pub line : T
     pub there : slice_get (reverse lines) k ≡ Some line
     pub end : T
@@ -148,7 +148,7 @@ module _ {T : Type 0} (source : T → SourceEnd) (sink : T → SinkEnd) (may : �
         )
 
     -- the commands of the seat in this place, if there is one
-    choose : (k : ℕ) (o : Option (Desk T)) → slice_get new k ≡ o → (cs : List Command) × AreCalls cs × ((d : Desk T) → o ≡ Some d → IsAt k lines d cs)
+    choose : (k : ℕ) (o : Option (Desk T)) → slice_get new k ≡ o → (cs : List ClientCommand) × AreCalls cs × ((d : Desk T) → o ≡ Some d → IsAt k lines d cs)
     choose k None at = ([], tt, λ d some. absurd (cc some))
     choose k (Some d) at =
         let a = answers_at k d at in (
@@ -158,7 +158,7 @@ module _ {T : Type 0} (source : T → SourceEnd) (sink : T → SinkEnd) (may : �
               subst (λ (z : Desk T). IsAt k lines z (commands_by 0 (spelled (a.3.turns ++ a.3.last) a.3.leaving))) one (record { line = a.0; there = a.1; end = d.line; first = a.2; answers = a.3; are = refl }),
         )
 
-    pub commands_at : (k : ℕ) → List Command
+    pub commands_at : (k : ℕ) → List ClientCommand
     commands_at k = (choose k (slice_get new k) refl).0
 
     pub calls_at : (k : ℕ) → AreCalls (commands_at k)

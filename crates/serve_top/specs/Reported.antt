@@ -3,7 +3,7 @@ use Rattle.std.specs.Prelude.{◌≡◌, ◌≢◌, ◌≤◌, ◌++◌, ℕ, Bo
 use Rattle.serve_top.specs.Imports.{Appends, AreWorked, Caller, Consumes, DEMUX_NODES, Desk, Dvr, Fed, FeederWorker, Frontend, Going, HasAnsweredAll, HasFedAll, HasLeft, HaveCalled, IsLoggedIn, IsWholeRun, LogEntry, Of188, Outcome, Pulls, Scripted, SinkEnd, SourceEnd, Sources, TellWhatWasCalled, commands_by, commands_of, cut, has_failed, head_of, log_of, no_writes, report_of, spelled, told_entry, told_head}
 use Rattle.dmx_calls.specs.Response.{NoMemory}
 use Rattle.serve_top.specs.declared.left.Books.{Books}
-use Rattle.serve_top.specs.declared.left.Left.{Left}
+use Rattle.serve_top.specs.declared.left.ReportParts.{ReportParts}
 use Rattle.serve_top.specs.Read.{HasReadTo}
 
 -- all nodes
@@ -92,7 +92,7 @@ module _ {T : Type 0} where
     pub outcomes : map (λ those. those.items) books.outcomes.items ≡ map (λ d. d.seat.outcomes.items) desks
 
   -- this is left of a feeder and of seats
-  pub record IsLeftBy (feeder : FeederWorker) (desks : List (Desk T)) (left : Left) : Type 0 where
+  pub record IsLeftBy (feeder : FeederWorker) (desks : List (Desk T)) (left : ReportParts) : Type 0 where
     pub head : (taken : List ℕ) (given : List (List ℕ)) → Pulls [] taken given feeder.puller
         → told_head left.head ≡ head_of feeder.puller.cutting.size taken (has_failed feeder.puller.reading)
     pub tells : (among : ℕ → Bool) (packets : Sources)

@@ -47,7 +47,7 @@ pub fn books_of<T: Drop>(alloc: Global, desks: Vec<Desk<T>>) -> Result<Books, No
 
 /// What a report is made of.
 #[derive(Drop)]
-pub struct Left {
+pub struct ReportParts {
     /// What was found in the stream.
     pub head: Head,
     /// What became of each seat's commands.
@@ -62,7 +62,7 @@ pub fn left_by<T: Drop>(
     adapter: Adapter,
     feeder: FeederWorker,
     desks: Vec<Desk<T>>,
-) -> Result<Left, NoMemory>
+) -> Result<ReportParts, NoMemory>
     requires done { IsDone feeder.puller }
     requires all { AreAllCallers adapter (map (λ d. d.seat.client) desks.items ++ feeder.feeder ∷ []) }
     requires nodes { All (λ d. AreOnNodes (log_of d.seat)) desks.items }
@@ -76,7 +76,7 @@ pub fn left_by<T: Drop>(
     } = books_of(alloc, desks)?;
     let (feeder, feeding) = feeder.into_parts();
     let histories = histories_of_run(alloc, adapter, feeder, clients, feeding, logs)?;
-    Ok(Left {
+    Ok(ReportParts {
         head,
         outcomes,
         histories,

@@ -16,7 +16,7 @@
 //! wanting stands in the report, and is none of a run.
 //!
 //! `HasServedLines` (`specs/Journaled.antt`) says the same of `serve_to`, but for merged histories and the script, and that the
-//! journals were given just these calls and batches. `Written` is a journal of lines (`specs/Lines.antt`), `Forgotten` of `seats` keeps
+//! journals were given just these calls and batches. `WrittenLines` is a journal of lines (`specs/Lines.antt`), `Forgotten` of `seats` keeps
 //! nothing. `TooLong` comes only where 4,294,967,296 bytes of the stream were read at least, `Failed` where the sink's count of faults
 //! rose; `NoMemory` has no cause. Where memory was refused, or the stream was too long, nothing is written.
 //!
@@ -35,4 +35,4 @@ mod written;
 pub use journals::{Handed, serve_to};
 pub use passing::Batches;
 pub use server::{NoReport, serve};
-pub use written::{Written, write_head};
+pub use written::{WrittenLines, write_head};

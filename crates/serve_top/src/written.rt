@@ -16,7 +16,7 @@ use ts_watch::Head;
 /// A journal that writes a line for each call, or for each batch, as it is given them. Where a write fails, or memory for a line is
 /// refused, it isn't whole any more, and writes nothing behind that.
 #[derive(Drop)]
-pub struct Written<K: Drop> {
+pub struct WrittenLines<K: Drop> {
     /// Where the lines go.
     pub sink: K,
     /// The line that was made last.
@@ -46,12 +46,12 @@ fn add_fed(out: &mut Vec<u8>, fed: Fed) -> Result<(), NoMemory>
     out.extend_from_slice(b"\n")
 }
 
-impl<K: Sink + Drop> Written<K> {
+impl<K: Sink + Drop> WrittenLines<K> {
     /// A journal that has written nothing to this sink yet.
-    pub fn new(alloc: Global, sink: K) -> Written<K>
+    pub fn new(alloc: Global, sink: K) -> WrittenLines<K>
         ensures { (result.sink ≡ sink) × (result.whole ≡ true) }
     {
-        Written {
+        WrittenLines {
             sink,
             line: Vec::new(alloc),
             whole: true,
@@ -77,7 +77,7 @@ impl<K: Sink + Drop> Written<K> {
     }
 }
 
-impl<K: Sink + Drop> Journal for Written<K> {
+impl<K: Sink + Drop> Journal for WrittenLines<K> {
     ghost use Rattle.std.specs.List.{flat_map};
     ghost use Rattle.serve_top.specs.Lines.{call_line, HasWritten};
     ghost use Rattle.serve_top.specs.Inside.Writing.{written_none, written_both};
@@ -101,7 +101,7 @@ impl<K: Sink + Drop> Journal for Written<K> {
     ghost took_both = { λ a b c xs ys p q. written_both K.end call_line a b c xs ys p q };
 }
 
-impl<K: Sink + Drop> Batches for Written<K> {
+impl<K: Sink + Drop> Batches for WrittenLines<K> {
     ghost use Rattle.std.specs.List.{flat_map};
     ghost use Rattle.serve_top.specs.Lines.{fed_line, HasWritten};
     ghost use Rattle.serve_top.specs.Inside.Writing.{written_none, written_both};

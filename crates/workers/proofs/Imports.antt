@@ -14,10 +14,10 @@ pub use Rattle.client_core.specs.Deeds.{deed_of}
 pub use Rattle.client_core.specs.Events.{Progress, Standing, no_slots, progress, progress_from, slots_after}
 pub use Rattle.client_core.specs.Inside.Core.{behind, coming}
 pub use Rattle.client_core.specs.Steps.{after, doing, event_of, first_on, telling}
-pub use Rattle.client_core.specs.declared.command.Command.{Command}
+pub use Rattle.client_core.specs.declared.command.ClientCommand.{ClientCommand}
 pub use Rattle.client_core.specs.declared.deed.Deed.{Deed}
 pub use Rattle.client_core.specs.declared.deed.Deed.TheVariants.{Drain, GetStc, ReadWait, Write}
-pub use Rattle.client_core.specs.declared.event.Request.{Request}
+pub use Rattle.client_core.specs.declared.event.ClientRequest.{ClientRequest}
 pub use Rattle.client_core.specs.declared.task.Ending.{Ending}
 pub use Rattle.client_core.specs.declared.task.Ending.TheVariants.{Made}
 pub use Rattle.client_core.specs.declared.task.Next.{Next}
@@ -91,7 +91,7 @@ pub use Rattle.workers.specs.Named.{is_for, is_named, names, passes_all}
 pub use Rattle.workers.specs.Telling.{HasLogged, HaveCalled, IsLoggedIn, IsTheHistory, TellWhatWasCalled, WorkersHaveCalled, steps_from}
 pub use Rattle.workers.specs.declared.client_worker.ClientWorker.{ClientWorker}
 pub use Rattle.workers.specs.declared.feeder_worker.FeederWorker.{FeederWorker}
-pub use Rattle.workers.specs.declared.left.Left.{Left}
+pub use Rattle.workers.specs.declared.left.LeftByThreads.{LeftByThreads}
 pub use mathlib.Core.List.{IsPrefix}
 pub use mathlib.Core.Logic.{dite}
 pub use mathlib.Core.Option.{some-injective, some-ne-none}

@@ -1,5 +1,5 @@
 -- The workers at their end.
-use Rattle.workers.proofs.Imports.{◌≡◌, ◌≢◌, ◌⊎◌, inl, inr, ⊎_elim, ℕ, Bool, ◌+◌, List, [], ◌∷◌, ◌++◌, length, map, Vec, Global, Option, Some, None, refl, ap, sym, ◌∙◌, subst, arith, length-append, slice_index_or, option_map, All, slice_get-map, slice_get-get_or, get_or_from_slice_get, slice_get_within, length-map, TableId, cut, told_entry, LogEntry, ToldEntry, Fed, Outcome, clients_in, Scripted, replies, MOST_CALLS, Stop, NoMemory, TooLong, SourceEnd, Pulling, Pulls, Pulls-done, Caller, IsSameCaller, AreFreshCallers, AreAllCallers, ended, still_all, at_place, at_end, at_last, at_before, one_value, AreOnNodes, ClientWorker, FeederWorker, Left, log_of, IsWorking, HasCome, AreFreshWorkers, HaveCome, AreOutcomesOf, is_named, HasFed, HasFedAll, HasPassedAll, GoesFirst, StopsBy, IsLeftByWorkers, HasWorked, AreWorked}
+use Rattle.workers.proofs.Imports.{◌≡◌, ◌≢◌, ◌⊎◌, inl, inr, ⊎_elim, ℕ, Bool, ◌+◌, List, [], ◌∷◌, ◌++◌, length, map, Vec, Global, Option, Some, None, refl, ap, sym, ◌∙◌, subst, arith, length-append, slice_index_or, option_map, All, slice_get-map, slice_get-get_or, get_or_from_slice_get, slice_get_within, length-map, TableId, cut, told_entry, LogEntry, ToldEntry, Fed, Outcome, clients_in, Scripted, replies, MOST_CALLS, Stop, NoMemory, TooLong, SourceEnd, Pulling, Pulls, Pulls-done, Caller, IsSameCaller, AreFreshCallers, AreAllCallers, ended, still_all, at_place, at_end, at_last, at_before, one_value, AreOnNodes, ClientWorker, FeederWorker, LeftByThreads, log_of, IsWorking, HasCome, AreFreshWorkers, HaveCome, AreOutcomesOf, is_named, HasFed, HasFedAll, HasPassedAll, GoesFirst, StopsBy, IsLeftByWorkers, HasWorked, AreWorked}
 use Rattle.std.specs.Prelude.{slice_get}
 use Rattle.workers.proofs.Lists.{mapped}
 use Rattle.workers.proofs.Working.{next_is}
@@ -94,7 +94,7 @@ module _ (script : Scripted) (locks : List TableId) (n : ℕ) (feeder : Caller) 
         (λ last. subst (λ (x : Caller). IsSameCaller x d) here.1 (subst (IsSameCaller feeder) last.1 same)) (at_end now g d k there))
         (at_end clients feeder c k at)
 
-  module _ (f : FeederWorker) (w : Left) (left : IsLeftByWorkers f new w) (none : (k : ℕ) (v : ClientWorker) → slice_get new k ≡ Some v → v.stop ≡ None) where
+  module _ (f : FeederWorker) (w : LeftByThreads) (left : IsLeftByWorkers f new w) (none : (k : ℕ) (v : ClientWorker) → slice_get new k ≡ Some v → v.stop ≡ None) where
     -- each client has done its commands
     pub worked_each : (c : ℕ) (client : Caller) (log : List LogEntry) (told : List Outcome) → slice_get w.clients.items c ≡ Some client → slice_get (map (λ (log : Vec ToldEntry Global). map told_entry log.items) w.logs.items) c ≡ Some log → slice_get (map (λ (those : Vec Outcome Global). those.items) w.outcomes.items) c ≡ Some told
         → HasWorked script c may client log told

@@ -1,5 +1,5 @@
 -- Each call of a client is on a node that its script can name.
-use Rattle.workers.proofs.Imports.{◌≡◌, ◌⊎◌, inl, inr, ⊎_elim, ℕ, ◌+◌, Bool, true, false, ◌||◌, nat_eq, nat_lt, eq-eqb, List, [], ◌∷◌, Option, Some, None, refl, ap, sym, ◌∙◌, subst, if◌then◌else◌, option_map, list_any, Has, has_either, DEMUX_NODES, KeepTap, AttachTap, DetachTap, Response, Done, Ready, TapChange, Scripted, Line, CommandLine, Feed, Tick, Target, Node, Slot, Dvr, Verb, Command, Deed, ReadWait, Drain, GetStc, Write, Batches, deed_of, Event, Ending, Made, commands_in, commands_among, commands_of, Doing, stands, through, ends_wait, ends_drain, Slots, done, plays_of, Standing, slots_after, progress_from, no_slots, next_event, progress_of, is_for, passes_all, names, is_named, Task, Call, OpenFrom, Play, Next, Still, Through, first_on, telling, after, doing, event_of, along, by_steps, if_next}
+use Rattle.workers.proofs.Imports.{◌≡◌, ◌⊎◌, inl, inr, ⊎_elim, ℕ, ◌+◌, Bool, true, false, ◌||◌, nat_eq, nat_lt, eq-eqb, List, [], ◌∷◌, Option, Some, None, refl, ap, sym, ◌∙◌, subst, if◌then◌else◌, option_map, list_any, Has, has_either, DEMUX_NODES, KeepTap, AttachTap, DetachTap, Response, Done, Ready, TapChange, Scripted, Line, CommandLine, Feed, Tick, Target, Node, Slot, Dvr, Verb, ClientCommand, Deed, ReadWait, Drain, GetStc, Write, Batches, deed_of, Event, Ending, Made, commands_in, commands_among, commands_of, Doing, stands, through, ends_wait, ends_drain, Slots, done, plays_of, Standing, slots_after, progress_from, no_slots, next_event, progress_of, is_for, passes_all, names, is_named, Task, Call, OpenFrom, Play, Next, Still, Through, first_on, telling, after, doing, event_of, along, by_steps, if_next}
 use Rattle.client_script.specs.declared.line.Verb.TheVariants as verb
 use Rattle.client_core.specs.declared.deed.Deed.TheVariants.{Once}
 use Rattle.client_core.specs.declared.task.Task.TheVariants as task
@@ -91,15 +91,15 @@ done_is_on slots Dvr deed step rs = by_steps (IsOn Dvr deed) slots Dvr deed step
 -- ------ what the commands of a client do
 
 -- what stands before a call is one of these commands, on a node that it may call
-abbrev IsOnSome : List Command → Option Standing → Type 0
+abbrev IsOnSome : List ClientCommand → Option Standing → Type 0
 IsOnSome cs None = Unit {0}
-IsOnSome cs (Some s) = (c : Command) × Has cs c × MayCall c.target c.deed s.event.node
+IsOnSome cs (Some s) = (c : ClientCommand) × Has cs c × MayCall c.target c.deed s.event.node
 
-one_more : (c : Command) (cs : List Command) (s : Option Standing) → IsOnSome cs s → IsOnSome (c ∷ cs) s
+one_more : (c : ClientCommand) (cs : List ClientCommand) (s : Option Standing) → IsOnSome cs s → IsOnSome (c ∷ cs) s
 one_more c cs None on = tt
 one_more c cs (Some s) on = (on.0, inr on.1, on.2)
 
-progress_on : (slots : Slots) (step : ℕ) (cs : List Command) (rs : List Response) → IsOnSome cs (progress_from slots step cs rs).standing
+progress_on : (slots : Slots) (step : ℕ) (cs : List ClientCommand) (rs : List Response) → IsOnSome cs (progress_from slots step cs rs).standing
 progress_on slots step [] rs = tt
 progress_on slots step (c ∷ cs) rs =
     by_doing (done slots c.target c.deed step rs) (done_is_on slots c.target c.deed step rs) (λ next_slots next left. progress_on next_slots next cs left) where
@@ -109,11 +109,11 @@ progress_on slots step (c ∷ cs) rs =
 
 -- ------ the script
 
-module _ (client node : ℕ) (batches : Batches) (c : Command) (may : (is_for c.target node || passes c.deed) ≡ true) where
+module _ (client node : ℕ) (batches : Batches) (c : ClientCommand) (may : (is_for c.target node || passes c.deed) ≡ true) where
   by_line : (l : Line) → Has (commands_in client batches l) c → names node l ≡ true
   by_line (CommandLine line who target v) has = by_test (nat_eq who client) has where
     by_test : (b : Bool) → Has (if b then record { line = line; target = target; deed = deed_of batches v } ∷ [] else []) c → (is_for target node || passes_all v) ≡ true
-    by_test true has = ⊎_elim (λ is. ap (λ b. is_for target node || b) (sym (same_passes batches v)) ∙ (ap (λ (z : Command). is_for z.target node || passes z.deed) is ∙ may)) (λ no. absurd no) has
+    by_test true has = ⊎_elim (λ is. ap (λ b. is_for target node || b) (sym (same_passes batches v)) ∙ (ap (λ (z : ClientCommand). is_for z.target node || passes z.deed) is ∙ may)) (λ no. absurd no) has
     by_test false has = absurd has
   by_line (Feed n) has = absurd has
   by_line (Tick n) has = absurd has
@@ -125,7 +125,7 @@ module _ (client node : ℕ) (batches : Batches) (c : Command) (may : (is_for c.
     behind true e = refl
     behind false e = e
 
-named_by : (lines : List Line) (client node : ℕ) (batches : Batches) (c : Command) → Has (commands_among client batches lines) c → MayCall c.target c.deed node → is_named lines node ≡ true
+named_by : (lines : List Line) (client node : ℕ) (batches : Batches) (c : ClientCommand) → Has (commands_among client batches lines) c → MayCall c.target c.deed node → is_named lines node ≡ true
 named_by lines client node batches c has (inl may) = behind (nat_eq node DEMUX_NODES) (in_lines client node batches c may lines has) where
   behind : (b : Bool) → list_any (names node) lines ≡ true → (b || list_any (names node) lines) ≡ true
   behind true e = refl

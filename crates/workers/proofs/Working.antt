@@ -1,5 +1,5 @@
 -- The steps of a client at work.
-use Rattle.workers.proofs.Imports.{◌≡◌, suc, ◌+◌, ℕ, List, [], ◌∷◌, ◌++◌, length, map, Option, Some, refl, ap, sym, ◌∙◌, subst, arith, option_map, slice_get-map, TableId, View, IsSamePass, Entry, caller_of, Caller, IsSameCaller, Fits, OneLooks, same_trans, one_value, ClientWorker, log_of, HasLooked, map-append, told_entry, ToldEntry, Invocation, IsFrom, LogEntry, act_of, Response, Scripted, Event, Request, Batches, call_of, plays_of, Core, IsAfter, next_of, coming, behind, next_event, progress, Progress, IsEvent, sources, is_from}
+use Rattle.workers.proofs.Imports.{◌≡◌, suc, ◌+◌, ℕ, List, [], ◌∷◌, ◌++◌, length, map, Option, Some, refl, ap, sym, ◌∙◌, subst, arith, option_map, slice_get-map, TableId, View, IsSamePass, Entry, caller_of, Caller, IsSameCaller, Fits, OneLooks, same_trans, one_value, ClientWorker, log_of, HasLooked, map-append, told_entry, ToldEntry, Invocation, IsFrom, LogEntry, act_of, Response, Scripted, Event, ClientRequest, Batches, call_of, plays_of, Core, IsAfter, next_of, coming, behind, next_event, progress, Progress, IsEvent, sources, is_from}
 use Rattle.std.specs.Prelude.{slice_get}
 use Rattle.workers.proofs.Logging.{called_looked}
 use Rattle.std.proofs.lemmas.List.{append-nil}
@@ -18,7 +18,7 @@ is_event script client rs c event e moment after is node act =
     (node, (moment, act ∙ ap (λ (batches : Batches). act_of (call_of batches event.want moment)) after.plays))
 
 -- and brings packets that the client plays
-pub brings_played : (script : Scripted) (stream : List (List ℕ)) (client : ℕ) (rs : List Response) (c : Core) (want : Request) (moment : ℕ) {call : Invocation} → IsAfter client script rs c
+pub brings_played : (script : Scripted) (stream : List (List ℕ)) (client : ℕ) (rs : List Response) (c : Core) (want : ClientRequest) (moment : ℕ) {call : Invocation} → IsAfter client script rs c
     → call ≡ call_of c.plays want moment → IsFrom (sources script stream (suc client)) call
 brings_played script stream client rs c want moment after is =
     subst (IsFrom (sources script stream (suc client))) (sym (is ∙ ap (λ (batches : Batches). call_of batches want moment) after.plays)) (is_from script stream client want moment)

@@ -1,7 +1,7 @@
 -- What `work` answers.
 use Rattle.std.specs.Prelude.{◌≡◌, ℕ, Bool, true, List, length, map, slice_get, Some, None}
 use Rattle.workers.specs.Imports.{Caller, Fed, LogEntry, Outcome, PacketSize, Scripted, clients_in, cut, head_of, next_event, outcomes, replies, told_entry, told_head}
-use Rattle.workers.specs.declared.left.Left.{Left}
+use Rattle.workers.specs.declared.left.LeftByThreads.{LeftByThreads}
 use Rattle.workers.specs.Named.{is_named}
 use Rattle.workers.specs.Logged.{HasCalled}
 use Rattle.workers.specs.Feeding.{HasFedAll}
@@ -30,7 +30,7 @@ pub record AreWorked (script : Scripted) (among : ℕ → Bool) (most : ℕ) (ma
 -- This is what the threads of a run of a script leave over a stream of these bytes, whose packets take up so many each,
 -- and in which the source failed or not; the feeder has called just the nodes that the script can name.
 pub record IsLeftBy (script : Scripted) (most : ℕ) (may : ℕ → Bool) (size : PacketSize) (stream : List ℕ)
-    (left : Left) : Type 0 where
+    (left : LeftByThreads) : Type 0 where
   pub worked : AreWorked script (is_named script.lines) most may (cut size stream).packets left.feeder left.feeding.items left.clients.items
       (map (λ log. map told_entry log.items) left.logs.items) (map (λ those. those.items) left.outcomes.items)
   pub head : told_head left.head ≡ head_of size stream left.head.read_fault

@@ -5,7 +5,7 @@ use ts_watch::Head;
 
 /// What the threads of a run leave.
 #[derive(Drop)]
-pub struct Left {
+pub struct LeftByThreads {
     /// The batches that the feeder passed through all nodes, before it ended the stream.
     pub feeding: Vec<Fed>,
     /// The calls of each client, in their order.

@@ -36,5 +36,5 @@ pub use feeder_worker::FeederWorker;
 pub use laws::{
     calls_are_within_budget, few_bytes_are_few_calls, many_calls_are_too_long, workers_have_called,
 };
-pub use left::Left;
+pub use left::LeftByThreads;
 pub use run::work;

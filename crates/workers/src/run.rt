@@ -7,7 +7,7 @@ ghost use Rattle.workers.specs.Left.{IsLeftBy};
 use crate::client_worker::ClientWorker;
 use crate::clients::{ClientsLeft, left_by_clients, workers_of};
 use crate::feeder_worker::FeederWorker;
-use crate::left::Left;
+use crate::left::LeftByThreads;
 use crate::script_nodes::named;
 use crate::threads::work_all;
 use adapter::{Adapter, Client, Feeder};
@@ -60,7 +60,7 @@ fn left_by(
     alloc: Global,
     feeder: FeederWorker,
     clients: Vec<ClientWorker>,
-) -> Result<Left, NoMemory>
+) -> Result<LeftByThreads, NoMemory>
     requires { IsDone feeder.puller }
     ensures { IfOk result (IsLeftByWorkers feeder clients.items) }
 {
@@ -71,7 +71,7 @@ fn left_by(
         outcomes,
     } = left_by_clients(alloc, clients)?;
     let (feeder, feeding) = feeder.into_parts();
-    Ok(Left {
+    Ok(LeftByThreads {
         feeding,
         logs,
         outcomes,
@@ -110,7 +110,7 @@ pub fn work<R: Threads + Wait + Sync, S: Source + Send, C: Clock + Sync, G: Gate
     batch: u32,
     clock: &C,
     gate: &G,
-) -> Result<Left, Stop>
+) -> Result<LeftByThreads, Stop>
     requires fresh { AreFreshCallers adapter.now (clients_in script.now) feeder clients.items }
     requires all { AreAllCallers adapter.now (clients.items ++ feeder ∷ []) }
     requires some { 1 ≤ batch }

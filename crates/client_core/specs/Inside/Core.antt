@@ -2,7 +2,7 @@
 use Rattle.std.specs.Prelude.{ℕ, false, ◌≡◌, ◌≤◌, ◌*◌, ◌⊎◌, List, [], ◌∷◌, ◌++◌, length, map, Option, Some, None, option_map, All, IfSome, IfNone}
 use Rattle.client_core.specs.Imports.{Again, Command as CommandLine, HasVerb, IsTargetInRange, Line, Outcome, Response, Scripted}
 use Rattle.client_core.specs.Deeds.{Batches, IsDeedInRange, IsDeedOf}
-use Rattle.client_core.specs.declared.command.Command.{Command}
+use Rattle.client_core.specs.declared.command.ClientCommand.{ClientCommand}
 use Rattle.client_core.specs.declared.event.Event.{Event}
 use Rattle.client_core.specs.declared.current.Current.{Current}
 use Rattle.client_core.specs.Commands.{Doing, stands, through, Slots, plays_of}
@@ -15,7 +15,7 @@ use Rattle.client_core.specs.Inside.Clocks.{NodeClock, counter_in, HaveFollowed,
 use Rattle.client_core.specs.Inside.Tasks.{IsTaskInRange, IsTaskOf, IsCallEnding, CanAsk, HasClock, AreSlots}
 
 -- a command that is begun, and the commands behind it
-abbrev pub ahead : (line from : ℕ) → Slots → List Command → Doing → Progress
+abbrev pub ahead : (line from : ℕ) → Slots → List ClientCommand → Doing → Progress
 ahead line from slots cs (stands event) = record {
   ended = [];
   standing = Some (record { line = line; from = from; event = event });
@@ -24,7 +24,7 @@ ahead line from slots cs (through ending next left) =
     with_ended (record { line = line; from = from; to = next; ending = ending })
     (progress_from (slots_after ending slots) next cs left)
 
-abbrev pub coming_from : Option Current → (step : ℕ) → Slots → List Command → List Response → Progress
+abbrev pub coming_from : Option Current → (step : ℕ) → Slots → List ClientCommand → List Response → Progress
 coming_from None step slots cs replies = progress_from slots step cs replies
 coming_from (Some c) step slots cs replies = ahead c.line c.from slots cs (doing (Still c.task) step replies)
 
@@ -35,7 +35,7 @@ behind ended p = record { ended = ended ++ p.ended; standing = p.standing }
 -- taken, the node on which it waits, the clocks that it keeps, the batches of its writes, and the outcomes of the commands
 -- that are through.
 pub record Core : Type 0 where
-  pub left : List Command
+  pub left : List ClientCommand
   pub current : Option Current
   pub slots : Slots
   pub step : ℕ
@@ -48,11 +48,11 @@ pub record Core : Type 0 where
 abbrev pub coming : Core → List Response → Progress
 coming c replies = coming_from c.current c.step c.slots c.left replies
 
-abbrev pub IsCommandInRange : Command → Type 0
+abbrev pub IsCommandInRange : ClientCommand → Type 0
 IsCommandInRange c = IsTargetInRange c.target × IsDeedInRange c.deed
 
 -- where it asks for a counter, so many kept clocks are enough
-abbrev pub CanBegin : (kept : ℕ) → Command → Type 0
+abbrev pub CanBegin : (kept : ℕ) → ClientCommand → Type 0
 CanBegin kept c = CanAsk kept c.deed
 
 -- a line's command of this client names one of so many writes, if it names one
@@ -61,7 +61,7 @@ IsMade client count (CommandLine line who target verb) = who ≡ client → HasV
 IsMade client count _ = Unit {0}
 
 -- where it is to pass a batch, this is among these
-abbrev pub IsCommandOf : Batches → Command → Type 0
+abbrev pub IsCommandOf : Batches → ClientCommand → Type 0
 IsCommandOf batches c = IsDeedOf batches c.deed
 
 abbrev pub one_if_some : {A : Type 0} → Option A → ℕ
@@ -107,7 +107,7 @@ pub record IsLate (kept step : ℕ) (e : Ended) : Type 0 where
   pub now : (e.from ≡ step) ⊎ IsCallEnding e.ending
 
 -- Commands at the front are through at this step, by no further reply; their outcomes are by these clocks.
-pub record HasBegun (clocks : List NodeClock) (step : ℕ) (slots_before slots : Slots) (left_before left : List Command)
+pub record HasBegun (clocks : List NodeClock) (step : ℕ) (slots_before slots : Slots) (left_before left : List ClientCommand)
     (outcomes_before outcomes : List Outcome) (current : Option Current) : Type 0 where
   pub passed : List Ended
   pub same : (more : List Response)

@@ -2,14 +2,14 @@
 use Rattle.std.specs.Prelude.{ℕ, ◌≡◌, ◌≤◌, ◌+◌, List, [], ◌∷◌, ◌++◌, Some, None, false, if◌then◌else◌}
 use Rattle.client_core.specs.Imports.{Again, Read, Response, Scripted}
 use Rattle.client_core.specs.declared.event.Event.{Event}
-use Rattle.client_core.specs.declared.event.Request.{Request}
-use Rattle.client_core.specs.declared.event.Request.TheVariants.{Own}
+use Rattle.client_core.specs.declared.event.ClientRequest.{ClientRequest}
+use Rattle.client_core.specs.declared.event.ClientRequest.TheVariants.{Own}
 use Rattle.client_core.specs.Commands.{ends_drain}
 use Rattle.client_core.specs.Events.{next_event, waits_on}
 use Rattle.client_core.specs.Repeats.{repeats}
 
 -- the reads that this reply may add: one, where it is to a read and ends no drain
-abbrev pub added_by : Request → Response → ℕ
+abbrev pub added_by : ClientRequest → Response → ℕ
 added_by (Own (Read count)) reply = if ends_drain reply then 0 else 1
 added_by _ reply = 0
 

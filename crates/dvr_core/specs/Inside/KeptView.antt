@@ -1,12 +1,12 @@
 -- What the dvr node knows, from what it keeps.
 use Rattle.std.specs.Prelude.{ℕ, ◌≡◌, ◌≤◌, Bool, true, List, [], Option, Some, None}
 use Rattle.dvr_core.specs.Imports.{CoherentIn, DVR_SIZE, Dvr, Empty, Facts, Invocation, OrNoMemory, Passed, Response, Tap, owner_refusal, response_to, total_of}
-use Rattle.dvr_core.specs.declared.kept.Kept.{Kept}
-use Rattle.dvr_core.specs.declared.tenure.Tenure.{Tenure}
+use Rattle.dvr_core.specs.declared.kept.KeptByDvr.{KeptByDvr}
+use Rattle.dvr_core.specs.declared.tenure.DvrTenure.{DvrTenure}
 use Rattle.dvr_core.specs.Inside.Step.{Knows, moved, next}
 
 -- a free node has the default size; no node has a filter
-abbrev pub facts_in : (has_ended : Bool) → Option Tenure → Facts
+abbrev pub facts_in : (has_ended : Bool) → Option DvrTenure → Facts
 facts_in has_ended None = record {
   has_ended = has_ended;
   owner = None;
@@ -25,10 +25,10 @@ facts_in has_ended (Some tenure) =
       ledger = tenure.buffer.ledger;
     }
 
-abbrev pub knows_in : (has_ended : Bool) → List (Option Tap) → Option Tenure → Knows
+abbrev pub knows_in : (has_ended : Bool) → List (Option Tap) → Option DvrTenure → Knows
 knows_in has_ended taps tenure = record { facts = facts_in has_ended tenure; taps = taps }
 
-abbrev pub knows_of : Kept → Knows
+abbrev pub knows_of : KeptByDvr → Knows
 knows_of kept = knows_in kept.has_ended kept.taps kept.tenure
 
 -- the bytes of the capture
@@ -36,7 +36,7 @@ abbrev pub bytes_in : Knows → ℕ
 bytes_in k = total_of k.facts.ledger
 
 -- its owner isn't refused this call
-abbrev pub IsGranted : Tenure → Invocation → Type 0
+abbrev pub IsGranted : DvrTenure → Invocation → Type 0
 IsGranted tenure call = owner_refusal Dvr (facts_in true (Some tenure)) call ≡ None
 
 -- what this caller is answered to a call that isn't refused
@@ -45,7 +45,7 @@ reply_to k who call = response_to k.facts (moved k who call Passed).facts call
 
 -- What a call of the owner does that isn't refused, whichever the taps are: what is answered, or want of memory, and
 -- what the node then knows; that is sound, and no byte arrives.
-pub record Does (ended : Bool) (old : Tenure) (call : Invocation) (r : Response) (new : Tenure) : Type 0 where
+pub record Does (ended : Bool) (old : DvrTenure) (call : Invocation) (r : Response) (new : DvrTenure) : Type 0 where
   pub said : (taps : List (Option Tap)) → OrNoMemory (facts_in ended (Some old)) call
       (reply_to (knows_in ended taps (Some old)) old.owner call) r
   pub after : (taps : List (Option Tap))

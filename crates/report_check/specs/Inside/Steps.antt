@@ -1,6 +1,6 @@
 -- What the parts of a walk decide and do.
 use Rattle.std.specs.Prelude.{◌≡◌, ℕ, ◌+◌, List, [], ◌∷◌, length, slice_get, slice_set, Some}
-use Rattle.report_check.specs.Imports.{Act, Batches, LogEntry, Pass as PassAct, Poll as PollAct, Read as ReadAct, Request, SetFilter as SetFilterAct, SetPes as SetPesAct, Start as StartAct, act_of, call_of}
+use Rattle.report_check.specs.Imports.{Act, Batches, LogEntry, Pass as PassAct, Poll as PollAct, Read as ReadAct, ClientRequest, SetFilter as SetFilterAct, SetPes as SetPesAct, Start as StartAct, act_of, call_of}
 
 -- the moment of a call; 0 where it has none
 abbrev pub moment_in : Act → ℕ
@@ -13,7 +13,7 @@ moment_in (PassAct input first count now) = now
 moment_in _ = 0
 
 -- the call that is asked for by a client that plays these batches, made at the moment of this one
-abbrev pub asked_at : Batches → Request → Act → Act
+abbrev pub asked_at : Batches → ClientRequest → Act → Act
 asked_at batches request act = act_of (call_of batches request (moment_in act))
 
 -- an entry was taken from the front of a node's queue, and nothing else

@@ -3,7 +3,7 @@ ghost use Rattle.std.specs.Prelude.{◌≡◌, ◌≢◌, ◌≤◌, true, false
 ghost use Rattle.report_check.specs.Imports.{IsEvent, IsRequestOf, act_of, call_of, option_map, own_call, pass_of, told_entry};
 ghost use Rattle.report_check.specs.Inside.Steps.{asked_at, moment_in};
 
-use client_core::{ClientCore, Event, Request};
+use client_core::{ClientCore, ClientRequest, Event};
 use client_script::Want;
 use dmx_calls::{Act, Entry, Input, KeptAct};
 use std::sync::Arc;
@@ -65,18 +65,18 @@ fn passed(batch: Option<&Arc<Batch>>, now: u64) -> Act
 
 // What is asked for by this client, made at this moment.
 #[tactic(auto, using(crate::proofs::Asked::written_rules))]
-fn asked(core: &ClientCore, request: &Request, now: u64) -> Act
+fn asked(core: &ClientCore, request: &ClientRequest, now: u64) -> Act
     requires played { IsRequestOf core.now.plays request.now }
     ensures { result ≡ act_of (call_of core.now.plays request.now now) }
 {
     match request {
-        Request::Own(want) => asked_by_command(*want, now),
-        Request::Attach { node, pids } => Act::Attach {
+        ClientRequest::Own(want) => asked_by_command(*want, now),
+        ClientRequest::Attach { node, pids } => Act::Attach {
             node: *node,
             pids: pids.copied(),
         },
-        Request::Detach { node } => Act::Detach { node: *node },
-        Request::Pass { write } => passed(core.batch(*write), now),
+        ClientRequest::Detach { node } => Act::Detach { node: *node },
+        ClientRequest::Pass { write } => passed(core.batch(*write), now),
     }
 }
 
@@ -89,7 +89,7 @@ fn is_same(this: &Act, other: &Act) -> bool
 }
 
 // Whether a told call is this one of the client, at its own moment.
-fn is_asked(core: &ClientCore, request: &Request, told: &KeptAct) -> bool
+fn is_asked(core: &ClientCore, request: &ClientRequest, told: &KeptAct) -> bool
     requires played { IsRequestOf core.now.plays request.now }
     ensures same { result ≡ true → told.now ≡ asked_at core.now.plays request.now told.now }
     ensures differs { result ≡ false → told.now ≢ asked_at core.now.plays request.now told.now }

@@ -1,12 +1,12 @@
 -- How the lines of a node are read (this project's own).
 use Rattle.std.specs.Prelude.{ℕ, List, Some, codes}
 use Rattle.report_read.specs.Imports.{LogEntry}
-use Rattle.report_read.specs.declared.entries.Front.{Front}
+use Rattle.report_read.specs.declared.entries.EntryFront.{EntryFront}
 use Rattle.report_read.specs.Inside.Reading.{Reading, and_then, past, number64}
 use Rattle.report_read.specs.Inside.Parts.{who_in, act_in, response_in}
 
 -- what stands in front of a reply
-unfoldable pub front_in : List ℕ → Reading Front
+unfoldable pub front_in : List ℕ → Reading EntryFront
 front_in bytes =
     and_then (number64 bytes) (λ place bytes.
     past (codes " ") bytes (λ bytes. and_then (who_in bytes) (λ who bytes.

@@ -5,7 +5,7 @@ use Rattle.dmx_calls.specs.Invocation.{Invocation, Pass, End}
 use Rattle.node_core.specs.Stands.{StandsFor as DemuxStands}
 use Rattle.serial_core.specs.declared.node.AnyCore.{AnyCore}
 use Rattle.serial_core.specs.declared.node.AnyCore.TheVariants.{Demux, Dvr}
-use Rattle.serial_core.specs.declared.seat.Seat.{Seat}
+use Rattle.serial_core.specs.declared.seat.SerialNode.{SerialNode}
 use Rattle.serial_core.specs.declared.nodes.Nodes.{Nodes}
 use Rattle.serial_core.specs.Nodes.{Node, history_of, log_of}
 use Rattle.serial_core.specs.SerialRun.{Run}
@@ -40,7 +40,7 @@ entries_in (Dvr core) = core.entries
 
 -- A node of the code is where the run's is, which has these calls of the feeder: its core stands for the history, and
 -- its entries are those of the clients.
-pub record IsSeat (acts : List Act) (seat : Seat) (n : Node) : Type 0 where
+pub record IsSeat (acts : List Act) (seat : SerialNode) (n : Node) : Type 0 where
   pub core : StandsAt seat.core n.number (history_of n)
   pub number : seat.node ≡ n.number
   pub log : woven n.number acts (map told_entry seat.entries.items) ≡ (log_of n).entries
@@ -64,11 +64,11 @@ pub record IsNodes (v : Nodes) (r : Run) : Type 0 where
   pub has_ended : v.has_ended ≡ r.has_ended
 
 -- the node has at most so many entries
-abbrev pub IsUnder : Seat → (most : ℕ) → Type 0
+abbrev pub IsUnder : SerialNode → (most : ℕ) → Type 0
 IsUnder seat most = entries_in seat.core ≤ most
 
 -- so have all these nodes, which are 33
-abbrev pub AreUnder : List Seat → (most : ℕ) → Type 0
+abbrev pub AreUnder : List SerialNode → (most : ℕ) → Type 0
 AreUnder seats most = Pairs IsUnder seats (replicate (DEMUX_NODES + 1) most)
 
 -- no node has more entries than calls were made

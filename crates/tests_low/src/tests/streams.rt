@@ -159,7 +159,7 @@ static ROWS: [Row; 5] = [
 
 // A puller, and the source that it pulls from.
 #[derive(Drop)]
-struct Stream {
+struct PulledStream {
     puller: Puller,
     source: MemSource,
     ghost counts: { puller.reading ≡ Going → source.faults < 2 ^ 64 - 1 },
@@ -174,16 +174,16 @@ fn source_of(alloc: Global, fails: &[u64]) -> Result<MemSource, NoMemory>
 }
 
 // The stream of a row. Reads beyond the bound are taken for as many as the bound.
-fn stream_of(alloc: Global, row: &Row) -> Result<Stream, NoMemory> {
+fn stream_of(alloc: Global, row: &Row) -> Result<PulledStream, NoMemory> {
     let turns = row.turns.min(4_294_967_296);
     let puller = Puller::new(alloc, Vec::new(alloc), turns, PacketSize::Of188)?;
     let source = source_of(alloc, row.fails)?;
-    Ok(Stream { puller, source })
+    Ok(PulledStream { puller, source })
 }
 
-impl Stream {
+impl PulledStream {
     // How many packets so many pulls give at most, and the tally and the rows of PIDs once a pull gives none.
-    fn pulled(&mut self, alloc: Global, pulls: usize) -> Result<(u32, Option<Told>), NoMemory> {
+    fn pulled(&mut self, alloc: Global, pulls: usize) -> Result<(u32, Option<ToldHead>), NoMemory> {
         let mut packets = 0u32;
         'pulls: for _pull in 0..pulls {
             match self.puller.pull(&mut self.source, 64)? {
@@ -199,10 +199,10 @@ impl Stream {
 }
 
 // A tally, and the rows of PIDs.
-type Told = (Tally, Vec<(u16, PidRow)>);
+type ToldHead = (Tally, Vec<(u16, PidRow)>);
 
 // Whether this tally is told, with all packets of PID 0 in its row; or nothing is.
-fn is_told(told: &Option<Told>, want: &Option<Tally>) -> bool {
+fn is_told(told: &Option<ToldHead>, want: &Option<Tally>) -> bool {
     match (told, want) {
         (Some((tally, rows)), Some(want)) => {
             let row = PidRow {

@@ -20,7 +20,7 @@ pub const SECOND: Part = (b"\x47\x01\x00\x11", 184, 0);
 
 /// Both ends of a session: the most that a read gives and a write takes, which of them fail, and what the sink holds.
 #[derive(Clone, Copy)]
-pub struct Ends {
+pub struct TestEnds {
     pub piece: u32,
     pub reads: &'static [u64],
     pub capacity: usize,
@@ -67,7 +67,7 @@ fn words_of(alloc: Global, words: &str) -> Result<Vec<String>, NoMemory> {
 }
 
 // The source of an input, and a sink.
-fn opened(alloc: Global, input: Vec<u8>, ends: &Ends) -> Result<(MemSource, MemSink), NoMemory>
+fn opened(alloc: Global, input: Vec<u8>, ends: &TestEnds) -> Result<(MemSource, MemSink), NoMemory>
     ensures { IfOk result (λ both. (both.0.faults ≡ 0) × (both.1.faults ≡ 0)) }
 {
     let (reads, writes) = (ends.reads.to_vec(alloc)?, ends.writes.to_vec(alloc)?);
@@ -80,7 +80,7 @@ pub fn told<R: AllocGlobal + Threads + Wait + Sync, C: Clock + Sync, G: Gate + S
     rt: &R,
     words: &str,
     input: Vec<u8>,
-    ends: &Ends,
+    ends: &TestEnds,
     clock: &C,
     gate: &G,
 ) -> Result<(Status, Vec<u8>), NoMemory> {

@@ -1,8 +1,8 @@
 //! Reads and writes that fail, on one thread and by threads, and where a report is checked: worked out by hand from the rules of the
 //! statuses.
-use super::ends::{Ends, FIRST, Part, input_of, told};
+use super::ends::{FIRST, Part, TestEnds, input_of, told};
 use super::report_lines::text_of;
-use client_script::{FaultKind, FaultyWord, ScriptFault, Wanted};
+use client_script::{FaultKind, FaultyWord, ScriptFault, WantedWord};
 use emu_io::{FixedClock, NoGate};
 use emu_top::Status;
 use std::alloc::AllocError as NoMemory;
@@ -10,7 +10,7 @@ use std::sync::Wait;
 use std::thread::Threads;
 
 // An input, and how it ends where its ends fail in many ways.
-struct Session {
+struct FailingSession {
     // The words, those of each run on a line.
     words: &'static str,
     script: &'static str,
@@ -18,11 +18,11 @@ struct Session {
     // What a read gives at most, and what a write takes at most.
     piece: u32,
     width: u32,
-    rows: &'static [Row],
+    rows: &'static [FailingRow],
 }
 
 // Which reads and which writes fail, and how many bytes find room; the status, and the output as `text_of` reads it.
-type Row = (&'static [u64], &'static [u64], usize, Status, &'static str);
+type FailingRow = (&'static [u64], &'static [u64], usize, Status, &'static str);
 
 // The words of sessions none of which has a call whose place hangs on the order of the threads.
 const BOTH: &str = "steps --batch 1\nrun --batch 1\nrun";
@@ -33,7 +33,7 @@ const ROOM: usize = 10_000;
 // Three times the same packet.
 const THREE: &[Part] = &[FIRST, FIRST, FIRST];
 
-const READ_FAULTS: Session = Session {
+const READ_FAULTS: FailingSession = FailingSession {
     words: BOTH,
     script: "stream\n",
     stream: THREE,
@@ -93,7 +93,7 @@ const READ_FAULTS: Session = Session {
 };
 
 // A script with a fault, behind which nothing is read.
-const SCRIPT_FAULT: Session = Session {
+const SCRIPT_FAULT: FailingSession = FailingSession {
     words: BOTH,
     script: "c0 open\nstream\n",
     stream: &[(b"", 1000, 0x47)],
@@ -108,7 +108,7 @@ const SCRIPT_FAULT: Session = Session {
             kind: FaultKind::Count,
             word: Some(FaultyWord {
                 number: 3,
-                wanted: Wanted::Target,
+                wanted: WantedWord::Target,
             }),
         }),
         "",
@@ -116,7 +116,7 @@ const SCRIPT_FAULT: Session = Session {
 };
 
 // The report of a session without packets has 40 bytes, so there are four writes.
-const WRITE_FAULTS: Session = Session {
+const WRITE_FAULTS: FailingSession = FailingSession {
     words: BOTH,
     script: "stream\n",
     stream: &[],
@@ -159,7 +159,7 @@ const WRITE_FAULTS: Session = Session {
 };
 
 // Words that read nothing: the first read would fail.
-const MAKE: Session = Session {
+const MAKE: FailingSession = FailingSession {
     words: "make 7",
     script: "stream\n",
     stream: &[],
@@ -169,7 +169,7 @@ const MAKE: Session = Session {
 };
 
 // A client of those three packets. Where a `feed` finds a fault, the packets that were taken pass, and then the end.
-const READS: Session = Session {
+const READS: FailingSession = FailingSession {
     words: "steps --batch 1",
     script: "c0 open n0\nc0 pes n0 256 frontend tsdemux_tap 20 4\nfeed 2\nc0 drain n0 188\nstream\n",
     stream: THREE,
@@ -298,7 +298,7 @@ const READS: Session = Session {
 
 // A right report and its session: ten reads for the first line, one for the report, one for the session, and one at the end; and
 // a write for each byte of the answer.
-const ANSWERS: Session = Session {
+const ANSWERS: FailingSession = FailingSession {
     words: "check",
     script: "report 40\ndvbemu 1\npackets=0 skipped=0 rest=0\nend\nstream\n",
     stream: &[],
@@ -327,7 +327,7 @@ const ANSWERS: Session = Session {
     ],
 };
 
-static SESSIONS: [Session; 6] = [
+static SESSIONS: [FailingSession; 6] = [
     READ_FAULTS,
     SCRIPT_FAULT,
     WRITE_FAULTS,
@@ -339,12 +339,12 @@ static SESSIONS: [Session; 6] = [
 // Whether a session ends as a row says.
 fn is_right<R: AllocGlobal + Threads + Wait + Sync>(
     rt: &R,
-    session: &Session,
+    session: &FailingSession,
     words: &str,
-    row: &Row,
+    row: &FailingRow,
 ) -> Result<bool, NoMemory> {
     let (reads, writes, capacity, status, output) = *row;
-    let ends = Ends {
+    let ends = TestEnds {
         piece: session.piece,
         reads,
         capacity,
@@ -361,7 +361,7 @@ fn is_right<R: AllocGlobal + Threads + Wait + Sync>(
 // The words and the number of the first row of a session that isn't so.
 fn odd_row<R: AllocGlobal + Threads + Wait + Sync>(
     rt: &R,
-    session: &Session,
+    session: &FailingSession,
 ) -> Option<(&'static str, usize)> {
     for words in session.words.split("\n") {
         for (number, row) in session.rows.iter().enumerate() {

@@ -6,7 +6,7 @@ use super::lines::MemLine;
 use super::report_lines::reply_to;
 use emu_io::{FixedClock, MemSink, MemSource, NoGate};
 use seats::JournalLine;
-use serve_top::{Handed, NoReport, Written, serve, serve_to, write_head};
+use serve_top::{Handed, NoReport, WrittenLines, serve, serve_to, write_head};
 use std::alloc::Global;
 use std::sync::Wait;
 use std::thread::Threads;
@@ -34,7 +34,7 @@ fn is_like(bytes: &[u8], want: &str) -> bool {
 }
 
 // A server's report of two lines that ask for the dvr node at the same time.
-struct Row {
+struct JournalRow {
     stream: &'static [Part],
     // How many bytes of the report find room.
     room: usize,
@@ -44,9 +44,9 @@ struct Row {
     calls: &'static [&'static str],
 }
 
-static ROWS: [Row; 2] = [
+static ROWS: [JournalRow; 2] = [
     // Each has made two calls, beside two batches and the end.
-    Row {
+    JournalRow {
         stream: PACKETS,
         room: 100_000,
         ended: Ok(()),
@@ -57,7 +57,7 @@ static ROWS: [Row; 2] = [
         calls: &["c0 0 open", "c0 1 close", "c1 0 open", "c1 1 close"],
     },
     // Where it finds no room its front is written.
-    Row {
+    JournalRow {
         stream: &[PACKET],
         room: 5,
         ended: Err(NoReport::Failed),
@@ -75,7 +75,7 @@ fn has_calls(report: &[u8], calls: &[&str]) -> bool {
 }
 
 // Whether a server ends as a row says.
-fn is_reported<R: Threads + Wait + Sync>(rt: &R, alloc: Global, row: &Row) -> Option<bool> {
+fn is_reported<R: Threads + Wait + Sync>(rt: &R, alloc: Global, row: &JournalRow) -> Option<bool> {
     let asked = [(2, 0), (3, 32)];
     let mut lines = Vec::new(alloc);
     lines.push(MemLine::new(alloc, &asked, 152, 1000)?).ok()?;
@@ -98,14 +98,17 @@ fn the_report_tells_what_both_have_called(rt: HostRuntime) {
 }
 
 // A journal of lines in memory, of which the writes with these numbers fail.
-fn journal(alloc: Global, fails: &[u64]) -> Option<Written<MemSink>> {
+fn journal(alloc: Global, fails: &[u64]) -> Option<WrittenLines<MemSink>> {
     let fails = fails.to_vec(alloc).ok()?;
-    Some(Written::new(alloc, MemSink::new(alloc, 100_000, 1000, fails).ok()?))
+    Some(WrittenLines::new(alloc, MemSink::new(alloc, 100_000, 1000, fails).ok()?))
 }
 
 // The lines of a program that opens the dvr node, polls it and closes it, and of one that closes a node that nobody has. Where
 // those of the first are written the writes with these numbers fail.
-fn lines_of(alloc: Global, fails: &[u64]) -> Option<Vec<JournalLine<MemLine, Written<MemSink>>>>
+fn lines_of(
+    alloc: Global,
+    fails: &[u64],
+) -> Option<Vec<JournalLine<MemLine, WrittenLines<MemSink>>>>
     ensures { IfSome result (λ lines. vec_len lines ≤ 8) }
 {
     let mut lines = Vec::new(alloc);
@@ -140,7 +143,7 @@ static FILES: [File; 2] = [
 ];
 
 // Whether a server over 100 packets leaves what is to be written of the calls of both, of the batches and of the stream.
-fn is_handed(alloc: Global, handed: &Handed<Written<MemSink>>, file: &File) -> Option<bool> {
+fn is_handed(alloc: Global, handed: &Handed<WrittenLines<MemSink>>, file: &File) -> Option<bool> {
     let [other, own] = handed.journals.as_slice() else {
         return None;
     };

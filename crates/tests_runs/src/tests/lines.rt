@@ -97,14 +97,14 @@ impl Sink for MemLine {
 
 // A call, a poll by the seconds that have passed.
 #[derive(Clone, Copy, PartialEq, Eq)]
-enum Made {
+enum Step {
     Open,
     Poll(u64),
     Close,
 }
 
 // What a line asks for, and what comes of it.
-struct Row {
+struct LineRow {
     // Verbs and nodes: 1 opens a node, 3 closes it, and 6 polls it.
     asked: &'static [(u8, u8)],
     // How many bytes of this come: each number from the first to the one before the second.
@@ -113,41 +113,41 @@ struct Row {
     room: usize,
     written: usize,
     // A node is closed where its line ends.
-    calls: &'static [Made],
+    calls: &'static [Step],
 }
 
-static ROWS: [Row; 4] = [
+static ROWS: [LineRow; 4] = [
     // A request that is cut isn't answered.
-    Row {
+    LineRow {
         asked: &[(1, 0), (3, 0)],
         come: (76, 152),
         room: 1000,
         written: 24,
-        calls: &[Made::Open, Made::Close],
+        calls: &[Step::Open, Step::Close],
     },
-    Row {
+    LineRow {
         asked: &[(1, 0), (3, 0)],
         come: (152, 153),
         room: 1000,
         written: 48,
-        calls: &[Made::Open, Made::Close],
+        calls: &[Step::Open, Step::Close],
     },
     // Where a reply finds no room the next request isn't answered.
-    Row {
+    LineRow {
         asked: &[(1, 0), (6, 0)],
         come: (152, 153),
         room: 10,
         written: 10,
-        calls: &[Made::Open, Made::Close],
+        calls: &[Step::Open, Step::Close],
     },
     // A moment is looked for behind its request: a request comes in two reads, so the polls come behind four and six seconds. A
     // clock that is looked at before a request is waited for would give two seconds less.
-    Row {
+    LineRow {
         asked: &[(1, 0), (6, 0), (6, 0)],
         come: (228, 229),
         room: 1000,
         written: 72,
-        calls: &[Made::Open, Made::Poll(4), Made::Poll(6), Made::Close],
+        calls: &[Step::Open, Step::Poll(4), Step::Poll(6), Step::Close],
     },
 ];
 
@@ -164,12 +164,12 @@ fn are_replies(written: &[u8], count: usize) -> bool {
 }
 
 // Whether a log has these calls.
-fn are_made(log: &[Entry], calls: &[Made]) -> bool {
+fn are_made(log: &[Entry], calls: &[Step]) -> bool {
     for (entry, want) in log.iter().zip(calls.iter()) {
         let made = match entry.act.act() {
-            Act::Open => Made::Open,
-            Act::Poll { now } => Made::Poll(now / WAIT),
-            Act::Close => Made::Close,
+            Act::Open => Step::Open,
+            Act::Poll { now } => Step::Poll(now / WAIT),
+            Act::Close => Step::Close,
             _ => return false,
         };
         if made != *want {
@@ -180,7 +180,7 @@ fn are_made(log: &[Entry], calls: &[Made]) -> bool {
 }
 
 // Whether the one seat of a new adapter does what a row says where so many bytes come. None where memory is wanting.
-fn is_so<R: Wait>(rt: &R, alloc: Global, row: &Row, come: usize) -> Option<bool> {
+fn is_so<R: Wait>(rt: &R, alloc: Global, row: &LineRow, come: usize) -> Option<bool> {
     let mut line = MemLine::new(alloc, row.asked, come, row.room)?;
     let clock = CountingClock {
         count: line.passed.clone().ok()?,

@@ -26,9 +26,9 @@ const LAST: Part = (b"\x47\x1f\xff\x10", 184, 0);
 const ALL: &[Part] = &[ZEROTH, FIRST, OTHER, LAST];
 
 // A client attaches a demux node's tap with these PIDs, or detaches it; of packets of PID 0, 256, 257, 8191 these are recorded.
-type Row = (u32, u32, Option<&'static [u16]>, &'static [Part]);
+type TapRow = (u32, u32, Option<&'static [u16]>, &'static [Part]);
 
-static ROWS: [Row; 28] = [
+static ROWS: [TapRow; 28] = [
     // Two owners in turn: who comes late detaches nothing of the other's.
     (1, 0, Some(&[256]), &[FIRST]),
     (2, 0, Some(&[256]), &[FIRST]),
@@ -87,7 +87,7 @@ fn pids_of(named: &[u16]) -> Pids {
 }
 
 // The call of a row.
-fn call_of(row: &Row) -> Call {
+fn call_of(row: &TapRow) -> Call {
     let (_, node, named, _) = *row;
     match named {
         None => Call::Detach { node },
@@ -100,14 +100,14 @@ fn call_of(row: &Row) -> Call {
 
 // A node, and how many calls were made on it.
 #[derive(Drop)]
-struct Run<M: Machine<Call = Call, Answer = Answer> + Drop, L: Ledger> {
+struct CountedNode<M: Machine<Call = Call, Answer = Answer> + Drop, L: Ledger> {
     node: M,
     steps: Steps<L>,
     made: u64,
     ghost counted: { M.entries node ≡ made },
 }
 
-impl<M: Machine<Call = Call, Answer = Answer> + Drop, L: Ledger> Run<M, L> {
+impl<M: Machine<Call = Call, Answer = Answer> + Drop, L: Ledger> CountedNode<M, L> {
     // The reply to a call, of which at most 1000 are made.
     fn ask(&mut self, who: u32, call: Call) -> Option<Reply> {
         if self.made >= 1000 {
@@ -119,7 +119,7 @@ impl<M: Machine<Call = Call, Answer = Answer> + Drop, L: Ledger> Run<M, L> {
     }
 
     // Whether a row is answered and recorded as it says.
-    fn meets(&mut self, alloc: Global, row: &Row) -> Result<bool, NoMemory> {
+    fn meets(&mut self, alloc: Global, row: &TapRow) -> Result<bool, NoMemory> {
         let done = self.ask(row.0, call_of(row));
         let Some(batch) = passing(alloc)? else {
             return Ok(false);
@@ -153,7 +153,7 @@ fn find_odd<M: Machine<Call = Call, Answer = Answer> + Drop, L: Ledger>(
     requires new { M.entries node ≡ 0 }
     requires ledger { (blank.name ≡ L.name) × (blank.parts ≡ L.parts) × (0 < L.parts) }
 {
-    let mut run: Run<M, L> = Run {
+    let mut run: CountedNode<M, L> = CountedNode {
         node,
         steps: Steps::new(blank),
         made: 0,

@@ -1,6 +1,6 @@
 //! Runs by threads: what the order of their calls may be, moments that go on or back, gates that hold one thread until another has come
 //! to a step, and the session of a number.
-use super::ends::{CountingClock, Ends, FIRST, Part, SECOND, input_of, told};
+use super::ends::{CountingClock, FIRST, Part, SECOND, TestEnds, input_of, told};
 use super::gates::{Hold, HoldingGate};
 use super::report_lines::{reply_to, text_of};
 use emu_io::{FixedClock, Gate, NoGate};
@@ -11,7 +11,7 @@ use std::sync::{Arc, Wait};
 use std::thread::Threads;
 
 // Ends without faults, with room for what a made session tells.
-const WIDE: Ends = Ends {
+const WIDE: TestEnds = TestEnds {
     piece: 65536,
     reads: &[],
     capacity: 60_000_000,
@@ -20,7 +20,7 @@ const WIDE: Ends = Ends {
 };
 
 // The same with room for an answer.
-const ANSWER: Ends = Ends {
+const ANSWER: TestEnds = TestEnds {
     capacity: 4,
     ..WIDE
 };
@@ -64,7 +64,7 @@ fn right_report<R: AllocGlobal + Threads + Wait + Sync, G: Gate + Sync>(
 }
 
 // A session whose threads are held, and what its right report has: replies, and how many entries, where that is looked at.
-struct Held {
+struct HeldSession {
     words: &'static str,
     script: &'static str,
     stream: &'static [Part],
@@ -79,7 +79,7 @@ struct Held {
 }
 
 // What most have.
-const ONCE: Held = Held {
+const ONCE: HeldSession = HeldSession {
     words: "run",
     script: "stream\n",
     stream: &[],
@@ -103,7 +103,7 @@ fn has_replies(alloc: Global, report: &str, replies: &[(&str, &str)]) -> Result<
 }
 
 // Whether each hold was kept, and a right report has the replies and the entries.
-fn is_held<R: AllocGlobal + Threads + Wait + Sync>(rt: &R, case: &Held) -> Option<bool> {
+fn is_held<R: AllocGlobal + Threads + Wait + Sync>(rt: &R, case: &HeldSession) -> Option<bool> {
     let alloc = rt.alloc();
     let gate = HoldingGate::new(case.holds);
     let session = input_of(alloc, case.script, case.stream).ok()?;
@@ -115,7 +115,7 @@ fn is_held<R: AllocGlobal + Threads + Wait + Sync>(rt: &R, case: &Held) -> Optio
 
 // That two clients run beside each other and either may come first: the clauses allow a run that does one after the other, and
 // here the second comes before the first is done, or the other way round. Client 1 is held.
-const FIRST_COMES_FIRST: Held = Held {
+const FIRST_COMES_FIRST: HeldSession = HeldSession {
     script: "c0 open n0\nc1 open n0\nstream\n",
     holds: &[Hold {
         who: 2,
@@ -131,7 +131,7 @@ const FIRST_COMES_FIRST: Held = Held {
 };
 
 // Client 0 is held.
-const SECOND_COMES_FIRST: Held = Held {
+const SECOND_COMES_FIRST: HeldSession = HeldSession {
     script: "c0 open n0\nc1 open n0\nstream\n",
     holds: &[Hold {
         who: 1,
@@ -148,7 +148,7 @@ const SECOND_COMES_FIRST: Held = Held {
 
 // That the feeder and a client run beside each other: the read comes between two batches, which neither a run that passes the
 // stream first nor one that makes the client's calls first can have.
-const READS_BETWEEN_TWO_BATCHES: Held = Held {
+const READS_BETWEEN_TWO_BATCHES: HeldSession = HeldSession {
     words: "run --batch 1",
     script: "c0 open n0\nc0 pes n0 256 frontend tsdemux_tap 20 0\nc0 start n0\nc0 read n0 188\nstream\n",
     stream: &[FIRST, SECOND],
@@ -177,7 +177,7 @@ const READS_BETWEEN_TWO_BATCHES: Held = Held {
 };
 
 // That a client which waits reads again behind a batch: the feeder is held until it has read once and is before its repeat.
-const WAITS_UNTIL_A_BATCH_HAS_PASSED: Held = Held {
+const WAITS_UNTIL_A_BATCH_HAS_PASSED: HeldSession = HeldSession {
     words: "run --batch 1",
     script: "c0 open n0\nc0 pes n0 256 frontend tsdemux_tap 20 0\nc0 start n0\nc0 readw n0 188\nstream\n",
     stream: &[FIRST, SECOND],
@@ -196,14 +196,14 @@ const WAITS_UNTIL_A_BATCH_HAS_PASSED: Held = Held {
 
 // That each moment is a reading of its own: the clauses allow a run that reads the clock once, and the read of that run would not
 // come too late.
-const EACH_MOMENT_IS_A_READING_OF_ITS_OWN: Held = Held {
+const EACH_MOMENT_IS_A_READING_OF_ITS_OWN: HeldSession = HeldSession {
     script: "c0 open n0\nc0 section n0 256 1 0\nc0 start n0\nc0 readw n0 1\nstream\n",
     replies: &[("c0 3 read", "timedout started=1 now=2 timeout=1")],
     ..ONCE
 };
 
 // A packet that is written in two pieces comes beside the stream's of its PID. The feeder is held until the client is through.
-const PLAYS_BESIDE_THE_STREAM: Held = Held {
+const PLAYS_BESIDE_THE_STREAM: HeldSession = HeldSession {
     script: "c0 open dvr\nc0 open n0\nc0 pes n0 256 dvr tsdemux_tap 20 0\nc0 start n0\n\
         c0 write dvr 47010010|0*192|\nc0 write dvr |0*176|\nc0 read n0 188\nc0 read n0 188\nstream\n",
     stream: &[SECOND],
@@ -224,14 +224,14 @@ const PLAYS_BESIDE_THE_STREAM: Held = Held {
 
 // That each pass of a write has a moment of its own: the pass on the last node comes too late for a timeout of 30. The filter is
 // set at 0, the dvr node polled at 1, and the packet passes node 0 at 2.
-const EACH_PASS_OF_A_WRITE_HAS_A_MOMENT: Held = Held {
+const EACH_PASS_OF_A_WRITE_HAS_A_MOMENT: HeldSession = HeldSession {
     script: "c0 open dvr\nc0 open n31\nc0 section n31 256 30 4\nc0 write dvr 47010010|0*368|\nc0 read n31 1\nstream\n",
     replies: &[("c0 36 read", "timedout started=0 now=33 timeout=30")],
     ..ONCE
 };
 
 // That the gate is called behind the end too, which has passed all nodes then: the poll is held until it is.
-const POLLS_BEHIND_THE_END: Held = Held {
+const POLLS_BEHIND_THE_END: HeldSession = HeldSession {
     script: "c0 open n0\nc0 poll n0\nstream\n",
     stream: &[FIRST],
     holds: &[Hold {
@@ -246,7 +246,7 @@ const POLLS_BEHIND_THE_END: Held = Held {
 
 // That eight clients get through one node's lock, each with all its calls, and that moments may fall: no clause says that a
 // run ends. Three calls a client, one batch and the end.
-const EIGHT_CLIENTS_SHARE_A_NODE: Held = Held {
+const EIGHT_CLIENTS_SHARE_A_NODE: HeldSession = HeldSession {
     script: "c0 open n0\nc1 open n0\nc2 open n0\nc3 open n0\nc4 open n0\nc5 open n0\nc6 open n0\nc7 open n0\n\
         c0 poll n0\nc1 poll n0\nc2 poll n0\nc3 poll n0\nc4 poll n0\nc5 poll n0\nc6 poll n0\nc7 poll n0\n\
         c0 close n0\nc1 close n0\nc2 close n0\nc3 close n0\nc4 close n0\nc5 close n0\nc6 close n0\nc7 close n0\n\
@@ -258,7 +258,7 @@ const EIGHT_CLIENTS_SHARE_A_NODE: Held = Held {
     ..ONCE
 };
 
-static HELD: [Held; 9] = [
+static HELD: [HeldSession; 9] = [
     FIRST_COMES_FIRST,
     SECOND_COMES_FIRST,
     READS_BETWEEN_TWO_BATCHES,

@@ -4,7 +4,7 @@ ghost use Rattle.std.specs.Prelude.{◌≡◌, ◌+◌, ◌<◌, ◌≤◌, leng
 
 use super::NoMemory;
 use client_core::dvr_play::{MOST_BYTES, Plays};
-use client_core::{ClientCore, Request, Stop, call_of};
+use client_core::{ClientCore, ClientRequest, Stop, call_of};
 use client_script::{Script, Want};
 use dmx_calls::{ByteBuf, Call, Outcome, OutcomeKind, Reply, SharedReply};
 use std::alloc::Global;
@@ -15,7 +15,7 @@ fn is_copied(alloc: Global) -> Result<bool, Stop> {
         return Err(Stop::NoMemory);
     };
     let mut core = ClientCore::new(alloc, &script, 0)?;
-    let call = call_of(alloc, &core, &Request::Own(Want::Read(65_536)), 9)?;
+    let call = call_of(alloc, &core, &ClientRequest::Own(Want::Read(65_536)), 9)?;
     if core.steps() > 0 {
         return Ok(false);
     }

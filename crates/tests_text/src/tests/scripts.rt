@@ -4,27 +4,27 @@
 use super::NoMemory;
 use client_script::{
     FaultKind, FaultyWord, MOST_BYTES, NumberName, Script, ScriptError, ScriptFault, ScriptPart,
-    Wanted, print,
+    WantedWord, print,
 };
 use emu_io::{Failed, MemSource, Source};
 use fault_hints::Keeping;
 use std::alloc::Global;
 
 // Scripts with a fault: its line and its kind, and the number of its word and what the word's place asks.
-static FAULTS: [(&[u8], u32, FaultKind, usize, Wanted); 4] = [
+static FAULTS: [(&[u8], u32, FaultKind, usize, WantedWord); 4] = [
     (
         b"c0 open n0\nc0 close n0\nc0 strat n0\nstream\n",
         3,
         FaultKind::Command,
         2,
-        Wanted::Command,
+        WantedWord::Command,
     ),
     (
         b"feed 1\n#\n\nfeed\nstream\n",
         4,
         FaultKind::Count,
         2,
-        Wanted::Number {
+        WantedWord::Number {
             name: NumberName::N,
             least: 1,
             most: 4_294_967_295,
@@ -35,14 +35,14 @@ static FAULTS: [(&[u8], u32, FaultKind, usize, Wanted); 4] = [
         1,
         FaultKind::Bytes,
         8,
-        Wanted::Byte(4),
+        WantedWord::Byte(4),
     ),
     (
         b"feed 1\nc1 ioctl h0 00006f29 - \nstream\n",
         2,
         FaultKind::Count,
         6,
-        Wanted::End,
+        WantedWord::End,
     ),
 ];
 

@@ -3,7 +3,7 @@ use Rattle.std.specs.Prelude.{◌≡◌, ◌≢◌, ◌⊎◌, ◌++◌, ℕ, Li
 use Rattle.workers.specs.Imports.{NoMemory, Outcome, Pulls, Stop, has_failed, head_of, told_head}
 use Rattle.workers.specs.declared.client_worker.ClientWorker.{ClientWorker}
 use Rattle.workers.specs.declared.feeder_worker.FeederWorker.{FeederWorker}
-use Rattle.workers.specs.declared.left.Left.{Left}
+use Rattle.workers.specs.declared.left.LeftByThreads.{LeftByThreads}
 use Rattle.workers.specs.Inside.Begun.{AreOutcomesOf}
 
 -- of two stops, if they are any: none comes of none, want of memory of either, and else it is one of them
@@ -21,7 +21,7 @@ pub record StopsBy (feeder : Option Stop) (clients : List ClientWorker) (stop : 
   pub one : (stop ≡ feeder) ⊎ ((k : ℕ) × (w : ClientWorker) × (slice_get clients k ≡ Some w) × (stop ≡ w.stop))
 
 -- the feeder with its batches and the stream's head, and the clients with their logs and outcomes
-pub record IsLeftByWorkers (f : FeederWorker) (workers : List ClientWorker) (left : Left) : Type 0 where
+pub record IsLeftByWorkers (f : FeederWorker) (workers : List ClientWorker) (left : LeftByThreads) : Type 0 where
   pub feeder : left.feeder ≡ f.feeder
   pub feeding : left.feeding ≡ f.feeding
   pub head : (ahead taken : List ℕ) (given : List (List ℕ)) → Pulls ahead taken given f.puller

@@ -1,8 +1,8 @@
-use Rattle.client_core.proofs.Imports.{◌≡◌, ℕ, ◌+◌, ◌≤◌, List, ◌++◌, map, length, vec_capacity, All, Response, Outcome, Command, Slots, Ended, progress_from, outcome_by, AreSlots, NodeClock, counter_in, Batches, behind, IsLate, IsCommandInRange, IsCommandOf, CanBegin}
+use Rattle.client_core.proofs.Imports.{◌≡◌, ℕ, ◌+◌, ◌≤◌, List, ◌++◌, map, length, vec_capacity, All, Response, Outcome, ClientCommand, Slots, Ended, progress_from, outcome_by, AreSlots, NodeClock, counter_in, Batches, behind, IsLate, IsCommandInRange, IsCommandOf, CanBegin}
 use Rattle.client_core.proofs.current.begin.Given as goal
 
 -- the commands that were begun are through, and the client goes on as at first
-pub record Beginning (clocks : List NodeClock) (step : ℕ) (slots_before slots : Slots) (left_before left : List Command) (outcomes_before outcomes : List Outcome) (room : ℕ) : Type 0 where
+pub record Beginning (clocks : List NodeClock) (step : ℕ) (slots_before slots : Slots) (left_before left : List ClientCommand) (outcomes_before outcomes : List Outcome) (room : ℕ) : Type 0 where
   pub passed : List Ended
   pub same : (more : List Response) → progress_from slots_before step left_before more ≡ behind passed (progress_from slots step left more)
   pub told : outcomes ≡ outcomes_before ++ map (outcome_by (counter_in clocks)) passed

@@ -16,14 +16,14 @@ use std::sync::{Arc, Wait};
 use std::thread::{Threads, join};
 
 #[derive(Drop)]
-enum Call {
+enum GatedCall {
     Count(u8),
     // To be held inside `apply` until the flag says go.
     Hold,
 }
 
 // What a history keeps of a call.
-struct Counted {
+struct CountedCall {
     who: u32,
     answer: u64,
 }
@@ -45,11 +45,11 @@ struct Gated {
 impl Machine for Gated {
     ghost use Rattle.std.specs.Prelude.{◌≡◌, length, refl, ◌+◌};
 
-    type Call = Call;
+    type Call = GatedCall;
 
     type Answer = u64;
 
-    type Entry = Counted;
+    type Entry = CountedCall;
 
     ghost entry_of = { λ who call answer. record { who = who; answer = answer } };
 
@@ -63,8 +63,8 @@ impl Machine for Gated {
 
     ghost most = { λ h call. 0 };
 
-    fn apply<L: Ledger>(&mut self, _who: u32, call: Call, _steps: &mut Steps<L>) -> u64 {
-        if matches!(call, Call::Hold) {
+    fn apply<L: Ledger>(&mut self, _who: u32, call: GatedCall, _steps: &mut Steps<L>) -> u64 {
+        if matches!(call, GatedCall::Hold) {
             self.flags.entered.store(1, SeqCst);
             comes_to(&self.flags.go, 1);
         }
@@ -98,20 +98,20 @@ fn make_five<R: Wait>(rt: &R, lock: &NodeLock<Gated>, mut pass: Pass<Gated>)
     requires own { pass.0 ≡ lock.now }
     requires left { 1000 ≤ pass.1.left }
 {
-    call(rt, lock, &mut pass, Call::Count(1));
-    call(rt, lock, &mut pass, Call::Count(2));
-    call(rt, lock, &mut pass, Call::Count(3));
-    call(rt, lock, &mut pass, Call::Count(4));
-    call(rt, lock, &mut pass, Call::Hold);
+    call(rt, lock, &mut pass, GatedCall::Count(1));
+    call(rt, lock, &mut pass, GatedCall::Count(2));
+    call(rt, lock, &mut pass, GatedCall::Count(3));
+    call(rt, lock, &mut pass, GatedCall::Count(4));
+    call(rt, lock, &mut pass, GatedCall::Hold);
 }
 
 // As `try_call`, with the ledger of the steps.
 fn try_counted<L: Ledger>(
     lock: &NodeLock<Gated>,
     mut pass: Pass<Gated>,
-    call: Call,
+    call: GatedCall,
     blank: Blank,
-) -> Result<(u64, u64), (Call, Held)>
+) -> Result<(u64, u64), (GatedCall, Held)>
     requires own { pass.0 ≡ lock.now }
     requires left { 1 ≤ pass.1.left }
     requires ledger { (blank.name ≡ L.name) × (blank.parts ≡ L.parts) × (0 < L.parts) }
@@ -121,12 +121,12 @@ fn try_counted<L: Ledger>(
 }
 
 // Tries a call while the fifth is held, and lets that go then.
-fn attempt(lock: &NodeLock<Gated>, pass: Pass<Gated>, flags: &Flags) -> Option<(Call, Held)>
+fn attempt(lock: &NodeLock<Gated>, pass: Pass<Gated>, flags: &Flags) -> Option<(GatedCall, Held)>
     requires own { pass.0 ≡ lock.now }
     requires left { 1000 ≤ pass.1.left }
 {
     comes_to(&flags.entered, 1);
-    let answer = try_counted::<Brand>(lock, pass, Call::Count(7), Blank::new(1));
+    let answer = try_counted::<Brand>(lock, pass, GatedCall::Count(7), Blank::new(1));
     flags.go.store(1, SeqCst);
     answer.err()
 }
@@ -138,7 +138,7 @@ fn beside<R: Threads + Wait + Sync>(
     one: Pass<Gated>,
     two: Pass<Gated>,
     flags: &Flags,
-) -> Option<(Call, Held)>
+) -> Option<(GatedCall, Held)>
     requires one { IsFresh lock.now 2 0 one }
     requires two { IsFresh lock.now 2 1 two }
 {
@@ -147,7 +147,7 @@ fn beside<R: Threads + Wait + Sync>(
         ||
             requires { (one.0 ≡ lock.now) × (1000 ≤ one.1.left) }
         { make_five(rt, lock, one) },
-        || -> Option<(Call, Held)>
+        || -> Option<(GatedCall, Held)>
             requires { (two.0 ≡ lock.now) × (1000 ≤ two.1.left) }
         { attempt(lock, two, flags) },
     );
@@ -165,5 +165,5 @@ fn a_try_beside_a_held_call_tells_both_numbers_and_hands_its_call_back(rt: HostR
     let Some((call, held)) = beside(&rt, &lock, one, two, &flags) else {
         panic!(rt; "the call was made");
     };
-    assert!(rt; matches!(call, Call::Count(7)) && held.served == 4 && held.tickets == 5);
+    assert!(rt; matches!(call, GatedCall::Count(7)) && held.served == 4 && held.tickets == 5);
 }

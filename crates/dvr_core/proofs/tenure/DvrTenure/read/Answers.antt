@@ -1,6 +1,6 @@
 use Rattle.dvr_core.proofs.Imports.{rules, ◌≡◌, ◌∙◌, ap, List, Option, inl, false, Some, option_map, response_of, Empty, Tap, terms_of, read_by, with_response, Knows, knows_in}
 use Rattle.dvr_core.proofs.ByValues.{read-said, read-after}
-use Rattle.dvr_core.proofs.tenure.Tenure.read.Goals as goal
+use Rattle.dvr_core.proofs.tenure.DvrTenure.read.Goals as goal
 
 pub returns : goal.returns
 returns c =

@@ -1,5 +1,5 @@
 use Rattle.serve_top.proofs.Imports.{rules, ◌≡◌, ◌∙◌, ◌++◌, [], List, ℕ, ap, subst, Appends, told_entry, on_ok, call_line}
-use Rattle.serve_top.proofs.written.Written.put.Goals as goal
+use Rattle.serve_top.proofs.written.WrittenLines.put.Goals as goal
 
 -- the line was made, and then it was written
 pub returns : goal.returns

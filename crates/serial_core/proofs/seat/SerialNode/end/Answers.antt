@@ -1,6 +1,6 @@
 use Rattle.dmx_calls.specs.Invocation as asks
 use Rattle.serial_core.proofs.Seats.{seat_fed}
-use Rattle.serial_core.proofs.seat.Seat.end.Goals as goal
+use Rattle.serial_core.proofs.seat.SerialNode.end.Goals as goal
 
 pub returns-clause-at : goal.returns-clause-at
 returns-clause-at g c acts n at =

@@ -1,5 +1,5 @@
 use Rattle.dvr_core.proofs.Imports.{rules, ◌≡◌, refl, ◌∙◌, ap, true, Some, None, inl, Dvr, response_of, Close, Passed, is_accepted, dropping_accepted, gives_granted, Knows, moved, knows_in}
-use Rattle.dvr_core.proofs.kept.Kept.close.Goals as goal
+use Rattle.dvr_core.proofs.kept.KeptByDvr.close.Goals as goal
 
 pub returns-in-Some-clause-said : goal.returns-in-Some-clause-said
 returns-in-Some-clause-said c =

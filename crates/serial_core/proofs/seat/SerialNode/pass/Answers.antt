@@ -1,7 +1,7 @@
 use Rattle.serial_core.proofs.Imports.{refl, sym, subst, ◌∷◌, Frontend, entry_of, rules_at, history_of, StandsAt}
 use Rattle.dmx_calls.specs.Invocation as asks
 use Rattle.serial_core.proofs.Seats.{seat_fed, is_passed}
-use Rattle.serial_core.proofs.seat.Seat.pass.Goals as goal
+use Rattle.serial_core.proofs.seat.SerialNode.pass.Goals as goal
 
 pub returns-clause-at : goal.returns-clause-at
 returns-clause-at g c acts n at =

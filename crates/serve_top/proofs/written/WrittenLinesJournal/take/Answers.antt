@@ -1,6 +1,6 @@
 use Rattle.serve_top.proofs.Imports.{◌≡◌, List, [], ◌∷◌, map, refl, ap, sym, ◌∙◌, subst, arith, length-append, YieldsList-end, YieldsList-from_vec, ToldEntry, HasWritten, written_none}
 use Rattle.serve_top.proofs.Putting.{lines_from, lines_then}
-use Rattle.serve_top.proofs.written.WrittenJournal.take.Goals as goal
+use Rattle.serve_top.proofs.written.WrittenLinesJournal.take.Goals as goal
 
 map_same : (xs : List ToldEntry) → map (λ (y : ToldEntry). y) xs ≡ xs
 map_same [] = refl

@@ -1,5 +1,5 @@
 use Rattle.serve_top.proofs.Imports.{◌≡◌, ◌+◌, length, map, flat_map, told_entry, numbered, call_line, HasWritten}
-use Rattle.serve_top.proofs.written.WrittenJournal.take.Given as goal
+use Rattle.serve_top.proofs.written.WrittenLinesJournal.take.Given as goal
 
 -- the calls so far are written, each with its number
 abbrev pub invariant-calls : goal.invariant-calls

@@ -1,6 +1,6 @@
 use Rattle.serial_core.proofs.Imports.{refl, ap, ◌∙◌, [], ◌∷◌, ◌++◌, invocation_of, Entry, history_of}
 use Rattle.serial_core.proofs.Seats.{entries_count, seat_called}
-use Rattle.serial_core.proofs.seat.Seat.call.Goals as goal
+use Rattle.serial_core.proofs.seat.SerialNode.call.Goals as goal
 
 pub returns-clause-at : goal.returns-clause-at
 returns-clause-at g c acts n at =

@@ -1,5 +1,5 @@
 use Rattle.std.proofs.Common.{length, ◌-◌, ◌≤◌}
-use Rattle.dvb_serve.proofs.stream.Passing.follow.Given as goal
+use Rattle.dvb_serve.proofs.stream.PassingPackets.follow.Given as goal
 
 abbrev pub invariant-steps : goal.invariant-steps
 invariant-steps l = l.at ≤ length l.bytes

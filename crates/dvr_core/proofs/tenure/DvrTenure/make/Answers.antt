@@ -1,4 +1,4 @@
-use Rattle.dvr_core.proofs.tenure.Tenure.make.Goals as goal
+use Rattle.dvr_core.proofs.tenure.DvrTenure.make.Goals as goal
 
 pub returns-in-SetSize-clause-does : goal.returns-in-SetSize-clause-does
 returns-in-SetSize-clause-does c = rw (c.in-SetSize.is, c.plain.ensures) (c.set_size.ensures.does c.args.ended)

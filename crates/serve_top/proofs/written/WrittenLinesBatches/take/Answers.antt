@@ -1,6 +1,6 @@
 use Rattle.serve_top.proofs.Imports.{rules, ◌≡◌, ◌∙◌, ◌++◌, [], List, ℕ, ap, sym, subst, Appends, on_ok, fed_line}
 use Rattle.std.proofs.Common.{append-nil}
-use Rattle.serve_top.proofs.written.WrittenBatches.take.Goals as goal
+use Rattle.serve_top.proofs.written.WrittenLinesBatches.take.Goals as goal
 
 -- the line was made, and then it was written
 pub returns : goal.returns
