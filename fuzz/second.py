@@ -564,7 +564,7 @@ def read_arguments(command, words):
     return [args[0], places, args[1], args[2]]
 
 
-# RULES: 66a35eca The script
+# RULES: 9679cae4 The script
 def read_line(line):
     words = line.split(b" ")
     first = words.pop(0)
