@@ -1,19 +1,18 @@
 // The line of a seat over named pipes: one program after another.
-ghost use Rattle.std.specs.Prelude.{◌≡◌, ◌<◌, ◌≤◌, length, None, IfOk, IfSome};
+ghost use Rattle.std.specs.Prelude.{◌<◌, ◌≤◌, length, None, IfOk};
 ghost use Rattle.std.specs.Io.{ReadsAtMost};
 ghost use Rattle.std.specs.Io.KnownBytes.{ReadConsumes, WriteAppends};
 ghost use Rattle.emu_io.specs.Causes.{HasCause};
 
 use crate::bells::{Bells, number_at};
-use emu_io::{Failed, Sink, Source};
+use emu_io::{Failed, Sink, Source, read_again, write_again};
 use seats::serve_frames::numbers::{CLOSE, LEAVE, OPEN_DEMUX, OPEN_DVR, REQUEST_LEN};
 use std::fs::{File, OpenOptions};
 use std::io;
-use std::io::{ErrorKind, Read, Write};
 use std::marker::Model;
 use std::sync::Arc;
 
-// How often a call is made again where a signal interrupts it.
+// How often the next name at the door is read where the one before brought no program.
 const TRIES: u64 = u64::MAX;
 
 // The dvr node.
@@ -22,45 +21,14 @@ const DVR: u32 = 32;
 // How many bytes a name at the door has: digits, and zeros behind them.
 const NAME: usize = 64;
 
-// Reads, and again where a signal interrupts it; 0 at the end, and where it fails.
-fn read_again(input: &mut File, into: &mut [u8]) -> usize
-    ensures same { length into.new ≡ length into.old }
-    ensures few { result ≤ length into.new }
-{
-    'tries: for _ in 0..TRIES {
-        match input.read(into) {
-            Ok(count) => return count,
-            Err(error) if error.kind() == ErrorKind::Interrupted => {}
-            Err(_) => return 0,
-        }
-    }
-    0
-}
-
-/// Writes at least one byte, and again where a signal interrupts it; None where it fails or nothing was written.
-pub fn write_again(output: &mut File, piece: &[u8]) -> Option<usize>
-    ensures { IfSome result (λ n. (1 ≤ n) × (n ≤ length piece.now)) }
-{
-    'tries: for _ in 0..TRIES {
-        match output.write(piece) {
-            Ok(0) => return None,
-            Ok(count) => return Some(count),
-            Err(error) if error.kind() == ErrorKind::Interrupted => {}
-            Err(_) => return None,
-        }
-    }
-    None
-}
-
 // Reads until the buffer is full. False where the file has ended before, or fails.
 fn fill(input: &mut File, into: &mut [u8; REQUEST_LEN]) -> bool {
     let mut done = 0;
     'pieces: while done < REQUEST_LEN {
-        let count = read_again(input, &mut into[done..]);
-        if count == 0 {
-            return false;
+        match read_again(input, &mut into[done..]) {
+            Some(count) if count > 0 => done += count,
+            _ => return false,
         }
-        done += count;
     }
     true
 }
@@ -173,7 +141,7 @@ impl Programs {
     fn next_program(&mut self) -> Option<Program> {
         'names: for _ in 0..TRIES {
             let mut name = [0u8; NAME];
-            if read_again(&mut self.door, &mut name) == 0 {
+            if read_again(&mut self.door, &mut name).unwrap_or(0) == 0 {
                 return None;
             }
             let Some(name) = name_in(&name) else {

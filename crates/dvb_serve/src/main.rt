@@ -24,7 +24,7 @@ ghost use Rattle.std.specs.Prelude.{◌<◌, ◌≤◌, ◌^◌, ◌-◌, vec_le
 
 use bells::{Bells, LastBells};
 use emu_io::{Ends, StdClock, StdSink, StdSource};
-use file::FileSink;
+use file::{FileSink, create};
 use line::PipeLine;
 use seats::{Forgotten, JournalLine};
 use serve_top::{Handed, NoReport, WrittenLines, serve, serve_to, write_head};
@@ -77,7 +77,7 @@ fn forgetful_lines_of(
 // A journal that writes the file of this name in a folder.
 fn written_in(rt: &HostRuntime, keep: &str, name: &str) -> io::Result<WrittenLines<FileSink>> {
     let path = format!(in rt.alloc(); "{keep}/{name}")?;
-    Ok(WrittenLines::new(rt.alloc(), FileSink::create(rt, path.as_str())?))
+    Ok(WrittenLines::new(rt.alloc(), create(rt, path.as_str())?))
 }
 
 // The lines of so many seats at the door of this folder, whose calls are written into that one.
@@ -178,7 +178,7 @@ fn end_files(
         return Ok(Err(NoReport::Failed));
     }
     let path = format!(in rt.alloc(); "{keep}/head")?;
-    let mut sink = FileSink::create(rt, path.as_str())?;
+    let mut sink = create(rt, path.as_str())?;
     Ok(write_head(rt.alloc(), &mut sink, &handed.head))
 }
 
