@@ -2,7 +2,8 @@
  * The watcher: a thread of each process that has devices. It waits for the bells of their nodes, and where one rings it looks at the
  * node and makes the device's descriptors readable, so that no wait of the program has to be taken over. dvb_serve writes the file
  * bell.N where packets that node N was asked for have passed since its last read or poll, and inotify tells of it; `front` is the
- * frontend's. It also sees the ends of filters' timeouts, that of the server, and devices of which no descriptor is left.
+ * frontend's. A node's is made by whoever comes first behind its open: the program that has it, or dvb_serve. The watcher also sees the
+ * ends of filters' timeouts, that of the server, and devices of which no descriptor is left.
  */
 #define _GNU_SOURCE
 #include <fcntl.h>
@@ -33,13 +34,17 @@ int watch_runs(void) { return __atomic_load_n(&runs, __ATOMIC_SEQ_CST) || is_end
 /* The file of a bell, as inotify names it; -1 where there is none, and then the device is looked at from time to time. */
 int bell_of(struct at at)
 {
-	char path[PATH];
+	const char *folder = folders[at.line->table->adapter];
+	char front[PATH], path[PATH];
 	struct device *device = device_at(at);
-	if (device->kind == FRONTEND)
-		snprintf(path, sizeof path, "%s/front", folders[at.line->table->adapter]);
-	else
-		snprintf(path, sizeof path, "%s/bell.%u", folders[at.line->table->adapter], device->node);
-	return bells < 0 ? -1 : inotify_add_watch(bells, path, IN_MODIFY);
+	if (bells < 0)
+		return -1;
+	snprintf(front, sizeof front, "%s/front", folder);
+	snprintf(path, sizeof path, "%s/bell.%u", folder, device->node);
+	/* (in a folder that somebody has emptied nobody rings) */
+	if (device->kind != FRONTEND && !syscall(SYS_faccessat, AT_FDCWD, front, F_OK))
+		syscall(SYS_mknodat, AT_FDCWD, path, S_IFREG | 0600, 0);
+	return inotify_add_watch(bells, device->kind == FRONTEND ? front : path, IN_MODIFY);
 }
 
 /* a bell that no other device of this process has */

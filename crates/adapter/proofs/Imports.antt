@@ -17,7 +17,7 @@ pub use Rattle.dmx_calls.specs.Calls.{response_of, told_entry}
 pub use Rattle.dmx_calls.specs.Histories.{before_entry, feeder_acts, feeder_entries, feeder_entry, pass_act, woven, woven_from}
 pub use Rattle.dmx_calls.specs.Response.{Response}
 pub use Rattle.dmx_calls.specs.Rules.{Rules}
-pub use Rattle.dmx_calls.specs.declared.log.Act.{Act}
+pub use Rattle.dmx_calls.specs.Log.{Act}
 pub use Rattle.dmx_calls.specs.declared.log.Act.TheVariants.{End as EndAct}
 pub use Rattle.dmx_calls.specs.declared.log.Entry.{Entry as ToldEntry}
 pub use Rattle.dmx_calls.specs.declared.params.Input.{Input}

@@ -10,13 +10,12 @@ pub use Rattle.dmx_calls.specs.Items.{Expiry, clock_of, expiry_at, is_oneshot, i
 pub use Rattle.dmx_calls.specs.Laws.{PassesGoBy, UnacceptedChangesNothing}
 pub use Rattle.dmx_calls.specs.Ledger.{Misfit, answered, answered_in, arrivals, edge, edge_of, is_overflow, keeps, misfit, over, total}
 pub use Rattle.dmx_calls.specs.Legal.{IsLegalFor, May}
-pub use Rattle.dmx_calls.specs.Log.{IsFrom, LogEntry, act_of, filled_act}
+pub use Rattle.dmx_calls.specs.Log.{Act, IsFrom, LogEntry, act_of, filled_act}
 pub use Rattle.dmx_calls.specs.Response.{Again, Data, Overflow, Passed, Response, TimedOut, is_accepted}
 pub use Rattle.dmx_calls.specs.Rules.{Rules, demux, dvr, expired, is_told, tells_timeout}
 pub use Rattle.dmx_calls.specs.Taps.{is_tapped}
 pub use Rattle.dmx_calls.specs.Tenure.{Empty, Params, Pes, Section, closes, first_pids, is_end, opens, params, params_in, params_of, pids, pids_after, pids_with, sets, size, size_in, tenure}
 pub use Rattle.dmx_calls.specs.declared.limits.TheConstants.{DEMUX_NODES, DEMUX_SIZE, IMMEDIATE_START}
-pub use Rattle.dmx_calls.specs.declared.log.Act.{Act}
 pub use Rattle.dmx_calls.specs.declared.params.Input.{Input}
 pub use Rattle.dmx_calls.specs.declared.params.Input.TheVariants.{Frontend}
 pub use Rattle.dmx_calls.specs.declared.params.PesParams.{PesParams}

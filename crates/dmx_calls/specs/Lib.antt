@@ -15,7 +15,6 @@ pub mod Answer
 pub mod Legal
 pub mod Accounted
 pub mod Calls
-pub mod Kept
 pub mod Log
 pub mod Histories
 pub mod Back

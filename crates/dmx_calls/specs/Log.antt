@@ -1,11 +1,16 @@
 -- The entries of a report, and the history that they tell.
 use Rattle.std.specs.Prelude.{ℕ, ◌≡◌, List, length, map, reverse, take, drop}
 use Rattle.dmx_calls.specs.declared.params.Input.{Input}
-use Rattle.dmx_calls.specs.declared.log.Act.{Act}
+use Rattle.dmx_calls.specs.declared.params.SectionParams.{SectionParams}
+use Rattle.dmx_calls.specs.declared.log.Act.{Act as ActOf}
 use Rattle.dmx_calls.specs.declared.log.Act.TheVariants.{Open as OpenAct, Close as CloseAct, SetFilter as SetFilterAct, SetPes as SetPesAct, AddPid as AddPidAct, RemovePid as RemovePidAct, Start as StartAct, Stop as StopAct, SetSize as SetSizeAct, Read as ReadAct, Poll as PollAct, Pass as PassAct, End as EndAct, Attach as AttachAct, Detach as DetachAct}
 use Rattle.dmx_calls.specs.Invocation.{Invocation, Open, Close, SetFilter, SetPes, AddPid, RemovePid, Start, Stop, SetSize, Read, Poll, Pass, End, Attach, Detach}
 use Rattle.dmx_calls.specs.Response.{Response}
 use Rattle.dmx_calls.specs.History.{Entry, History}
+
+-- a call as a report tells it
+abbrev pub Act : Type 0
+Act = ActOf SectionParams (List ℕ)
 
 -- the node, the place in its history, the caller's step, the caller, the call, the response
 pub record LogEntry : Type 0 where
@@ -45,7 +50,7 @@ filled_entry packets e = record { who = e.who; invocation = filled_act (packets 
 abbrev pub filled : Sources → List LogEntry → History
 filled packets entries = reverse (map (filled_entry packets) entries)
 
--- a call as a report tells it
+-- the same of an invocation
 abbrev pub act_of : Invocation → Act
 act_of Open = OpenAct
 act_of Close = CloseAct

@@ -5,7 +5,7 @@ ghost use Rattle.dmx_calls.specs.Calls.{response_of};
 
 use crate::byte_buf::ByteBuf;
 use crate::log::{Act, Entry};
-use crate::params::{Input, PesParams, SectionParams};
+use crate::params::SectionParams;
 use crate::reply::{Reply, Tap};
 use pid_set::KeptPids;
 use std::alloc::{AllocError as NoMemory, Global};
@@ -13,147 +13,107 @@ use std::boxed::Box;
 use std::marker::Model;
 use std::sync::Arc;
 
-/// What a `KeptAct` holds: the variants are those of `Act`.
+/// A section filter where a log keeps it: one pointer. A contract sees it as the filter.
 #[derive(Drop)]
-pub enum HeldAct {
-    Open,
-    Close,
-    SetFilter {
-        params: Box<SectionParams>,
-        now: u64,
-    },
-    SetPes {
-        params: PesParams,
-        now: u64,
-    },
-    AddPid(u16),
-    RemovePid(u16),
-    Start {
-        now: u64,
-    },
-    Stop,
-    SetSize(u32),
-    Read {
-        now: u64,
-        count: u32,
-    },
-    Poll {
-        now: u64,
-    },
-    Pass {
-        first: u64,
-        now: u64,
-        count: u32,
-        input: Input,
-    },
-    End,
-    Attach {
-        node: u32,
-        pids: KeptPids,
-    },
-    Detach {
-        node: u32,
-    },
+pub struct KeptSection {
+    params: Box<SectionParams>,
 }
 
-/// A call where a log keeps it. A contract sees it as the call.
-#[derive(Drop)]
-pub struct KeptAct {
-    held: HeldAct,
+impl Model for KeptSection {
+    ghost use Rattle.dmx_calls.specs.declared.params.SectionParams.{SectionParams};
+
+    ghost Value = { SectionParams };
+
+    ghost view = { λ kept. kept.params.value };
 }
 
-impl Model for KeptAct {
-    ghost use Rattle.dmx_calls.specs.declared.log.Act.{Act};
-    ghost use Rattle.dmx_calls.specs.Kept.{act_held};
-
-    ghost Value = { Act };
-
-    ghost view = { λ kept. act_held kept.held };
-}
+/// A call where a log keeps it: what is large of it stands behind a pointer. A contract sees it as the call.
+pub type KeptAct = Act<KeptSection, KeptPids>;
 
 impl KeptAct {
     /// Keeps this call. It takes memory for a section filter and for the PIDs of a tap.
-    pub fn of(alloc: Global, act: Act) -> Result<KeptAct, NoMemory>
+    pub fn keep(alloc: Global, act: Act) -> Result<KeptAct, NoMemory>
         ensures { IfOk result (λ kept. kept ≡ act) }
     {
-        let held = match act {
-            Act::Open => HeldAct::Open,
-            Act::Close => HeldAct::Close,
-            Act::SetFilter { params, now } => HeldAct::SetFilter {
-                params: Box::new(alloc, params)?,
+        Ok(match act {
+            Act::Open => Act::Open,
+            Act::Close => Act::Close,
+            Act::SetFilter { params, now } => Act::SetFilter {
+                params: KeptSection {
+                    params: Box::new(alloc, params)?,
+                },
                 now,
             },
-            Act::SetPes { params, now } => HeldAct::SetPes { params, now },
-            Act::AddPid(pid) => HeldAct::AddPid(pid),
-            Act::RemovePid(pid) => HeldAct::RemovePid(pid),
-            Act::Start { now } => HeldAct::Start { now },
-            Act::Stop => HeldAct::Stop,
-            Act::SetSize(size) => HeldAct::SetSize(size),
-            Act::Read { now, count } => HeldAct::Read { now, count },
-            Act::Poll { now } => HeldAct::Poll { now },
+            Act::SetPes { params, now } => Act::SetPes { params, now },
+            Act::AddPid(pid) => Act::AddPid(pid),
+            Act::RemovePid(pid) => Act::RemovePid(pid),
+            Act::Start { now } => Act::Start { now },
+            Act::Stop => Act::Stop,
+            Act::SetSize(size) => Act::SetSize(size),
+            Act::Read { now, count } => Act::Read { now, count },
+            Act::Poll { now } => Act::Poll { now },
             Act::Pass {
                 input,
                 first,
                 count,
                 now,
-            } => HeldAct::Pass {
-                first,
-                now,
-                count,
+            } => Act::Pass {
                 input,
+                first,
+                count,
+                now,
             },
-            Act::End => HeldAct::End,
-            Act::Attach { node, pids } => HeldAct::Attach {
+            Act::End => Act::End,
+            Act::Attach { node, pids } => Act::Attach {
                 node,
                 pids: KeptPids::of(alloc, &pids)?,
             },
-            Act::Detach { node } => HeldAct::Detach { node },
-        };
-        Ok(KeptAct { held })
+            Act::Detach { node } => Act::Detach { node },
+        })
     }
 
     /// The call.
     pub fn act(&self) -> Act
         ensures { result ≡ self.now }
     {
-        match &self.held {
-            HeldAct::Open => Act::Open,
-            HeldAct::Close => Act::Close,
-            HeldAct::SetFilter { params, now } => Act::SetFilter {
-                params: **params,
+        match self {
+            Act::Open => Act::Open,
+            Act::Close => Act::Close,
+            Act::SetFilter { params, now } => Act::SetFilter {
+                params: *params.params,
                 now: *now,
             },
-            HeldAct::SetPes { params, now } => Act::SetPes {
+            Act::SetPes { params, now } => Act::SetPes {
                 params: *params,
                 now: *now,
             },
-            HeldAct::AddPid(pid) => Act::AddPid(*pid),
-            HeldAct::RemovePid(pid) => Act::RemovePid(*pid),
-            HeldAct::Start { now } => Act::Start { now: *now },
-            HeldAct::Stop => Act::Stop,
-            HeldAct::SetSize(size) => Act::SetSize(*size),
-            HeldAct::Read { now, count } => Act::Read {
+            Act::AddPid(pid) => Act::AddPid(*pid),
+            Act::RemovePid(pid) => Act::RemovePid(*pid),
+            Act::Start { now } => Act::Start { now: *now },
+            Act::Stop => Act::Stop,
+            Act::SetSize(size) => Act::SetSize(*size),
+            Act::Read { now, count } => Act::Read {
                 now: *now,
                 count: *count,
             },
-            HeldAct::Poll { now } => Act::Poll { now: *now },
-            HeldAct::Pass {
-                first,
-                now,
-                count,
+            Act::Poll { now } => Act::Poll { now: *now },
+            Act::Pass {
                 input,
+                first,
+                count,
+                now,
             } => Act::Pass {
                 input: *input,
                 first: *first,
                 count: *count,
                 now: *now,
             },
-            HeldAct::End => Act::End,
-            HeldAct::Attach { node, pids } => Act::Attach {
+            Act::End => Act::End,
+            Act::Attach { node, pids } => Act::Attach {
                 node: *node,
                 pids: pids.set(),
             },
-            HeldAct::Detach { node } => Act::Detach { node: *node },
+            Act::Detach { node } => Act::Detach { node: *node },
         }
     }
 }
@@ -246,6 +206,7 @@ fn are_same(this: &LogReply, other: &LogReply) -> bool
         Reply::Busy { owner } => matches!(other, Reply::Busy { owner: o } if owner == o),
         Reply::Refused(errno) => matches!(other, Reply::Refused(e) if errno == e),
         Reply::Again { ended } => matches!(other, Reply::Again { ended: e } if ended == e),
+        Reply::Passed => matches!(other, Reply::Passed),
         _ => false,
     }
 }

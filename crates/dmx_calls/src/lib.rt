@@ -35,7 +35,7 @@ mod told;
 pub use byte_buf::ByteBuf;
 pub use call::Call;
 pub use histories::{Fed, Histories};
-pub use kept::{KeptAct, LogReply, LogTap, SharedReply};
+pub use kept::{KeptAct, KeptSection, LogReply, LogTap, SharedReply};
 pub use log::{Act, Entry};
 pub use node::{NodeKind, State};
 pub use outcome::{Outcome, OutcomeKind};

@@ -10,9 +10,9 @@ use crate::params::{Input, PesParams, SectionParams};
 use pid_set::Pids;
 
 /// A call as a report tells it: a Read by its count, and a Pass by the number of its first packet and how many there are.
-/// `now` is the moment at which the call was made, in milliseconds.
+/// `now` is the moment at which the call was made, in milliseconds. A log keeps it as a `KeptAct`.
 #[derive(Clone, Debug, PartialEq, Eq, Drop)]
-pub enum Act {
+pub enum Act<S = SectionParams, P = Pids> {
     /// Takes the node.
     Open,
     /// Gives the node back.
@@ -20,7 +20,7 @@ pub enum Act {
     /// Sets a section filter.
     SetFilter {
         /// The filter.
-        params: SectionParams,
+        params: S,
         now: u64,
     },
     /// Sets a PES filter.
@@ -68,7 +68,7 @@ pub enum Act {
         /// The demux node, 0 to 31.
         node: u32,
         /// The PIDs of the packets that it records.
-        pids: Pids,
+        pids: P,
     },
     /// Detaches a demux node's tap from the dvr node.
     Detach {

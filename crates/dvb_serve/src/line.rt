@@ -4,19 +4,14 @@ ghost use Rattle.std.specs.Io.{ReadsAtMost};
 ghost use Rattle.std.specs.Io.KnownBytes.{ReadConsumes, WriteAppends};
 ghost use Rattle.emu_io.specs.Causes.{HasCause};
 
-use crate::bells::{Bells, number_at};
 use emu_io::{Failed, Sink, Source, read_again, write_again};
-use seats::serve_frames::numbers::{CLOSE, LEAVE, OPEN_DEMUX, OPEN_DVR, REQUEST_LEN};
+use seats::serve_frames::numbers::{LEAVE, REQUEST_LEN};
 use std::fs::{File, OpenOptions};
 use std::io;
 use std::marker::Model;
-use std::sync::Arc;
 
 // How often the next name at the door is read where the one before brought no program.
 const TRIES: u64 = u64::MAX;
-
-// The dvr node.
-const DVR: u32 = 32;
 
 // How many bytes a name at the door has: digits, and zeros behind them.
 const NAME: usize = 64;
@@ -64,26 +59,21 @@ struct Programs {
     rt: HostRuntime,
     folder: String,
     door: File,
-    bells: Arc<Bells>,
     at: At,
-    // The nodes that the program has, and has not asked to close: a bit each.
-    held: u64,
     // Its last request.
     request: [u8; REQUEST_LEN],
 }
 
 /// The line of a seat: requests come from one program after another, which tells its name at the door, and replies go to it.
 ///
-/// A program makes two named pipes, `NAME.ask` and `NAME.tell` with digits for NAME, and writes NAME, with zeros up to 64 bytes, to
-/// the pipe `door` of the same folder. Where it has gone the line gives the request that closes all its nodes, and what is told to
-/// that goes nowhere. A request is given once it is whole. The line ends where the door does.
+/// A program makes two named pipes, `NAME.ask` and `NAME.tell` with digits for NAME, and writes NAME, with zeros up to 64 bytes,
+/// to the pipe `door` of the same folder. Where it has gone the line gives the request that closes all its nodes, and what is
+/// told to that goes nowhere. A request is given once it is whole. The line ends where the door does.
 #[derive(Drop)]
 pub struct PipeLine {
     programs: Programs,
     // How many bytes of the request were given.
     given: usize,
-    // Whether a part of the reply was written.
-    told: bool,
     faults: u64,
 }
 
@@ -166,55 +156,11 @@ impl Programs {
             At::Program(program) => fill(&mut program.from, &mut self.request),
             _ => false,
         };
-        if has {
-            self.note();
-        } else {
+        if !has {
             self.at = At::Door;
-            self.forget();
             self.request = leaving();
         }
         true
-    }
-
-    // Tells the bells of the request.
-    fn note(&mut self) {
-        self.bells.note(&self.request);
-        let node = number_at(&self.request, 4);
-        match number_at(&self.request, 0) {
-            CLOSE => self.let_go(node),
-            LEAVE => self.forget(),
-            _ => {}
-        }
-    }
-
-    // Tells the bells what the head of the reply says of the request.
-    fn note_told(&mut self, head: &[u8]) {
-        if head.len() < 12 || head[0] != 0 || head[1] != 0 {
-            return;
-        }
-        self.bells.note_done(&self.request);
-        let node = match number_at(&self.request, 0) {
-            OPEN_DEMUX => u32::from(head[8]),
-            OPEN_DVR => DVR,
-            _ => return,
-        };
-        self.bells.forget(node);
-        self.held |= 1 << (node % 64);
-    }
-
-    // Tells the bells that the program has done with a node, if it has it.
-    fn let_go(&mut self, node: u32) {
-        if node < 64 && self.held >> node & 1 == 1 {
-            self.bells.forget(node);
-            self.held &= !(1 << node);
-        }
-    }
-
-    // Tells the bells that the program has gone.
-    fn forget(&mut self) {
-        'nodes: for node in 0..64 {
-            self.let_go(node);
-        }
     }
 
     // Writes to the program at least one byte, and says how many. Where it takes none any more, all of them go nowhere.
@@ -235,21 +181,18 @@ impl Programs {
 
 impl PipeLine {
     /// The line at the door of this folder.
-    pub fn new(rt: &HostRuntime, folder: &str, bells: &Arc<Bells>) -> io::Result<PipeLine> {
+    pub fn new(rt: &HostRuntime, folder: &str) -> io::Result<PipeLine> {
         let path = path_of(rt, folder, "door", "")?;
         let programs = Programs {
             rt: *rt,
             folder: String::from_str(rt.alloc(), folder)?,
             door: end_of(rt, path.as_str(), true)?,
-            bells: bells.clone()?,
             at: At::Door,
-            held: 0,
             request: [0; REQUEST_LEN],
         };
         Ok(PipeLine {
             programs,
             given: REQUEST_LEN,
-            told: true,
             faults: 0,
         })
     }
@@ -270,7 +213,6 @@ impl Source for PipeLine {
                 return Ok(0);
             }
             self.given = 0;
-            self.told = false;
         }
         let given = self.given;
         let rest = &self.programs.request[given..];
@@ -291,10 +233,6 @@ impl Sink for PipeLine {
         ensures bytes { WriteAppends None None result piece.now }
         ensures cause { HasCause self.old self.new result }
     {
-        if !self.told {
-            self.told = true;
-            self.programs.note_told(piece);
-        }
         Ok(self.programs.write(piece))
     }
 }

@@ -18,60 +18,123 @@
 mod bells;
 mod file;
 mod line;
-mod stream;
 
 ghost use Rattle.std.specs.Prelude.{◌<◌, ◌≤◌, ◌^◌, ◌-◌, vec_len, IfOk};
 
-use bells::{Bells, LastBells};
-use emu_io::{Ends, StdClock, StdSink, StdSource};
+use bells::Bells;
+use emu_io::{Ends, NoGate, StdClock, StdSink, StdSource};
 use file::{FileSink, create};
 use line::PipeLine;
-use seats::{Forgotten, JournalLine};
-use serve_top::{Handed, NoReport, WrittenLines, serve, serve_to, write_head};
+use seats::{Forgotten, Journal, JournalLine};
+use serve_top::{Handed, NoReport, Rung, WrittenLines, serve, serve_to, write_head};
 use std::io;
 use std::process::ExitCode;
 use std::sync::{Arc, Wait};
 use std::thread::Threads;
-use stream::RungSource;
+use workers::Batches;
 
 // What words are accepted.
 const USAGE: &str = "usage: dvb_serve FOLDER SEATS [none | KEEP] < STREAM > REPORT";
 
+// Says why there is no report.
+fn failed(rt: &HostRuntime, why: &str) -> ExitCode {
+    let _ = eprintln!(rt; "dvb_serve: {why}");
+    ExitCode::from(1)
+}
+
 // The lines of so many seats at the door of this folder.
-fn lines_of(
-    rt: &HostRuntime,
-    folder: &str,
-    seats: u32,
-    bells: &Arc<Bells>,
-) -> io::Result<Vec<PipeLine>>
+fn lines_of(rt: &HostRuntime, folder: &str, seats: u32) -> io::Result<Vec<PipeLine>>
     requires { seats ≤ 8 }
     ensures { IfOk result (λ lines. vec_len lines ≤ 8) }
 {
     let mut lines = Vec::new(rt.alloc());
     'seats: for _ in 0..seats {
-        lines.push(PipeLine::new(rt, folder, bells)?)?;
+        lines.push(PipeLine::new(rt, folder)?)?;
     }
     Ok(lines)
 }
 
-// The lines of so many seats at the door of this folder, whose calls nobody keeps.
-fn forgetful_lines_of(
+// Serves so many programs at the door of this folder, in threads of `threads`, and keeps their calls in memory for a report.
+fn serve_folder<R: Threads + Wait + Sync>(
+    threads: &R,
     rt: &HostRuntime,
     folder: &str,
     seats: u32,
-    bells: &Arc<Bells>,
-) -> io::Result<Vec<JournalLine<PipeLine, Forgotten>>>
-    requires { seats ≤ 8 }
-    ensures { IfOk result (λ lines. vec_len lines ≤ 8) }
+    mut input: StdSource,
+    mut sink: StdSink,
+    clock: &StdClock,
+) -> io::Result<Result<(), NoReport>>
+    requires seats { seats ≤ 8 }
+    requires faults { input < 2 ^ 64 - 1 }
 {
+    let bells = Arc::new(rt.alloc(), Bells::new(rt, folder)?)?;
+    let lines = lines_of(rt, folder, seats)?;
+    Ok(serve(
+        threads,
+        rt.alloc(),
+        &mut input,
+        lines,
+        &mut sink,
+        &bells,
+        clock,
+        &NoGate::new(),
+    ))
+}
+
+// What is left of a server: what its seats and its feeder have kept.
+type ServerLeft<J, B> = (Handed<Rung<Bells, J>>, B);
+
+// The same for as many programs as there are journals, which are given their calls, as `batches` is the batches.
+fn serve_journals<R: Threads + Wait + Sync, J: Journal + Send + Drop, B: Batches + Send + Drop>(
+    threads: &R,
+    rt: &HostRuntime,
+    folder: &str,
+    journals: Vec<J>,
+    batches: B,
+    mut input: StdSource,
+    clock: &StdClock,
+) -> io::Result<Result<ServerLeft<J, B>, NoReport>>
+    requires seats { vec_len journals ≤ 8 }
+    requires faults { input < 2 ^ 64 - 1 }
+{
+    let ears = Arc::new(rt.alloc(), Bells::new(rt, folder)?)?;
     let mut lines = Vec::new(rt.alloc());
-    'seats: for _ in 0..seats {
+    'seats: for kept in journals {
+        let (line, ears) = (PipeLine::new(rt, folder)?, ears.clone()?);
         lines.push(JournalLine {
-            line: PipeLine::new(rt, folder, bells)?,
-            journal: Forgotten,
+            line,
+            journal: Rung { ears, kept },
         })?;
     }
-    Ok(lines)
+    let mut batches = Rung {
+        ears,
+        kept: batches,
+    };
+    let gate = NoGate::new();
+    match serve_to(
+        threads,
+        rt.alloc(),
+        &mut input,
+        lines,
+        &mut batches,
+        clock,
+        &gate,
+    ) {
+        Ok(handed) => Ok(Ok((handed, batches.kept))),
+        Err(why) => Ok(Err(why)),
+    }
+}
+
+// The journals of so many seats that keep nothing.
+fn forgotten(rt: &HostRuntime, seats: u32) -> io::Result<Vec<Forgotten>>
+    requires { seats ≤ 8 }
+    ensures { IfOk result (λ journals. vec_len journals ≤ 8) }
+{
+    let mut journals = Vec::new(rt.alloc());
+    'seats: for _ in 0..seats {
+        journals.push(Forgotten)?;
+    }
+    Ok(journals)
 }
 
 // A journal that writes the file of this name in a folder.
@@ -80,64 +143,36 @@ fn written_in(rt: &HostRuntime, keep: &str, name: &str) -> io::Result<WrittenLin
     Ok(WrittenLines::new(rt.alloc(), create(rt, path.as_str())?))
 }
 
-// The lines of so many seats at the door of this folder, whose calls are written into that one.
-fn written_lines_of(
-    rt: &HostRuntime,
-    folder: &str,
-    keep: &str,
-    seats: u32,
-    bells: &Arc<Bells>,
-) -> io::Result<Vec<JournalLine<PipeLine, WrittenLines<FileSink>>>>
+// The journals of so many seats whose calls are written into this folder.
+fn written(rt: &HostRuntime, keep: &str, seats: u32) -> io::Result<Vec<WrittenLines<FileSink>>>
     requires { seats ≤ 8 }
-    ensures { IfOk result (λ lines. vec_len lines ≤ 8) }
+    ensures { IfOk result (λ journals. vec_len journals ≤ 8) }
 {
-    let mut lines = Vec::new(rt.alloc());
+    let mut journals = Vec::new(rt.alloc());
     'seats: for seat in 0..seats {
         let number = seat + 1;
         let name = format!(in rt.alloc(); "{number}.calls")?;
-        lines.push(JournalLine {
-            line: PipeLine::new(rt, folder, bells)?,
-            journal: written_in(rt, keep, name.as_str())?,
-        })?;
+        journals.push(written_in(rt, keep, name.as_str())?)?;
     }
-    Ok(lines)
+    Ok(journals)
 }
 
-// Says why there is no report.
-fn failed(rt: &HostRuntime, why: &str) -> ExitCode {
-    let _ = eprintln!(rt; "dvb_serve: {why}");
-    ExitCode::from(1)
-}
-
-// Serves so many programs at the door of this folder, in threads of `threads`.
-fn serve_folder<R: Threads + Wait + Sync>(
-    threads: &R,
+// Writes what is known of the stream, where all files of the folder are whole.
+fn end_files(
     rt: &HostRuntime,
-    folder: &str,
-    seats: u32,
-    input: StdSource,
-    mut sink: StdSink,
-    clock: &StdClock,
-) -> io::Result<Result<(), NoReport>>
-    requires seats { seats ≤ 8 }
-    requires faults { input < 2 ^ 64 - 1 }
-{
-    let bells = Arc::new(rt.alloc(), Bells::new(rt, folder)?)?;
-    let lines = lines_of(rt, folder, seats, &bells)?;
-    let mut source = RungSource::new(input, bells.clone()?);
-    let gate = LastBells { bells };
-    Ok(serve(
-        threads,
-        rt.alloc(),
-        &mut source,
-        lines,
-        &mut sink,
-        clock,
-        &gate,
-    ))
+    keep: &str,
+    left: &ServerLeft<WrittenLines<FileSink>, WrittenLines<FileSink>>,
+) -> io::Result<Result<(), NoReport>> {
+    let (handed, batches) = left;
+    if !batches.whole || !handed.journals.iter().all(|journal| journal.kept.whole) {
+        return Ok(Err(NoReport::Failed));
+    }
+    let path = format!(in rt.alloc(); "{keep}/head")?;
+    let mut sink = create(rt, path.as_str())?;
+    Ok(write_head(rt.alloc(), &mut sink, &handed.head))
 }
 
-// The same, where nothing is kept.
+// Serves, where nothing is kept.
 fn serve_forgetting<R: Threads + Wait + Sync>(
     threads: &R,
     rt: &HostRuntime,
@@ -149,37 +184,11 @@ fn serve_forgetting<R: Threads + Wait + Sync>(
     requires seats { seats ≤ 8 }
     requires faults { input < 2 ^ 64 - 1 }
 {
-    let bells = Arc::new(rt.alloc(), Bells::new(rt, folder)?)?;
-    let lines = forgetful_lines_of(rt, folder, seats, &bells)?;
-    let mut source = RungSource::new(input, bells.clone()?);
-    let gate = LastBells { bells };
-    match serve_to(
-        threads,
-        rt.alloc(),
-        &mut source,
-        lines,
-        &mut Forgotten,
-        clock,
-        &gate,
-    ) {
+    let journals = forgotten(rt, seats)?;
+    match serve_journals(threads, rt, folder, journals, (), input, clock)? {
         Ok(_) => Ok(Ok(())),
         Err(why) => Ok(Err(why)),
     }
-}
-
-// Writes what is known of the stream, where all files of the folder are whole.
-fn end_files(
-    rt: &HostRuntime,
-    keep: &str,
-    handed: &Handed<WrittenLines<FileSink>>,
-    batches: &WrittenLines<FileSink>,
-) -> io::Result<Result<(), NoReport>> {
-    if !batches.whole || !handed.journals.iter().all(|journal| journal.whole) {
-        return Ok(Err(NoReport::Failed));
-    }
-    let path = format!(in rt.alloc(); "{keep}/head")?;
-    let mut sink = create(rt, path.as_str())?;
-    Ok(write_head(rt.alloc(), &mut sink, &handed.head))
 }
 
 // The same, where the calls are written into a folder.
@@ -195,21 +204,10 @@ fn serve_writing<R: Threads + Wait + Sync>(
     requires seats { seats ≤ 8 }
     requires faults { input < 2 ^ 64 - 1 }
 {
-    let bells = Arc::new(rt.alloc(), Bells::new(rt, folder)?)?;
-    let lines = written_lines_of(rt, folder, keep, seats, &bells)?;
-    let mut batches = written_in(rt, keep, "batches")?;
-    let mut source = RungSource::new(input, bells.clone()?);
-    let gate = LastBells { bells };
-    match serve_to(
-        threads,
-        rt.alloc(),
-        &mut source,
-        lines,
-        &mut batches,
-        clock,
-        &gate,
-    ) {
-        Ok(handed) => end_files(rt, keep, &handed, &batches),
+    let journals = written(rt, keep, seats)?;
+    let batches = written_in(rt, keep, "batches")?;
+    match serve_journals(threads, rt, folder, journals, batches, input, clock)? {
+        Ok(left) => end_files(rt, keep, &left),
         Err(why) => Ok(Err(why)),
     }
 }

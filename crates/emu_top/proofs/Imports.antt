@@ -13,8 +13,8 @@ pub use Rattle.client_script.specs.declared.line.Line.{Line}
 pub use Rattle.client_script.specs.declared.line.Line.TheVariants.{Command as CommandLine, Feed, Tick}
 pub use Rattle.client_script.specs.declared.said.Said.{Said}
 pub use Rattle.dmx_calls.specs.Histories.{before_entry, feeder_acts, feeder_entries, feeder_entry, woven, woven_from}
+pub use Rattle.dmx_calls.specs.Log.{Act}
 pub use Rattle.dmx_calls.specs.declared.histories.Fed.{Fed}
-pub use Rattle.dmx_calls.specs.declared.log.Act.{Act}
 pub use Rattle.dmx_calls.specs.declared.log.Act.TheVariants.{End as EndAct}
 pub use Rattle.dmx_calls.specs.declared.log.Entry.{Entry as ToldEntry}
 pub use Rattle.emu_top.specs.Checking.{Asked, Asks, Declines, EndsInLine, FailsToRead, HasFirstFault, IsAnswer, Judges, SettlesAnswer, asked, asked_behind, asked_in, in_front, script_asked, size_of}

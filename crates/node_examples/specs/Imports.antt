@@ -7,11 +7,10 @@ pub use Rattle.dmx_calls.specs.History.{Entry, History, entry_of}
 pub use Rattle.dmx_calls.specs.Invocation.{AddPid, Attach, Close, Detach, End, Invocation, Open, Pass, Poll, Read, RemovePid, SetFilter, SetPes, SetSize, Start, Stop}
 pub use Rattle.dmx_calls.specs.Items.{items}
 pub use Rattle.dmx_calls.specs.Ledger.{answered, over, total}
-pub use Rattle.dmx_calls.specs.Log.{LogEntry}
+pub use Rattle.dmx_calls.specs.Log.{Act, LogEntry}
 pub use Rattle.dmx_calls.specs.Response.{Again, Busy, Data, Done, Overflow, Passed, Ready, Refused, Response, TimedOut}
 pub use Rattle.dmx_calls.specs.Rules.{demux, dvr}
 pub use Rattle.dmx_calls.specs.declared.histories.Fed.{Fed}
-pub use Rattle.dmx_calls.specs.declared.log.Act.{Act}
 pub use Rattle.dmx_calls.specs.declared.node.State.{State}
 pub use Rattle.dmx_calls.specs.declared.params.Input.TheVariants.{Frontend}
 pub use Rattle.dmx_calls.specs.declared.params.Output.{Output}

@@ -164,6 +164,17 @@ impl<const N: usize> PidSet<N> {
     }
 }
 
+impl PidSet<1> {
+    /// The same set once more, in a type that has room for all PIDs of a filter. It takes no memory.
+    pub fn widened(&self) -> Pids
+        ensures { result ≡ self.now }
+    {
+        let fits = self.len() <= 128;
+        prove!(fits);
+        self.fitted()
+    }
+}
+
 impl<const N: usize> Clone for PidSet<N> {
     ghost is_clone = { λ old new. new ≡ old };
 

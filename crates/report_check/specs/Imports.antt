@@ -12,12 +12,11 @@ pub use Rattle.dmx_calls.specs.Entries.{told}
 pub use Rattle.dmx_calls.specs.Histories.{feeder_entry}
 pub use Rattle.dmx_calls.specs.History.{Entry, entry_of}
 pub use Rattle.dmx_calls.specs.Legal.{IsLegalFor, May}
-pub use Rattle.dmx_calls.specs.Log.{LogEntry, Sources, act_of, filled, filled_act, filled_entry}
+pub use Rattle.dmx_calls.specs.Log.{Act, LogEntry, Sources, act_of, filled, filled_act, filled_entry}
 pub use Rattle.dmx_calls.specs.Response.{NoMemory, Response}
 pub use Rattle.dmx_calls.specs.Rules.{Rules, rules_at}
 pub use Rattle.dmx_calls.specs.declared.call.Call.{Call}
 pub use Rattle.dmx_calls.specs.declared.limits.TheConstants.{DEMUX_NODES, LARGEST_READ}
-pub use Rattle.dmx_calls.specs.declared.log.Act.{Act}
 pub use Rattle.dmx_calls.specs.declared.log.Act.TheVariants.{End, Pass, Poll, Read, SetFilter, SetPes, Start}
 pub use Rattle.dmx_calls.specs.declared.outcome.Outcome.{Outcome}
 pub use Rattle.dmx_calls.specs.declared.params.Input.{Input}

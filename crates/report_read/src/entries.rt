@@ -67,7 +67,7 @@ pub fn read_entry(
         place: front.place,
         step: front.step,
         who: front.who,
-        act: KeptAct::of(alloc, front.act)?,
+        act: KeptAct::keep(alloc, front.act)?,
         reply: SharedReply::unshared(alloc, reply)?,
     }))
 }

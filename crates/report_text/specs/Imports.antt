@@ -1,12 +1,11 @@
 -- The words of others that the definitions and clauses of this crate use.
 pub use Rattle.dmx_calls.specs.Calls.{response_of, told_entry}
 pub use Rattle.dmx_calls.specs.Histories.{before_entry, feeder_acts, feeder_entries, feeder_entry, pass_act, woven}
-pub use Rattle.dmx_calls.specs.Log.{LogEntry}
+pub use Rattle.dmx_calls.specs.Log.{Act, LogEntry}
 pub use Rattle.dmx_calls.specs.Names.{errno_text, input_text, output_text, pending_text}
 pub use Rattle.dmx_calls.specs.Response.{Again, Busy, Data, Done, NoMemory, Overflow, Passed, Ready, Refused, Response, TapChange, TimedOut}
 pub use Rattle.dmx_calls.specs.declared.histories.Fed.{Fed}
 pub use Rattle.dmx_calls.specs.declared.limits.TheConstants.{DEMUX_NODES}
-pub use Rattle.dmx_calls.specs.declared.log.Act.{Act}
 pub use Rattle.dmx_calls.specs.declared.log.Act.TheVariants.{AddPid, Attach, Close, Detach, End, Open, Pass, Poll, Read, RemovePid, SetFilter, SetPes, SetSize, Start, Stop}
 pub use Rattle.dmx_calls.specs.declared.outcome.Outcome.{Outcome}
 pub use Rattle.dmx_calls.specs.declared.outcome.OutcomeKind.{OutcomeKind}

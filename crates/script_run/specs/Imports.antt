@@ -11,11 +11,10 @@ pub use Rattle.client_script.specs.declared.line.Line.{Line}
 pub use Rattle.client_script.specs.declared.line.Line.TheVariants.{Command}
 pub use Rattle.dmx_calls.specs.Accounted.{IsAccounted}
 pub use Rattle.dmx_calls.specs.Legal.{IsLegalFor}
-pub use Rattle.dmx_calls.specs.Log.{LogEntry, Sources, act_of, filled, filled_act}
+pub use Rattle.dmx_calls.specs.Log.{Act, LogEntry, Sources, act_of, filled, filled_act}
 pub use Rattle.dmx_calls.specs.Response.{Data, NoMemory, Overflow, Response}
 pub use Rattle.dmx_calls.specs.Rules.{rules_at}
 pub use Rattle.dmx_calls.specs.declared.limits.TheConstants.{DEMUX_NODES}
-pub use Rattle.dmx_calls.specs.declared.log.Act.{Act}
 pub use Rattle.dmx_calls.specs.declared.log.Act.TheVariants.{End, Pass, Poll, Read, SetFilter, SetPes, Start}
 pub use Rattle.dmx_calls.specs.declared.outcome.Outcome.{Outcome}
 pub use Rattle.dmx_calls.specs.declared.params.Input.TheVariants.{Dvr, Frontend}

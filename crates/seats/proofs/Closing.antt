@@ -1,9 +1,8 @@
 -- A seat closes no node that it doesn't hold.
-use Rattle.seats.proofs.Imports.{◌≡◌, ◌≤◌, ℕ, true, List, [], ◌∷◌, ◌++◌, map, Some, ap, sym, ◌∙◌, subst, slice_get, append-nil, append_assoc, DEMUX_NODES, CloseAct, AttachAct, DetachAct, KeepTap, AttachTap, DetachTap, response_of, LogEntry, TapChange, Seat, act_by_tap, IsBehind, DoesCommand, ClosesHeld, holds, CloseHeld, log_of, told_made, GoesOn}
+use Rattle.seats.proofs.Imports.{◌≡◌, ◌≤◌, ℕ, true, List, [], ◌∷◌, ◌++◌, map, Some, ap, sym, ◌∙◌, subst, slice_get, append-nil, append_assoc, DEMUX_NODES, CloseAct, AttachAct, DetachAct, KeepTap, AttachTap, DetachTap, response_of, LogEntry, TapChange, Seat, act_by_tap, tap_by, IsBehind, DoesCommand, ClosesHeld, holds, CloseHeld, log_of, told_made, GoesOn}
 use Rattle.seats.proofs.Doing.{log_more}
 use Rattle.seats.proofs.Keeping.{the_calls}
 use Rattle.seats.proofs.Marking.{marked_is}
-use Rattle.seats.proofs.Spelling.{tap_behind}
 
 -- calls behind others
 held_both : (before xs ys : List LogEntry) → CloseHeld before xs → CloseHeld (before ++ xs) ys → CloseHeld before (xs ++ ys)
@@ -26,9 +25,8 @@ closes_none old new same gone calls m is = subst (CloseHeld (gone ++ log_of old)
 pub closes_one : (node at : ℕ) (old new : Seat) → DoesCommand node CloseAct at old new → node ≤ DEMUX_NODES → slice_get old.held node ≡ Some true → ClosesHeld old new
 closes_one node at old new d low held gone calls m is =
     let own = told_made old.who d.own in let behind = map (told_made old.who) d.behind in
-    let t = tap_behind node (response_of d.own.reply) behind d.is in
     subst (CloseHeld (gone ++ log_of old)) (sym (the_calls old new calls (own ∷ behind) is (log_more old new (d.own ∷ d.behind) d.has)))
-    (λ close. ap (holds (gone ++ log_of old)) d.node ∙ marked_is (gone ++ log_of old) old.held node true m low held, behind_held ((gone ++ log_of old) ++ own ∷ []) node t.0 behind t.1)
+    (λ close. ap (holds (gone ++ log_of old)) d.node ∙ marked_is (gone ++ log_of old) old.held node true m low held, behind_held ((gone ++ log_of old) ++ own ∷ []) node (tap_by node (response_of d.own.reply)) behind d.is)
 
 -- one after another
 pub closes_more : (a b c : Seat) → GoesOn a b → GoesOn b c → ClosesHeld a b → ClosesHeld b c → ClosesHeld a c

@@ -1,7 +1,6 @@
 -- Each command that a request spells is done by its calls, as a script's command is.
-use Rattle.seats.proofs.Imports.{◌≡◌, ◌≢◌, ℕ, zero, suc, ◌+◌, ◌<◌, ◌≤◌, Bool, true, false, nat_lt, eq-eqb, ne_eqb, List, [], ◌∷◌, ◌++◌, length, take, Some, None, IsTrue, refl, ap, sym, ◌∙◌, subst, arith, slice_get, if◌then◌else◌, nat_tests, dite, ℕ_discrete, DEMUX_NODES, OpenAct, WasDone, WasEmfile, KeepTap, AttachTap, DetachTap, LogEntry, act_of, Response, TapChange, Done, Busy, Refused, NoMemory, Data, Again, Overflow, TimedOut, Ready, Passed, Node, Dvr, Want, Open, Close, Section, Pes, Add, Remove, Size, Once, Event, ClientRequest, Own, Ending, WasMade, Bound, AllBusy, Batches, Doing, stands, through, Slots, told, called, opened, done, own_call, call_of, Counters, kind_by, IsEvent, replies, IsGiven, act_by_tap, act_behind, IsBehind, is_busy, DoneCommand, done_command, target_of, opened_kind}
+use Rattle.seats.proofs.Imports.{◌≡◌, ◌≢◌, ℕ, zero, suc, ◌+◌, ◌≤◌, Bool, false, nat_lt, eq-eqb, ne_eqb, List, [], ◌∷◌, ◌++◌, length, take, Some, IsTrue, refl, ap, sym, ◌∙◌, subst, arith, slice_get, if◌then◌else◌, dite, ℕ_discrete, DEMUX_NODES, KeepTap, AttachTap, DetachTap, LogEntry, Act, act_of, Response, TapChange, Done, Busy, Again, Node, Dvr, Want, Open, Close, Section, Pes, Add, Remove, Size, Once, Event, ClientRequest, Ending, WasMade, Bound, AllBusy, Next, Still, Through, Task, CallTask, OpenFrom, AttachTask, DetachTask, Batches, Doing, stands, through, Slots, no_slots, done, first, after, event_of, telling, doing, if_next, are_done, own_call, call_of, Counters, kind_by, IsEvent, replies, IsGiven, DoneCommand, GoesThrough, IsDone, no_counters, target_of}
 use Rattle.client_script.specs.declared.line.Want.TheVariants.{Start, Stop, Read, Poll}
-use Rattle.client_core.specs.declared.event.ClientRequest.TheVariants.{Attach, Detach}
 
 -- ------ what a command does by the replies to these calls
 
@@ -70,82 +69,79 @@ fits_as may does same ending calls is f = record {
   calm = f.calm;
 }
 
--- ------ what a reply asks of the dvr node
+-- ------ by small steps
 
-pub fits_told : (may : ℕ → Bool) (ending : Ending) (node : ℕ) (tap : TapChange) (behind : List LogEntry) → IsBehind (act_by_tap node tap) behind → Fits may (told ending node tap) ending behind
-fits_told may ending node KeepTap behind is = subst (λ (l : List LogEntry). Fits may (told ending node KeepTap) ending l) (sym is) (fits_none may ending)
-fits_told may ending node (AttachTap pids) behind is =
-    subst (λ (l : List LogEntry). Fits may (told ending node (AttachTap pids)) ending l) (sym is.1)
-    (fits_more may (told ending node (AttachTap pids)) (λ step rs. through ending step rs) ending DEMUX_NODES (Attach node pids) 0 is.0 []
-    (λ step. refl) (λ step rs. refl) is.2 (λ batches. is.3) (subst (IsGiven may) (sym is.3) tt) (λ f none. absurd (cc none)) (fits_none may ending))
-fits_told may ending node DetachTap behind is =
-    subst (λ (l : List LogEntry). Fits may (told ending node DetachTap) ending l) (sym is.1)
-    (fits_more may (told ending node DetachTap) (λ step rs. through ending step rs) ending DEMUX_NODES (Detach node) 0 is.0 []
-    (λ step. refl) (λ step rs. refl) is.2 (λ batches. is.3) (subst (IsGiven may) (sym is.3) tt) (λ f none. absurd (cc none)) (fits_none may ending))
+-- the counters of its client change nothing of how it ended
+abbrev pub IsPlainEnding : Ending → Type 0
+IsPlainEnding ending = (counters : Counters) → kind_by counters ending ≡ kind_by no_counters ending
 
--- what a command does behind a reply of a node
-pub record Replied (does : Steps) (node : ℕ) (r : Response) (behind : List LogEntry) : Type 0 where
-  pub ending : Ending
-  pub kind : (counters : Counters) → kind_by counters ending ≡ WasDone
-  pub tap : TapChange
-  pub after : (step : ℕ) (rs : List Response) → does step (r ∷ rs) ≡ told ending node tap (step + 1) rs
-  pub is : IsBehind (act_by_tap node tap) behind
-  pub calm : (f : LogEntry) → slice_get behind 0 ≡ Some f → r ≢ Again false
+-- What is left of a command of one call, or of an open of a slot; the call is made at a moment of the clock.
+abbrev pub IsPlain : (may : ℕ → Bool) → (now : ℕ) → Next → Type 0
+IsPlain may now (Through ending) = IsPlainEnding ending
+IsPlain may now (Still (CallTask node want)) = IsGiven may (act_of (own_call want now))
+IsPlain may now (Still (OpenFrom slot node)) = Unit {0}
+IsPlain may now (Still (AttachTask ending node pids)) = IsPlainEnding ending
+IsPlain may now (Still (DetachTask ending node)) = IsPlainEnding ending
+IsPlain may now (Still _) = ⊥
 
--- no call behind it
-plainly : (does : Steps) (node : ℕ) (r : Response) (behind : List LogEntry) → ((step : ℕ) (rs : List Response) → does step (r ∷ rs) ≡ through WasMade (step + 1) rs) → behind ≡ [] → Replied does node r behind
-plainly does node r behind after is = record { ending = WasMade; kind = λ counters. refl; tap = KeepTap; after = after; is = is; calm = λ f at. absurd (let none : slice_get [] 0 ≡ Some f = subst (λ (l : List LogEntry). slice_get l 0 ≡ Some f) is at in cc none) }
+event_at : (t : Task) (step : ℕ) → event_of t step ≡ record { step = step; node = (event_of t 0).node; want = (event_of t 0).want }
+event_at (CallTask node want) step = refl
+event_at (OpenFrom slot node) step = refl
+event_at _ step = refl
 
-pub replied_called : (node : ℕ) (want : Want) (r : Response) (behind : List LogEntry) → node ≤ DEMUX_NODES → IsBehind (act_behind node r) behind → Replied (called node want) node r behind
-replied_called node want (Done from to tap) behind low is = dite (ℕ_discrete node DEMUX_NODES)
-    (λ here.
-    let no : nat_lt node DEMUX_NODES ≡ false = grind (arith, nat_tests, here) in
-    plainly (called node want) node (Done from to tap) behind
-    (λ step rs. ap (λ b. if b then told WasMade node tap (step + 1) rs else through WasMade (step + 1) rs) no)
-    (subst (λ b. IsBehind (if b then None else act_by_tap node tap) behind) (eq-eqb node DEMUX_NODES here) is))
-    (λ not.
-    let yes : nat_lt node DEMUX_NODES ≡ true = grind (arith, nat_tests, low, not) in
-    record {
-      ending = WasMade;
-      kind = λ counters. refl;
-      tap = tap;
-      after = λ step rs. ap (λ b. if b then told WasMade node tap (step + 1) rs else through WasMade (step + 1) rs) yes;
-      is = subst (λ b. IsBehind (if b then None else act_by_tap node tap) behind) (ne_eqb node DEMUX_NODES not) is;
-      calm = λ f at same. absurd (cc same);
-    })
-replied_called node want (Busy owner) behind low is = plainly (called node want) node (Busy owner) behind (λ step rs. refl) is
-replied_called node want (Refused errno) behind low is = plainly (called node want) node (Refused errno) behind (λ step rs. refl) is
-replied_called node want NoMemory behind low is = plainly (called node want) node NoMemory behind (λ step rs. refl) is
-replied_called node want (Data bytes) behind low is = plainly (called node want) node (Data bytes) behind (λ step rs. refl) is
-replied_called node want (Again ended) behind low is = plainly (called node want) node (Again ended) behind (λ step rs. refl) is
-replied_called node want (Overflow from to item need room) behind low is = plainly (called node want) node (Overflow from to item need room) behind (λ step rs. refl) is
-replied_called node want (TimedOut started now timeout) behind low is = plainly (called node want) node (TimedOut started now timeout) behind (λ step rs. refl) is
-replied_called node want (Ready readable error at ended) behind low is = plainly (called node want) node (Ready readable error at ended) behind (λ step rs. refl) is
-replied_called node want Passed behind low is = plainly (called node want) node Passed behind (λ step rs. refl) is
+module _ (may : ℕ → Bool) (now : ℕ) where
+  telling_plain : (ending : Ending) (node : ℕ) (tap : TapChange) → IsPlainEnding ending → IsPlain may now (telling ending node tap)
+  telling_plain ending node KeepTap p = p
+  telling_plain ending node (AttachTap pids) p = p
+  telling_plain ending node DetachTap p = p
 
--- a node that wasn't busy
-pub replied_opened : (slot node : ℕ) (r : Response) (behind : List LogEntry) → node < DEMUX_NODES → is_busy r ≡ false → IsBehind (act_behind node r) behind → Replied (opened slot node) node r behind
-replied_opened slot node (Done from to tap) behind low free is =
-    let not : node ≢ DEMUX_NODES = λ here. absurd (omega (arith, low, here)) in
-    record {
-      ending = Bound slot node;
-      kind = λ counters. refl;
-      tap = tap;
-      after = λ step rs. refl;
-      is = subst (λ b. IsBehind (if b then None else act_by_tap node tap) behind) (ne_eqb node DEMUX_NODES not) is;
-      calm = λ f at same. absurd (cc same);
-    }
-replied_opened slot node (Busy owner) behind low free is = absurd (cc free)
-replied_opened slot node (Refused errno) behind low free is = plainly (opened slot node) node (Refused errno) behind (λ step rs. refl) is
-replied_opened slot node NoMemory behind low free is = plainly (opened slot node) node NoMemory behind (λ step rs. refl) is
-replied_opened slot node (Data bytes) behind low free is = plainly (opened slot node) node (Data bytes) behind (λ step rs. refl) is
-replied_opened slot node (Again ended) behind low free is = plainly (opened slot node) node (Again ended) behind (λ step rs. refl) is
-replied_opened slot node (Overflow from to item need room) behind low free is = plainly (opened slot node) node (Overflow from to item need room) behind (λ step rs. refl) is
-replied_opened slot node (TimedOut started now timeout) behind low free is = plainly (opened slot node) node (TimedOut started now timeout) behind (λ step rs. refl) is
-replied_opened slot node (Ready readable error at ended) behind low free is = plainly (opened slot node) node (Ready readable error at ended) behind (λ step rs. refl) is
-replied_opened slot node Passed behind low free is = plainly (opened slot node) node Passed behind (λ step rs. refl) is
+  plain_after : (t : Task) (r : Response) → IsPlain may now (Still t) → IsPlain may now (after t r)
+  plain_after (CallTask node want) (Done from to tap) p =
+      if_next (IsPlain may now) (nat_lt node DEMUX_NODES) (telling WasMade node tap) (Through WasMade) (λ yes. telling_plain WasMade node tap (λ counters. refl)) (λ counters. refl)
+  plain_after (CallTask node want) _ p = λ counters. refl
+  plain_after (OpenFrom slot node) (Busy owner) p =
+      if_next (IsPlain may now) (nat_lt (node + 1) DEMUX_NODES) (Still (OpenFrom slot (node + 1))) (Through AllBusy) (λ yes. tt) (λ counters. refl)
+  plain_after (OpenFrom slot node) (Done from to tap) p = telling_plain (Bound slot node) node tap (λ counters. refl)
+  plain_after (OpenFrom slot node) _ p = λ counters. refl
+  plain_after (AttachTask ending node pids) r p = p
+  plain_after (DetachTask ending node) r p = p
+  plain_after _ r p = absurd p
 
--- ------ one call, with what it asks of the dvr node
+  given_of : (t : Task) (a : Act) → IsPlain may now (Still t) → ((batches : Batches) → a ≡ act_of (call_of batches (event_of t 0).want now)) → IsGiven may a
+  given_of (CallTask node want) a p is = subst (IsGiven may) (sym (is [])) p
+  given_of (OpenFrom slot node) a p is = subst (IsGiven may) (sym (is [])) tt
+  given_of (AttachTask ending node pids) a p is = subst (IsGiven may) (sym (is [])) tt
+  given_of (DetachTask ending node) a p is = subst (IsGiven may) (sym (is [])) tt
+  given_of _ a p is = absurd p
+
+  -- it reads no more where nothing is there
+  again_ends : (t : Task) → IsPlain may now (Still t) → (ending : Ending) × (after t (Again false) ≡ Through ending)
+  again_ends (CallTask node want) p = (WasMade, refl)
+  again_ends (OpenFrom slot node) p = (WasMade, refl)
+  again_ends (AttachTask ending node pids) p = (ending, refl)
+  again_ends (DetachTask ending node) p = (ending, refl)
+  again_ends _ p = absurd p
+
+  again_last : (t : Task) (r : Response) (ending : Ending) (rest : List LogEntry) → IsPlain may now (Still t) → GoesThrough now (after t r) ending rest → r ≡ Again false → rest ≡ []
+  again_last t r ending rest p g same =
+      let e = again_ends t p in
+      (subst (λ n. GoesThrough now n ending rest) (ap (after t) same ∙ e.1) g).0
+
+  pub goes_kind : (n : Next) (ending : Ending) (es : List LogEntry) → IsPlain may now n → GoesThrough now n ending es → IsPlainEnding ending
+  goes_kind (Through last) ending es p g = subst IsPlainEnding (sym g.1) p
+  goes_kind (Still t) ending [] p g = absurd g
+  goes_kind (Still t) ending (e ∷ es) p g = goes_kind (after t e.response) ending es (plain_after t e.response p) g.1
+
+  pub goes_fits : (n : Next) (ending : Ending) (es : List LogEntry) → IsPlain may now n → GoesThrough now n ending es → Fits may (doing n) ending es
+  goes_fits (Through last) ending es p g =
+      subst (λ (l : List LogEntry). Fits may (doing (Through last)) ending l) (sym g.0)
+      (fits_as may (doing (Through last)) (λ step rs. through ending step rs) ending [] (λ step rs. ap (λ (x : Ending). through x step rs) (sym g.1)) (fits_none may ending))
+  goes_fits (Still t) ending [] p g = absurd g
+  goes_fits (Still t) ending (e ∷ es) p g =
+      fits_more may (doing (Still t)) (doing (after t e.response)) ending (event_of t 0).node (event_of t 0).want now e es
+      (λ step. ap stands (event_at t step)) (λ step rs. refl) g.0.0 g.0.1 (given_of t e.act p g.0.1)
+      (λ f at same. absurd (let none : slice_get [] 0 ≡ Some f = subst (λ (l : List LogEntry). slice_get l 0 ≡ Some f) (again_last t e.response ending es p g.1 same) at in cc none))
+      (goes_fits (after t e.response) ending es (plain_after t e.response p) g.1)
 
 -- a call at a moment of the clock
 pub given_call : (may : ℕ → Bool) (want : Want) (now : ℕ) → IsTrue (may now) → IsGiven may (act_of (own_call want now))
@@ -161,107 +157,30 @@ given_call may (Size size) now is = tt
 given_call may (Read count) now is = is
 given_call may Poll now is = is
 
--- it is the call that is wanted, and this is behind it
-pub fits_replied : (may : ℕ → Bool) (does : Steps) (node : ℕ) (want : Want) (now : ℕ) (own : LogEntry) (behind : List LogEntry)
-    → ((step : ℕ) → does step [] ≡ stands (record { step = step; node = node; want = Own want }))
-    → own.node ≡ node → own.act ≡ act_of (own_call want now) → IsGiven may own.act
-    → (r : Replied does node own.response behind) → Fits may does r.ending (own ∷ behind)
-fits_replied may does node want now own behind first on act given r =
-    fits_more may does (told r.ending node r.tap) r.ending node (Own want) now own behind first r.after on (λ batches. act) given r.calm (fits_told may r.ending node r.tap behind r.is)
-
 -- ------ the commands
 
--- a command was done by its calls, and ended so
-pub record IsDone (may : ℕ → Bool) (d : DoneCommand) : Type 0 where
-  pub ending : Ending
-  pub kind : (counters : Counters) → kind_by counters ending ≡ d.kind
-  pub fits : (slots : Slots) → Fits may (done slots d.target (Once d.want)) ending d.calls
+-- A command was done by its calls, at least one, and ended so.
+pub record IsFitted (may : ℕ → Bool) (d : DoneCommand) : Type 0 where
+  pub some : 1 ≤ length d.calls
+  pub kind : IsPlainEnding d.ending
+  pub fits : (slots : Slots) → Fits may (done slots d.target (Once d.want)) d.ending d.calls
 
--- a node as a script names it
-pub on_target : (slots : Slots) (node : ℕ) (want : Want) (step : ℕ) (rs : List Response) → done slots (target_of node) (Once want) step rs ≡ called node want step rs
-on_target slots node want step rs = dite (ℕ_discrete node DEMUX_NODES)
-    (λ here. ap (λ b. done slots (if b then Dvr else Node node) (Once want) step rs) (eq-eqb node DEMUX_NODES here) ∙ ap (λ n. called n want step rs) (sym here))
-    (λ not. ap (λ b. done slots (if b then Dvr else Node node) (Once want) step rs) (ne_eqb node DEMUX_NODES not))
+goes_some : (now : ℕ) (t : Task) (ending : Ending) (es : List LogEntry) → GoesThrough now (Still t) ending es → 1 ≤ length es
+goes_some now t ending [] g = absurd g
+goes_some now t ending (e ∷ es) g = omega arith
 
--- a command on a node
-pub command_done : (may : ℕ → Bool) (node : ℕ) (want : Want) (now : ℕ) (own : LogEntry) (behind : List LogEntry) → node ≤ DEMUX_NODES
-    → own.node ≡ node → own.act ≡ act_of (own_call want now) → IsGiven may own.act → IsBehind (act_behind node own.response) behind
-    → IsDone may (done_command (target_of node) want (own ∷ behind) WasDone)
-command_done may node want now own behind low on act given is =
-    let r = replied_called node want own.response behind low is in
+pub done_fitted : (may : ℕ → Bool) (now : ℕ) (d : DoneCommand) (t : Task) → ((slots : Slots) → first slots d.target (Once d.want) ≡ Still t) → IsPlain may now (Still t) → IsDone now d → IsFitted may d
+done_fitted may now d t same plain is =
+    let g : GoesThrough now (Still t) d.ending d.calls = subst (λ n. GoesThrough now n d.ending d.calls) (same no_slots) (is no_slots) in
     record {
-      ending = r.ending;
-      kind = r.kind;
-      fits = λ slots. fits_as may (done slots (target_of node) (Once want)) (called node want) r.ending (own ∷ behind) (on_target slots node want)
-          (fits_replied may (called node want) node want now own behind (λ step. refl) on act given r);
+      some = goes_some now t d.ending d.calls g;
+      kind = goes_kind may now (Still t) d.ending d.calls plain g;
+      fits = λ slots. fits_as may (done slots d.target (Once d.want)) (doing (Still t)) d.ending d.calls
+          (λ step rs. are_done slots d.target (Once d.want) step rs ∙ ap (λ n. doing n step rs) (same slots)) (goes_fits may now (Still t) d.ending d.calls plain g);
     }
 
--- ------ a free node is looked for
-
--- these were tried from this one on, and were busy
-abbrev pub AreBusyFrom : (node : ℕ) → List LogEntry → Type 0
-AreBusyFrom node calls = (i : ℕ) (e : LogEntry) → slice_get calls i ≡ Some e → (e.node ≡ node + i) × (e.act ≡ OpenAct) × (is_busy e.response ≡ true)
-
-busy_behind : (node : ℕ) (b : LogEntry) (bs : List LogEntry) → AreBusyFrom node (b ∷ bs) → AreBusyFrom (node + 1) bs
-busy_behind node b bs are i e at = let a = are (suc i) e at in (let on = a.0 in omega (arith, on), a.1, a.2)
-
--- it goes on with the next node, if there is one
-busy_next : (slot node step : ℕ) (r : Response) (rs : List Response) → is_busy r ≡ true → opened slot node step (r ∷ rs) ≡ (if nat_lt (node + 1) DEMUX_NODES then opened slot (node + 1) (step + 1) rs else through AllBusy (step + 1) rs)
-busy_next slot node step (Busy owner) rs busy = refl
-busy_next slot node step (Done from to tap) rs busy = absurd (cc busy)
-busy_next slot node step (Refused errno) rs busy = absurd (cc busy)
-busy_next slot node step NoMemory rs busy = absurd (cc busy)
-busy_next slot node step (Data bytes) rs busy = absurd (cc busy)
-busy_next slot node step (Again ended) rs busy = absurd (cc busy)
-busy_next slot node step (Overflow from to item need room) rs busy = absurd (cc busy)
-busy_next slot node step (TimedOut started now timeout) rs busy = absurd (cc busy)
-busy_next slot node step (Ready readable error at ended) rs busy = absurd (cc busy)
-busy_next slot node step Passed rs busy = absurd (cc busy)
-
-busy_calm : (r : Response) → is_busy r ≡ true → r ≢ Again false
-busy_calm r busy same = absurd (let no : is_busy (Again false) ≡ true = subst (λ (x : Response). is_busy x ≡ true) same busy in cc no)
-
-module _ (may : ℕ → Bool) (slot : ℕ) where
-  tried : (node : ℕ) (next : Steps) (ending : Ending) (b : LogEntry) (rest : List LogEntry) (v : Bool) → nat_lt (node + 1) DEMUX_NODES ≡ v
-      → ((step : ℕ) (rs : List Response) → (if v then opened slot (node + 1) (step + 1) rs else through AllBusy (step + 1) rs) ≡ next (step + 1) rs)
-      → (b.node ≡ node + 0) × (b.act ≡ OpenAct) × (is_busy b.response ≡ true) → Fits may next ending rest → Fits may (opened slot node) ending (b ∷ rest)
-  tried node next ending b rest v is goes at f =
-      let here : node + 0 ≡ node = omega arith in
-      fits_more may (opened slot node) next ending node (Own Open) 0 b rest (λ step. refl)
-      (λ step rs. busy_next slot node step b.response rs at.2 ∙ (ap (λ u. if u then opened slot (node + 1) (step + 1) rs else through AllBusy (step + 1) rs) is ∙ goes step rs))
-      (at.0 ∙ here) (λ batches. at.1) (subst (IsGiven may) (sym at.1) tt) (λ f some. busy_calm b.response at.2) f
-
-  -- a free one is found behind these
-  pub fits_free : (node last : ℕ) (busy : List LogEntry) (own : LogEntry) (behind : List LogEntry) → last ≡ node + length busy → last < DEMUX_NODES → AreBusyFrom node busy
-      → own.node ≡ last → own.act ≡ OpenAct → (r : Replied (opened slot last) last own.response behind) → Fits may (opened slot node) r.ending (busy ++ own ∷ behind)
-  fits_free node last [] own behind long low are on act r =
-      let here : last ≡ node = omega (arith, long) in
-      subst (λ (n : ℕ). Fits may (opened slot n) r.ending (own ∷ behind)) here
-      (fits_replied may (opened slot last) last Open 0 own behind (λ step. refl) on act (subst (IsGiven may) (sym act) tt) r)
-  fits_free node last (b ∷ bs) own behind long low are on act r =
-      let yes : nat_lt (node + 1) DEMUX_NODES ≡ true = grind (arith, nat_tests, long, low) in
-      let next : last ≡ (node + 1) + length bs = omega (arith, long) in
-      tried node (opened slot (node + 1)) r.ending b (bs ++ own ∷ behind) true yes (λ step rs. refl) (are 0 b refl)
-      (fits_free (node + 1) last bs own behind next low (busy_behind node b bs are) on act r)
-
-  -- there is none
-  pub fits_full : (node : ℕ) (b : LogEntry) (busy : List LogEntry) → DEMUX_NODES ≡ node + length (b ∷ busy) → AreBusyFrom node (b ∷ busy) → Fits may (opened slot node) AllBusy (b ∷ busy)
-  fits_full node b [] long are =
-      let no : nat_lt (node + 1) DEMUX_NODES ≡ false = grind (arith, nat_tests, long) in
-      tried node (λ step rs. through AllBusy step rs) AllBusy b [] false no (λ step rs. refl) (are 0 b refl) (fits_none may AllBusy)
-  fits_full node b (c ∷ cs) long are =
-      let yes : nat_lt (node + 1) DEMUX_NODES ≡ true = grind (arith, nat_tests, long) in
-      tried node (opened slot (node + 1)) AllBusy b (c ∷ cs) true yes (λ step rs. refl) (are 0 b refl)
-      (fits_full (node + 1) c cs (omega (arith, long)) (busy_behind node b (c ∷ cs) are))
-
--- how it ended
-pub kind_busy : (calls : List LogEntry) → ((i : ℕ) (e : LogEntry) → slice_get calls i ≡ Some e → is_busy e.response ≡ true) → opened_kind calls ≡ WasEmfile
-kind_busy [] all = refl
-kind_busy (e ∷ es) all = ap (λ b. if b then opened_kind es else WasDone) (all 0 e refl) ∙ kind_busy es (λ i x at. all (suc i) x at)
-
-pub kind_free : (busy : List LogEntry) (own : LogEntry) (behind : List LogEntry) → is_busy own.response ≡ false → opened_kind (busy ++ own ∷ behind) ≡ WasDone
-kind_free [] own behind free = ap (λ b. if b then opened_kind behind else WasDone) free
-kind_free (e ∷ es) own behind free = either (is_busy e.response) (kind_free es own behind free) where
-  either : (b : Bool) → opened_kind (es ++ own ∷ behind) ≡ WasDone → (if b then opened_kind (es ++ own ∷ behind) else WasDone) ≡ WasDone
-  either true is = is
-  either false is = refl
+-- a node as a script names it
+pub first_on_target : (slots : Slots) (node : ℕ) (want : Want) → first slots (target_of node) (Once want) ≡ Still (CallTask node want)
+first_on_target slots node want = dite (ℕ_discrete node DEMUX_NODES)
+    (λ here. ap (λ b. first slots (if b then Dvr else Node node) (Once want)) (eq-eqb node DEMUX_NODES here) ∙ ap (λ n. Still (CallTask n want)) (sym here))
+    (λ not. ap (λ b. first slots (if b then Dvr else Node node) (Once want)) (ne_eqb node DEMUX_NODES not))

@@ -1,5 +1,5 @@
 -- Which nodes a caller has left, behind a call of its own.
-use Rattle.seats.proofs.Imports.{◌≡◌, ◌≢◌, ℕ, Bool, true, false, List, [], ◌∷◌, reverse, set, Option, Some, None, inl, inr, refl, ap, sym, ◌∙◌, subst, arith, eq-eqb, slice_get, if◌then◌else◌, slice_get_within, dite, ℕ_discrete, TableId, View, KnowsItsCalls, fresh, caller_of, Facts, Ledger, NodeKind, Demux, Entry, History, event, entry_of, Invocation, SetFilter, SetPes, AddPid, RemovePid, Start, Stop, SetSize, Read, Poll, Pass, End, Attach, Detach, act_of, Response, TapChange, is_accepted, Rules, rules_at, answer_by, with_call, done_dropping, tap_of_done, is_owned_by, May, IsLegalFor, opens, closes, Caller, IsFreshCaller, MakesEntry, IsLegalAt, at_place, set_there, set_elsewhere, one_value, HasLeft, has_then, IsOwnPass, KnowsItsNodes}
+use Rattle.seats.proofs.Imports.{◌≡◌, ◌≢◌, ℕ, Bool, true, false, List, [], ◌∷◌, reverse, set, Option, Some, None, inl, inr, refl, ap, sym, ◌∙◌, subst, arith, eq-eqb, slice_get, if◌then◌else◌, slice_get_within, dite, ℕ_discrete, TableId, View, KnowsItsCalls, fresh, caller_of, Facts, Ledger, NodeKind, Demux, Entry, History, event, entry_of, Invocation, act_of, Response, TapChange, is_accepted, Rules, rules_at, answer_by, with_call, done_dropping, tap_of_done, is_owned_by, May, IsLegalFor, opens, closes, Caller, IsFreshCaller, MakesEntry, IsLegalAt, at_place, set_there, set_elsewhere, one_value, HasLeft, has_then, IsOwnPass, KnowsItsNodes}
 use Rattle.dmx_calls.specs.Facts.{facts}
 use Rattle.dmx_calls.specs.declared.node.NodeKind.TheVariants.{Dvr}
 use Rattle.dmx_calls.specs.Invocation.{Open, Close}
@@ -14,20 +14,7 @@ no_open e h call is nay = rw is nay
 
 not_open : (e : Entry) (h : History) (call : Invocation) → e.invocation ≡ call → call ≢ Open → opens (event e h) ≡ false
 not_open e h Open is other = absurd (other refl)
-not_open e h Close is other = no_open e h Close is refl
-not_open e h (SetFilter p now) is other = no_open e h (SetFilter p now) is refl
-not_open e h (SetPes p now) is other = no_open e h (SetPes p now) is refl
-not_open e h (AddPid n) is other = no_open e h (AddPid n) is refl
-not_open e h (RemovePid n) is other = no_open e h (RemovePid n) is refl
-not_open e h (Start now) is other = no_open e h (Start now) is refl
-not_open e h Stop is other = no_open e h Stop is refl
-not_open e h (SetSize n) is other = no_open e h (SetSize n) is refl
-not_open e h (Read now n) is other = no_open e h (Read now n) is refl
-not_open e h (Poll now) is other = no_open e h (Poll now) is refl
-not_open e h (Pass i f ps now) is other = no_open e h (Pass i f ps now) is refl
-not_open e h End is other = no_open e h End is refl
-not_open e h (Attach n ps) is other = no_open e h (Attach n ps) is refl
-not_open e h (Detach n) is other = no_open e h (Detach n) is refl
+not_open e h call is other = no_open e h call is refl
 
 is_close : (e : Entry) (h : History) → e.invocation ≡ Close → closes (event e h) ≡ true
 is_close e h is = rw is refl
@@ -112,19 +99,7 @@ module _ (c d : Caller) (node place : ℕ) (e : Entry) (o : MakesEntry node e pl
       by_reply true ok = absurd (let both : true ≡ false = sym (ap (λ b. if b then true else had) ok) ∙ marked in cc)
       by_reply false nay = left_refused nay (l (sym (ap (λ b. if b then true else had) nay) ∙ marked))
     left_marked Close is had l marked = left_closed is
-    left_marked (SetFilter p now) is had l marked = left_still (no_open e (reverse o.more.before) (SetFilter p now) is refl) node (l marked)
-    left_marked (SetPes p now) is had l marked = left_still (no_open e (reverse o.more.before) (SetPes p now) is refl) node (l marked)
-    left_marked (AddPid n) is had l marked = left_still (no_open e (reverse o.more.before) (AddPid n) is refl) node (l marked)
-    left_marked (RemovePid n) is had l marked = left_still (no_open e (reverse o.more.before) (RemovePid n) is refl) node (l marked)
-    left_marked (Start now) is had l marked = left_still (no_open e (reverse o.more.before) (Start now) is refl) node (l marked)
-    left_marked Stop is had l marked = left_still (no_open e (reverse o.more.before) Stop is refl) node (l marked)
-    left_marked (SetSize n) is had l marked = left_still (no_open e (reverse o.more.before) (SetSize n) is refl) node (l marked)
-    left_marked (Read now n) is had l marked = left_still (no_open e (reverse o.more.before) (Read now n) is refl) node (l marked)
-    left_marked (Poll now) is had l marked = left_still (no_open e (reverse o.more.before) (Poll now) is refl) node (l marked)
-    left_marked (Pass i f ps now) is had l marked = left_still (no_open e (reverse o.more.before) (Pass i f ps now) is refl) node (l marked)
-    left_marked End is had l marked = left_still (no_open e (reverse o.more.before) End is refl) node (l marked)
-    left_marked (Attach n ps) is had l marked = left_still (no_open e (reverse o.more.before) (Attach n ps) is refl) node (l marked)
-    left_marked (Detach n) is had l marked = left_still (no_open e (reverse o.more.before) (Detach n) is refl) node (l marked)
+    left_marked call is had l marked = left_still (no_open e (reverse o.more.before) call is refl) node (l marked)
 
     pub knows_then : (held : List Bool) → KnowsItsNodes c held → (had : Bool) → slice_get held node ≡ Some had → KnowsItsNodes d (set held node (has_then had (act_of e.invocation) e.response))
     knows_then held k had was = record {

@@ -1,4 +1,5 @@
 pub mod Closing
+pub mod Counting
 pub mod DoneCommands
 pub mod Doing
 pub mod Going

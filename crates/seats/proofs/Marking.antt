@@ -1,5 +1,5 @@
 -- The nodes that a seat has marked are those that it holds by its calls.
-use Rattle.seats.proofs.Imports.{◌≡◌, ◌≢◌, ℕ, ◌+◌, ◌≤◌, nat_eq, Bool, false, true, eq-eqb, ne_eqb, List, [], ◌∷◌, ◌++◌, length, replicate, set, Some, get_or, refl, ap, sym, ◌∙◌, subst, arith, slice_get, if◌then◌else◌, append_assoc, length-replicate, get_or-replicate, fold-append, slice_get_within, slice_get-get_or, get_or_from_slice_get, dite, ℕ_discrete, set_there, set_elsewhere, one_value, DEMUX_NODES, Invocation, SetFilter, SetPes, AddPid, RemovePid, Start, Stop, SetSize, Read, Poll, Pass, End, Attach, Detach, LogEntry, act_of, Response, has_then, holds, AreMarked}
+use Rattle.seats.proofs.Imports.{◌≡◌, ◌≢◌, ℕ, ◌+◌, ◌≤◌, nat_eq, Bool, false, true, eq-eqb, ne_eqb, List, [], ◌∷◌, ◌++◌, length, replicate, set, Some, get_or, refl, ap, sym, ◌∙◌, subst, arith, slice_get, if◌then◌else◌, append_assoc, length-replicate, get_or-replicate, fold-append, slice_get_within, slice_get-get_or, get_or_from_slice_get, dite, ℕ_discrete, set_there, set_elsewhere, one_value, DEMUX_NODES, Invocation, LogEntry, act_of, Response, has_then, holds, AreMarked}
 use Rattle.dmx_calls.specs.Invocation.{Open, Close}
 
 -- before the first call
@@ -47,19 +47,7 @@ marked_one gone log new e held now m on more is =
 marks_then : (call : Invocation) (had : Bool) (r : Response) → call ≢ Open → has_then had (act_of call) r ≡ true → had ≡ true
 marks_then Open had r other is = absurd (other refl)
 marks_then Close had r other is = absurd (cc is)
-marks_then (SetFilter p now) had r other is = is
-marks_then (SetPes p now) had r other is = is
-marks_then (AddPid n) had r other is = is
-marks_then (RemovePid n) had r other is = is
-marks_then (Start now) had r other is = is
-marks_then Stop had r other is = is
-marks_then (SetSize n) had r other is = is
-marks_then (Read now n) had r other is = is
-marks_then (Poll now) had r other is = is
-marks_then (Pass i f ps now) had r other is = is
-marks_then End had r other is = is
-marks_then (Attach n ps) had r other is = is
-marks_then (Detach n) had r other is = is
+marks_then _ had r other is = is
 
 module _ (call : Invocation) (r : Response) (node : ℕ) (held now : List Bool) (had : Bool) (was : slice_get held node ≡ Some had) (is : now ≡ set held node (has_then had (act_of call) r)) where
   abbrev next : Bool

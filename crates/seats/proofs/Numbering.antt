@@ -1,7 +1,6 @@
--- Calls with other numbers: what is said of the calls for a request holds whatever their numbers are.
-use Rattle.seats.proofs.Imports.{◌≡◌, ⊎_elim, inl, inr, ℕ, zero, suc, ◌+◌, ◌<◌, ◌≤◌, Bool, true, List, [], ◌∷◌, ◌++◌, length, Option, Some, None, refl, ap, sym, ◌∙◌, subst, arith, slice_get, if◌then◌else◌, append-nil, append_assoc, All-nil, All-cons, All-head, All-tail, Act, OpenAct, CloseAct, DEMUX_NODES, LogEntry, Caller, Ask, OpenDemux, Call, Leave, Tell, act_behind, IsBehind, IsCommand, is_busy, AreBusy, IsClosing, AreClosings, told_opened, IsOpened, IsFull, IsAnsweredBy, IsAnswered, MakesCall, MakesCalls, has_then, holds, CloseHeld, numbered, AreOnNodes}
+-- Calls with other numbers: what is said of the commands for a request holds whatever the numbers of their calls are.
+use Rattle.seats.proofs.Imports.{◌≡◌, ⊎_elim, inl, inr, ℕ, zero, suc, ◌+◌, ◌≤◌, Bool, true, false, List, [], ◌∷◌, ◌++◌, length, Some, refl, ap, sym, ◌∙◌, arith, if◌then◌else◌, length-append, append-nil, append_assoc, All-nil, All-cons, All-head, All-tail, DEMUX_NODES, LogEntry, Outcome, Target, Slot, Want, Open, Close, Once, Next, Still, Through, Ending, kind_by, after, first, Caller, Ask, OpenDemux, Call, Leave, RefusedAsk, Tell, is_busy, first_free, IsOneCommand, IsFirstTold, IsOpenTold, AreClosings, IsAnsweredBy, IsAnswered, MakesCall, MakesCalls, has_then, holds, CloseHeld, numbered, AreOnNodes, DoneCommand, GoesThrough, no_counters, calls_in, target_of, outcome_at, outcomes_by}
 use Rattle.std.specs.Prelude.{nat_eq}
-use Rattle.seats.specs.declared.serve_frames.ask.Ask.TheVariants.{Refused}
 use Rattle.seats.proofs.Marking.{holds_more}
 
 -- ------ lists
@@ -19,12 +18,6 @@ numbered_both n [] fs = let here : n ≡ n + 0 = omega arith in ap (λ k. number
 numbered_both n (e ∷ es) fs =
     let there : (n + 1) + length es ≡ n + length (e ∷ es) = omega arith in
     ap (λ (l : List LogEntry). as_step n e ∷ l) (numbered_both (n + 1) es fs ∙ ap (λ k. numbered (n + 1) es ++ numbered k fs) there)
-
--- a member is one of those, with a number
-numbered_at : (n : ℕ) (es : List LogEntry) (i : ℕ) (f : LogEntry) → slice_get (numbered n es) i ≡ Some f → (e : LogEntry) × (m : ℕ) × (slice_get es i ≡ Some e) × (as_step m e ≡ f)
-numbered_at n [] i f at = absurd (cc at)
-numbered_at n (e ∷ es) zero f at = (e, n, refl, cc at)
-numbered_at n (e ∷ es) (suc i) f at = numbered_at (n + 1) es i f at
 
 pub nodes_numbered : (n : ℕ) (es : List LogEntry) → AreOnNodes es → AreOnNodes (numbered n es)
 nodes_numbered n [] are = All-nil (λ (e : LogEntry). e.node ≤ DEMUX_NODES)
@@ -67,65 +60,76 @@ pub closes_numbered : (xs ys : List LogEntry) (n : ℕ) (es : List LogEntry) →
 closes_numbered xs ys n [] same are = tt
 closes_numbered xs ys n (e ∷ es) same are = (λ close. same e.node ∙ are.0 close, closes_numbered (xs ++ as_step n e ∷ []) (ys ++ e ∷ []) (n + 1) es (holds_then xs ys n e same) are.1)
 
--- ------ the calls for a request
+-- ------ the commands for a request
 
-behind_numbered : (n : ℕ) (o : Option Act) (es : List LogEntry) → IsBehind o es → IsBehind o (numbered n es)
-behind_numbered n None es is = ap (numbered n) is
-behind_numbered n (Some act) es is = (as_step n is.0, ap (numbered n) is.1, is.2, is.3)
+-- these commands, whose calls have the numbers from this one on
+abbrev pub renumbered : (n : ℕ) → List DoneCommand → List DoneCommand
+renumbered n [] = []
+renumbered n (d ∷ ds) = record d { calls = numbered n d.calls } ∷ renumbered (n + length d.calls) ds
 
-command_numbered : (n at : ℕ) (does : Act) (own : LogEntry) (all : List LogEntry) → IsCommand at does own all → IsCommand at does (as_step n own) (numbered n all)
-command_numbered n at does own all c = record {
-  node = c.node;
-  act = c.act;
-  behind = numbered (n + 1) c.behind;
-  calls = ap (numbered n) c.calls;
-  is = behind_numbered (n + 1) (act_behind at own.response) c.behind c.is;
-}
+pub renumbered_calls : (n : ℕ) (ds : List DoneCommand) → calls_in (renumbered n ds) ≡ numbered n (calls_in ds)
+renumbered_calls n [] = refl
+renumbered_calls n (d ∷ ds) = ap (λ (l : List LogEntry). numbered n d.calls ++ l) (renumbered_calls (n + length d.calls) ds) ∙ sym (numbered_both n d.calls (calls_in ds))
 
-busy_numbered : (n : ℕ) (es : List LogEntry) → AreBusy es → AreBusy (numbered n es)
-busy_numbered n es are i f at =
-    let v = numbered_at n es i f at in let b = are i v.0 v.2 in
-    subst (λ (z : LogEntry). (z.node ≡ i) × (z.act ≡ OpenAct) × (is_busy z.response ≡ true)) v.3 b
+pub renumbered_both : (n : ℕ) (ds es : List DoneCommand) → renumbered n (ds ++ es) ≡ renumbered n ds ++ renumbered (n + length (calls_in ds)) es
+renumbered_both n [] es = let here : n ≡ n + 0 = omega arith in ap (λ k. renumbered k es) here
+renumbered_both n (d ∷ ds) es =
+    let size = length-append d.calls (calls_in ds) in
+    let there : (n + length d.calls) + length (calls_in ds) ≡ n + length (calls_in (d ∷ ds)) = omega (arith, size) in
+    ap (λ (l : List DoneCommand). record d { calls = numbered n d.calls } ∷ l) (renumbered_both (n + length d.calls) ds es ∙ ap (λ k. renumbered (n + length d.calls) ds ++ renumbered k es) there)
 
-closing_numbered : (n node : ℕ) (es : List LogEntry) → IsClosing node es → IsClosing node (numbered n es)
-closing_numbered n node es is = ⊎_elim (λ none. inl (ap (numbered n) none)) (λ one. inr (as_step n one.0, command_numbered n node CloseAct one.0 es one.1)) is
+-- nothing else is told of them
+pub renumbered_told : (count step n : ℕ) (ds : List DoneCommand) → outcomes_by count step (renumbered n ds) ≡ outcomes_by count step ds
+renumbered_told count step n [] = refl
+renumbered_told count step n (d ∷ ds) =
+    ap (λ k. outcome_at count step (step + k) (kind_by no_counters d.ending) ∷ outcomes_by (count + 1) (step + k) (renumbered (n + length d.calls) ds)) (numbered_long n d.calls)
+    ∙ ap (λ (l : List Outcome). outcome_at count step (step + length d.calls) (kind_by no_counters d.ending) ∷ l) (renumbered_told (count + 1) (step + length d.calls) (n + length d.calls) ds)
 
-pub closings_numbered : (nodes n : ℕ) (es : List LogEntry) → AreClosings nodes es → AreClosings nodes (numbered n es)
-closings_numbered zero n es is = ap (numbered n) is
-closings_numbered (suc k) n es is = (
-  numbered n is.0,
-  numbered (n + length is.0) is.1,
-  ap (numbered n) is.2 ∙ numbered_both n is.0 is.1,
-  closings_numbered k n is.0 is.3,
-  closing_numbered (n + length is.0) k is.1 is.4,
+goes_numbered : (n now : ℕ) (next : Next) (ending : Ending) (es : List LogEntry) → GoesThrough now next ending es → GoesThrough now next ending (numbered n es)
+goes_numbered n now (Through last) ending es g = (ap (numbered n) g.0, g.1)
+goes_numbered n now (Still task) ending [] g = g
+goes_numbered n now (Still task) ending (e ∷ es) g = (g.0, goes_numbered (n + 1) now (after task e.response) ending es g.1)
+
+one_numbered : (n now : ℕ) (target : Target) (want : Want) (told : List LogEntry → Type 0) (ds : List DoneCommand) → ((es : List LogEntry) → told es → told (numbered n es))
+    → IsOneCommand now target want told ds → IsOneCommand now target want told (renumbered n ds)
+one_numbered n now target want told ds same one = (
+  numbered n one.0,
+  one.1,
+  ap (renumbered n) one.2,
+  λ slots. goes_numbered n now (first slots target (Once want)) one.1 one.0 (one.3 slots),
+  same one.0 one.4,
 )
 
-module _ (n : ℕ) (es : List LogEntry) (t : Tell) (bytes : List ℕ) where
-  opened_numbered : IsOpened es t bytes → IsOpened (numbered n es) t bytes
-  opened_numbered o =
-      let long : length (numbered n o.busy) ≡ length o.busy = numbered_long n o.busy in
-      let here = n + length o.busy in
-      record {
-        busy = numbered n o.busy;
-        own = as_step here o.own;
-        mine = numbered here o.mine;
-        calls = ap (numbered n) o.calls ∙ numbered_both n o.busy o.mine;
-        few = subst (λ k. k < DEMUX_NODES) (sym long) o.few;
-        tried = busy_numbered n o.busy o.tried;
-        command = subst (λ k. IsCommand k OpenAct (as_step here o.own) (numbered here o.mine)) (sym long) (command_numbered here (length o.busy) OpenAct o.own o.mine o.command);
-        free = o.free;
-        told = o.told ∙ ap (λ k. told_opened k o.own.response o.own.place) (sym long);
-        read = o.read;
-      }
+pub closings_numbered : (nodes n : ℕ) (ds : List DoneCommand) → AreClosings nodes ds → AreClosings nodes (renumbered n ds)
+closings_numbered zero n ds is = ap (renumbered n) is
+closings_numbered (suc k) n ds is = (
+  renumbered n is.0,
+  renumbered (n + length (calls_in is.0)) is.1,
+  ap (renumbered n) is.2 ∙ renumbered_both n is.0 is.1,
+  closings_numbered k n is.0 is.3,
+  ⊎_elim (λ none. inl (ap (renumbered (n + length (calls_in is.0))) none))
+      (λ one. inr (λ now. one_numbered (n + length (calls_in is.0)) now (target_of k) Close (λ calls. Unit {0}) is.1 (λ es t. t) (one now))) is.4,
+)
 
-  full_numbered : IsFull es t bytes → IsFull (numbered n es) t bytes
-  full_numbered f = record { all = numbered_long n es ∙ f.all; tried = busy_numbered n es f.tried; told = f.told }
+module _ (t : Tell) (bytes : List ℕ) where
+  -- the first call whose node wasn't busy, and what is told of it
+  open_numbered : (n : ℕ) (es : List LogEntry) → IsOpenTold (first_free es) t bytes → IsOpenTold (first_free (numbered n es)) t bytes
+  open_numbered n [] told = told
+  open_numbered n (e ∷ es) told = either (is_busy e.response) (open_numbered (n + 1) es) told where
+    either : (b : Bool) → (IsOpenTold (first_free es) t bytes → IsOpenTold (first_free (numbered (n + 1) es)) t bytes)
+        → IsOpenTold (if b then first_free es else Some e) t bytes → IsOpenTold (if b then first_free (numbered (n + 1) es) else Some (as_step n e)) t bytes
+    either true more told = more told
+    either false more told = told
 
-  answered_by : (ask : Ask) (now : ℕ) → IsAnsweredBy ask now es t bytes → IsAnsweredBy ask now (numbered n es) t bytes
-  answered_by OpenDemux now is = ⊎_elim (λ o. inl (opened_numbered o)) (λ f. inr (full_numbered f)) is
-  answered_by (Call node want) now is = (as_step n is.0, command_numbered n node _ is.0 es is.1, is.2)
-  answered_by Leave now is = (closings_numbered (DEMUX_NODES + 1) n es is.0, is.1)
-  answered_by (Refused code) now is = (ap (numbered n) is.0, is.1)
+  first_numbered : (n : ℕ) (es : List LogEntry) → IsFirstTold es t bytes → IsFirstTold (numbered n es) t bytes
+  first_numbered n [] told = told
+  first_numbered n (e ∷ es) told = told
 
-  pub answered_numbered : (ask : Ask) (now : ℕ) → IsAnswered ask now es t bytes → IsAnswered ask now (numbered n es) t bytes
-  answered_numbered ask now is = ⊎_elim (λ by. inl (answered_by ask now by)) (λ none. inr (none.0, ap (numbered n) none.1, none.2)) is
+  answered_by : (n : ℕ) (ds : List DoneCommand) (ask : Ask) (now : ℕ) → IsAnsweredBy ask now ds t bytes → IsAnsweredBy ask now (renumbered n ds) t bytes
+  answered_by n ds OpenDemux now is = one_numbered n now (Slot 0) Open (λ calls. IsOpenTold (first_free calls) t bytes) ds (open_numbered n) is
+  answered_by n ds (Call node want) now is = one_numbered n now (target_of node) want (λ calls. IsFirstTold calls t bytes) ds (first_numbered n) is
+  answered_by n ds Leave now is = (closings_numbered (DEMUX_NODES + 1) n ds is.0, is.1)
+  answered_by n ds (RefusedAsk code) now is = (ap (renumbered n) is.0, is.1)
+
+  pub answered_numbered : (n : ℕ) (ds : List DoneCommand) (ask : Ask) (now : ℕ) → IsAnswered ask now ds t bytes → IsAnswered ask now (renumbered n ds) t bytes
+  answered_numbered n ds ask now is = ⊎_elim (λ by. inl (answered_by n ds ask now by)) (λ none. inr (none.0, ap (renumbered n) none.1, none.2)) is

@@ -1,15 +1,20 @@
 -- How far a client is whose commands were done one after another.
-use Rattle.seats.proofs.Imports.{◌≡◌, ◌≢◌, ◌⊎◌, ⊎_elim, ℕ, zero, suc, ◌+◌, ◌<◌, ◌≤◌, Bool, false, List, [], ◌∷◌, ◌++◌, length, map, take, Some, None, inl, inr, refl, ap, sym, ◌∙◌, subst, arith, slice_get, map-append, take-append-le, slice_get_within, take-append-add, Outcome, OutcomeKind, LogEntry, Response, Again, ClientCommand, Once, Event, stands, Slots, done, Standing, Ended, Progress, with_ended, slots_after, progress_from, waits_after, Counters, outcome_by, progress_of, waits_not, replies, IsGiven, DoneCommand, calls_in, line_behind, commands_by, outcomes_by}
-use Rattle.seats.proofs.DoneCommands.{IsDone, IsEventOf}
+use Rattle.seats.proofs.Imports.{◌≡◌, ◌≢◌, ◌⊎◌, ⊎_elim, ℕ, zero, suc, ◌+◌, ◌<◌, ◌≤◌, Bool, false, List, [], ◌∷◌, ◌++◌, length, map, take, Some, None, inl, inr, refl, ap, sym, ◌∙◌, subst, arith, slice_get, length-append, map-append, take-append-le, slice_get_within, take-append-add, Outcome, OutcomeKind, LogEntry, Response, Again, ClientCommand, Once, Event, stands, Slots, done, Standing, Ended, Progress, with_ended, slots_after, progress_from, waits_after, Counters, kind_by, outcome_by, progress_of, waits_not, replies, IsGiven, DoneCommand, no_counters, calls_in, line_behind, commands_by, outcomes_by}
+use Rattle.seats.proofs.DoneCommands.{IsFitted, IsEventOf}
 
 -- each of these was done
-abbrev pub AreDone : (may : ℕ → Bool) → List DoneCommand → Type 0
-AreDone may [] = Unit {0}
-AreDone may (d ∷ ds) = IsDone may d × AreDone may ds
+abbrev pub AreFitted : (may : ℕ → Bool) → List DoneCommand → Type 0
+AreFitted may [] = Unit {0}
+AreFitted may (d ∷ ds) = IsFitted may d × AreFitted may ds
 
-pub done_both : (may : ℕ → Bool) (ds es : List DoneCommand) → AreDone may ds → AreDone may es → AreDone may (ds ++ es)
-done_both may [] es a b = b
-done_both may (d ∷ ds) es a b = (a.0, done_both may ds es a.1 b)
+pub fitted_both : (may : ℕ → Bool) (ds es : List DoneCommand) → AreFitted may ds → AreFitted may es → AreFitted may (ds ++ es)
+fitted_both may [] es a b = b
+fitted_both may (d ∷ ds) es a b = (a.0, fitted_both may ds es a.1 b)
+
+-- they are no more than their calls
+pub fitted_few : (may : ℕ → Bool) (ds : List DoneCommand) → AreFitted may ds → length ds ≤ length (calls_in ds)
+fitted_few may [] are = omega arith
+fitted_few may (d ∷ ds) are = let some = are.0.some in let more = fitted_few may ds are.1 in let both = length-append d.calls (calls_in ds) in omega (arith, some, more, both)
 
 -- a member of one list behind another
 pub in_either : {A : Type 0} (xs ys : List A) (i : ℕ) (a : A) → slice_get (xs ++ ys) i ≡ Some a
@@ -27,18 +32,18 @@ in_rest xs ys k a at = ⊎_elim (λ here. absurd (let low = slice_get_within xs 
 
 -- ------ behind one command
 
-module _ (may : ℕ → Bool) (slots : Slots) (count step : ℕ) (d : DoneCommand) (is : IsDone may d) (cs : List ClientCommand) where
+module _ (may : ℕ → Bool) (slots : Slots) (count step : ℕ) (d : DoneCommand) (is : IsFitted may d) (cs : List ClientCommand) where
   abbrev c : ClientCommand
   c = record { line = line_behind count; target = d.target; deed = Once d.want }
 
   abbrev after : Slots
-  after = slots_after is.ending slots
+  after = slots_after d.ending slots
 
   abbrev next : ℕ
   next = step + length d.calls
 
   abbrev ended : Ended
-  ended = record { line = line_behind count; from = step; to = next; ending = is.ending }
+  ended = record { line = line_behind count; from = step; to = next; ending = d.ending }
 
   -- it is through
   goes_on : (more : List LogEntry) → progress_from slots step (c ∷ cs) (replies (d.calls ++ more)) ≡ with_ended ended (progress_from after next cs (replies more))
@@ -54,19 +59,19 @@ module _ (may : ℕ → Bool) (slots : Slots) (count step : ℕ) (d : DoneComman
 -- ------ all of them
 
 -- what became of them, whatever the counters are, and none of them stands
-pub outcomes_are : (may : ℕ → Bool) (slots : Slots) (count step : ℕ) (ds : List DoneCommand) → AreDone may ds → (counters : Ended → Counters)
+pub outcomes_are : (may : ℕ → Bool) (slots : Slots) (count step : ℕ) (ds : List DoneCommand) → AreFitted may ds → (counters : Ended → Counters)
     → (map (λ e. outcome_by (counters e) e) (progress_from slots step (commands_by count ds) (replies (calls_in ds))).ended ≡ outcomes_by count step ds)
     × ((progress_from slots step (commands_by count ds) (replies (calls_in ds))).standing ≡ None)
 outcomes_are may slots count step [] are counters = (refl, refl)
 outcomes_are may slots count step (d ∷ ds) are counters =
     let on = goes_on may slots count step d are.0 (commands_by (count + 1) ds) (calls_in ds) in
-    let more = outcomes_are may (slots_after are.0.ending slots) (count + 1) (step + length d.calls) ds are.1 counters in
+    let more = outcomes_are may (slots_after d.ending slots) (count + 1) (step + length d.calls) ds are.1 counters in
     let e = ended may slots count step d are.0 (commands_by (count + 1) ds) in
-    let first : outcome_by (counters e) e ≡ record { line = line_behind count; from = step; to = step + length d.calls; kind = d.kind } =
+    let first : outcome_by (counters e) e ≡ record { line = line_behind count; from = step; to = step + length d.calls; kind = kind_by no_counters d.ending } =
     ap (λ (k : OutcomeKind). record { line = line_behind count; from = step; to = step + length d.calls; kind = k }) (are.0.kind (counters e)) in (
       ap (λ (p : Progress). map (λ e. outcome_by (counters e) e) p.ended) on
-          ∙ (ap (λ (o : Outcome). o ∷ map (λ e. outcome_by (counters e) e) (progress_from (slots_after are.0.ending slots) (step + length d.calls) (commands_by (count + 1) ds) (replies (calls_in ds))).ended) first
-          ∙ ap (λ (os : List Outcome). record { line = line_behind count; from = step; to = step + length d.calls; kind = d.kind } ∷ os) more.0),
+          ∙ (ap (λ (o : Outcome). o ∷ map (λ e. outcome_by (counters e) e) (progress_from (slots_after d.ending slots) (step + length d.calls) (commands_by (count + 1) ds) (replies (calls_in ds))).ended) first
+          ∙ ap (λ (os : List Outcome). record { line = line_behind count; from = step; to = step + length d.calls; kind = kind_by no_counters d.ending } ∷ os) more.0),
       ap (λ (p : Progress). p.standing) on ∙ more.1,
     )
 
@@ -84,10 +89,10 @@ pub record Stands (may : ℕ → Bool) (p : Progress) (calls : List LogEntry) (i
   pub first : i ≡ 0 → at.event.step ≤ at.from
   pub calm : (j : ℕ) (f : LogEntry) → suc j ≡ i → slice_get calls j ≡ Some f → waits_after (Some at) (f.response ∷ []) ≡ None
 
-pub stands_before : (may : ℕ → Bool) (slots : Slots) (count step : ℕ) (ds : List DoneCommand) → AreDone may ds → (i : ℕ) (e : LogEntry) → slice_get (calls_in ds) i ≡ Some e
+pub stands_before : (may : ℕ → Bool) (slots : Slots) (count step : ℕ) (ds : List DoneCommand) → AreFitted may ds → (i : ℕ) (e : LogEntry) → slice_get (calls_in ds) i ≡ Some e
     → Stands may (progress_from slots step (commands_by count ds) (replies (take i (calls_in ds)))) (calls_in ds) i e
 stands_before may slots count step [] are i e at = absurd (cc at)
-stands_before may slots count step (d ∷ ds) are i e at = ⊎_elim (λ here. mine here) (λ more. behind more.0 more.1 (stands_before may (slots_after are.0.ending slots) (count + 1) (step + length d.calls) ds are.1 more.0 e more.2)) (in_either d.calls (calls_in ds) i e at) where
+stands_before may slots count step (d ∷ ds) are i e at = ⊎_elim (λ here. mine here) (λ more. behind more.0 more.1 (stands_before may (slots_after d.ending slots) (count + 1) (step + length d.calls) ds are.1 more.0 e more.2)) (in_either d.calls (calls_in ds) i e at) where
   mine : slice_get d.calls i ≡ Some e → Stands may (progress_from slots step (commands_by count (d ∷ ds)) (replies (take i (calls_in (d ∷ ds))))) (calls_in (d ∷ ds)) i e
   mine here =
       let a = (are.0.fits slots).asks step i e here in
@@ -107,7 +112,7 @@ stands_before may slots count step (d ∷ ds) are i e at = ⊎_elim (λ here. mi
       }
 
   behind : (k : ℕ) → i ≡ length d.calls + k
-      → Stands may (progress_from (slots_after are.0.ending slots) (step + length d.calls) (commands_by (count + 1) ds) (replies (take k (calls_in ds)))) (calls_in ds) k e
+      → Stands may (progress_from (slots_after d.ending slots) (step + length d.calls) (commands_by (count + 1) ds) (replies (take k (calls_in ds)))) (calls_in ds) k e
       → Stands may (progress_from slots step (commands_by count (d ∷ ds)) (replies (take i (calls_in (d ∷ ds))))) (calls_in (d ∷ ds)) i e
   behind k long more =
       let front : take i (d.calls ++ calls_in ds) ≡ d.calls ++ take k (calls_in ds) = ap (λ n. take n (d.calls ++ calls_in ds)) long ∙ take-append-add d.calls (calls_in ds) k in
@@ -120,7 +125,7 @@ stands_before may slots count step (d ∷ ds) are i e at = ⊎_elim (λ here. mi
         first = λ none. more.first (omega (arith, long, none));
         calm = λ j f is at_j. calm k long more j f is at_j;
       } where
-        calm : (k : ℕ) → i ≡ length d.calls + k → (more : Stands may (progress_from (slots_after are.0.ending slots) (step + length d.calls) (commands_by (count + 1) ds) (replies (take k (calls_in ds)))) (calls_in ds) k e)
+        calm : (k : ℕ) → i ≡ length d.calls + k → (more : Stands may (progress_from (slots_after d.ending slots) (step + length d.calls) (commands_by (count + 1) ds) (replies (take k (calls_in ds)))) (calls_in ds) k e)
             → (j : ℕ) (f : LogEntry) → suc j ≡ i → slice_get (calls_in (d ∷ ds)) j ≡ Some f → waits_after (Some more.at) (f.response ∷ []) ≡ None
         calm zero long more j f is at_j = waits_not more.at f.response (more.first refl)
         calm (suc k) long more j f is at_j =

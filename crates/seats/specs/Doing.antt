@@ -1,17 +1,17 @@
--- What a seat does: the calls by which its last calls have grown.
-use Rattle.std.specs.Prelude.{◌≡◌, ◌≤◌, ◌++◌, ◌∷◌, [], ℕ, true, List, length, map, slice_get, Some}
-use Rattle.seats.specs.Imports.{Act, DEMUX_NODES, LogEntry, Target, Want, response_of}
-use Rattle.dmx_calls.specs.declared.outcome.OutcomeKind.TheVariants.{Done as WasDone}
+-- What a seat does: the calls by which its last calls have grown, and the commands that it has done by them.
+use Rattle.std.specs.Prelude.{◌≡◌, ◌≤◌, ◌++◌, ◌∷◌, [], ℕ, true, nat_lt, if◌then◌else◌, List, length, map, slice_get, Option, Some, None}
+use Rattle.seats.specs.Imports.{Act, Attach as AttachAct, DEMUX_NODES, Detach as DetachAct, Done, LogEntry, OutcomeKind, Response, TapChange, response_of}
+use Rattle.dmx_calls.specs.declared.reply.Tap.TheVariants.{Keep as KeepTap, Attach as AttachTap, Detach as DetachTap}
 use Rattle.seats.specs.declared.serve_frames.ask.Ask.{Ask}
-use Rattle.seats.specs.declared.serve_frames.ask.Ask.TheVariants.{OpenDemux, Leave}
+use Rattle.seats.specs.declared.serve_frames.ask.Ask.TheVariants.{Leave}
 use Rattle.seats.specs.declared.serve_frames.tell.Tell.{Tell}
 use Rattle.seats.specs.declared.made.Made.{Made}
 use Rattle.seats.specs.declared.seat.Seat.{Seat}
-use Rattle.seats.specs.Answered.{act_behind, IsBehind, IsAnswered}
+use Rattle.seats.specs.Answered.{IsAnswered}
 use Rattle.seats.specs.Calls.{MakesCalls}
 use Rattle.seats.specs.Holding.{HasLeft, AreMarked, CloseHeld, GivesBackMarked}
 use Rattle.seats.specs.Seated.{log_of, told_made}
-use Rattle.seats.specs.Spelled.{DoneCommand, done_command, commands_done_by, AreKept}
+use Rattle.seats.specs.Spelled.{DoneCommand, calls_in, outcome_at, AreKept}
 
 -- these were put behind its last calls, and its log is the same
 pub record HasMade (more : List Made) (old new : Seat) : Type 0 where
@@ -19,18 +19,30 @@ pub record HasMade (more : List Made) (old new : Seat) : Type 0 where
   pub log : new.log.items ≡ old.log.items
   pub who : new.who ≡ old.who
 
--- It has made calls of which this holds.
-pub record Does (P : List LogEntry → Type 0) (old new : Seat) : Type 0 where
-  pub more : List Made
-  pub has : HasMade more old new
-  pub is : P (map (told_made old.who) more)
+-- ------ what a reply asks of the dvr node
 
--- It has made one call on a node.
-pub record MakesOne (on : ℕ) (does : Act) (old new : Seat) : Type 0 where
+-- the change of its tap of which the reply of a demux node tells
+abbrev pub tap_by : (node : ℕ) → Response → TapChange
+tap_by node (Done from to tap) = if nat_lt node DEMUX_NODES then tap else KeepTap
+tap_by node _ = KeepTap
+
+abbrev pub act_by_tap : (node : ℕ) → TapChange → Option Act
+act_by_tap node KeepTap = None
+act_by_tap node (AttachTap pids) = Some (AttachAct node pids)
+act_by_tap node DetachTap = Some (DetachAct node)
+
+-- It has made one call on a node, whose reply asks this of the dvr node.
+pub record MakesOne (on : ℕ) (does : Act) (next : Option Act) (old new : Seat) : Type 0 where
   pub own : Made
   pub has : HasMade (own ∷ []) old new
   pub node : own.node ≡ on
   pub act : own.act ≡ does
+  pub asks : next ≡ act_by_tap on (tap_by on (response_of own.reply))
+
+-- these calls are just that one of the dvr node, if one is asked
+abbrev pub IsBehind : Option Act → List LogEntry → Type 0
+IsBehind None calls = calls ≡ []
+IsBehind (Some act) calls = (e : LogEntry) × (calls ≡ e ∷ []) × (e.node ≡ DEMUX_NODES) × (e.act ≡ act)
 
 -- It has made a call on a node, which stands in this place of its last calls, and behind it what the reply asks of the dvr node.
 pub record DoesCommand (on : ℕ) (does : Act) (place : ℕ) (old new : Seat) : Type 0 where
@@ -40,29 +52,23 @@ pub record DoesCommand (on : ℕ) (does : Act) (place : ℕ) (old new : Seat) : 
   pub at : slice_get new.made.items place ≡ Some own
   pub node : own.node ≡ on
   pub act : own.act ≡ does
-  pub is : IsBehind (act_behind on (response_of own.reply)) (map (told_made old.who) behind)
+  pub is : IsBehind (act_by_tap on (tap_by on (response_of own.reply))) (map (told_made old.who) behind)
 
 -- ------ commands
 
--- What is told of its commands has grown by these of the calls by which its log has grown.
-abbrev pub Keeps : (commands : List LogEntry → List DoneCommand) → (old new : Seat) → Type 0
-Keeps commands old new =
-    (calls : List LogEntry) → log_of new ≡ log_of old ++ calls
-    → AreKept (length (log_of old)) (commands calls) old.outcomes.items new.outcomes.items
+-- what is told of its commands has grown by one, which was done by all calls since, and ended so
+abbrev pub KeepsOne : OutcomeKind → (old new : Seat) → Type 0
+KeepsOne kind old new =
+    new.outcomes.items
+    ≡ old.outcomes.items
+    ++ outcome_at (length old.outcomes.items) (length (log_of old)) (length (log_of new)) kind ∷ []
 
--- by one command, which was done by all of them
-abbrev pub KeepsOne : (old new : Seat) → Type 0
-KeepsOne old new = (target : Target) (want : Want) → Keeps (λ calls. done_command target want calls WasDone ∷ []) old new
-
--- by those that this request spells
-abbrev pub KeepsBy : Ask → (old new : Seat) → Type 0
-KeepsBy ask old new = Keeps (commands_done_by ask) old new
-
-abbrev pub KeepsOpened : (old new : Seat) → Type 0
-KeepsOpened old new = KeepsBy OpenDemux old new
-
-abbrev pub KeepsClosed : (old new : Seat) → Type 0
-KeepsClosed old new = KeepsBy Leave old new
+-- It has done commands of which this holds: its log has grown by their calls, and what is told of commands by what became of them.
+pub record HasDone (P : List DoneCommand → Type 0) (old new : Seat) : Type 0 where
+  pub commands : List DoneCommand
+  pub log : log_of new ≡ log_of old ++ calls_in commands
+  pub kept : AreKept (length (log_of old)) commands old.outcomes.items new.outcomes.items
+  pub is : P commands
 
 -- ------ nodes
 
@@ -84,12 +90,8 @@ MarksNoMore old new = (node : ℕ) → slice_get new.held node ≡ Some true →
 
 -- ------ requests
 
--- A request is answered by the calls by which its log has grown, which its client has made, and what is told of commands by those
--- that it spells. By a request to leave it gives back what it has.
+-- A request is answered by commands, whose calls its client has made. By a request to leave it gives back what it has.
 pub record HasAnswered (ask : Ask) (now : ℕ) (old new : Seat) (t : Tell) (bytes : List ℕ) : Type 0 where
-  pub calls : List LogEntry
-  pub log : log_of new ≡ log_of old ++ calls
-  pub is : IsAnswered ask now calls t bytes
-  pub kept : AreKept (length (log_of old)) (commands_done_by ask calls) old.outcomes.items new.outcomes.items
-  pub made : MakesCalls (length (log_of old)) old.client calls new.client
-  pub gone : ask ≡ Leave → GivesBackMarked old.held (log_of old) calls new.client
+  pub done : HasDone (λ ds. IsAnswered ask now ds t bytes) old new
+  pub made : MakesCalls (length (log_of old)) old.client (calls_in done.commands) new.client
+  pub gone : ask ≡ Leave → GivesBackMarked old.held (log_of old) (calls_in done.commands) new.client

@@ -2,8 +2,8 @@ pub mod Imports
 pub mod Answered
 pub mod Calls
 pub mod Doing
-pub mod Handed
 pub mod Holding
+pub mod Inside
 pub mod Line
 pub mod Numbered
 pub mod Scripts

@@ -1,10 +1,9 @@
 -- The requests of a line are the commands of a client of a script.
-use Rattle.std.specs.Prelude.{◌≡◌, ◌+◌, ℕ, Bool, List, ◌++◌, take, slice_get, Some, None, All}
+use Rattle.std.specs.Prelude.{◌≡◌, ◌+◌, ℕ, Bool, List, take, slice_get, Some, None, All}
 use Rattle.seats.specs.Imports.{AreAsked, DEMUX_NODES, IsGiven, LogEntry, Outcome, Scripted, commands_of, next_event, outcomes, replies, waits_on}
 use Rattle.seats.specs.Answered.{AreClosings}
-use Rattle.seats.specs.Seated.{AreOnNodes}
-use Rattle.seats.specs.Spelled.{commands_by, outcomes_by}
-use Rattle.seats.specs.Turns.{Turn, IsTurn, calls_of, spelled}
+use Rattle.seats.specs.Spelled.{DoneCommand, calls_in, commands_by, outcomes_by}
+use Rattle.seats.specs.Turns.{Turn, IsTurn, spelled}
 
 -- These calls are those that the commands of a client of a script ask for, one after another, by the replies to the calls before;
 -- behind them its commands are through, and ended so.
@@ -22,7 +21,7 @@ pub record IsPlayed (may : ℕ → Bool) (client : ℕ) (script : Scripted) (cal
 -- turns, with those behind them, are the calls of the commands.
 abbrev pub LinesArePlayed : Type 0
 LinesArePlayed =
-    (may : ℕ → Bool) (turns : List Turn) (leaving : List LogEntry) → All (IsTurn may) turns
-    → AreClosings (DEMUX_NODES + 1) leaving → AreOnNodes (calls_of turns ++ leaving)
+    (may : ℕ → Bool) (turns : List Turn) (leaving : List DoneCommand) → All (IsTurn may) turns
+    → AreClosings (DEMUX_NODES + 1) leaving
     → (client : ℕ) (script : Scripted) → commands_of client script ≡ commands_by 0 (spelled turns leaving)
-    → IsPlayed may client script (calls_of turns ++ leaving) (outcomes_by 0 0 (spelled turns leaving))
+    → IsPlayed may client script (calls_in (spelled turns leaving)) (outcomes_by 0 0 (spelled turns leaving))

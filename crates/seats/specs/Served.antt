@@ -1,26 +1,42 @@
--- Seats that have served their lines.
-use Rattle.std.specs.Prelude.{◌≡◌, ◌<◌, ◌≤◌, ℕ, Bool, List, length, slice_index_or}
-use Rattle.seats.specs.Imports.{DEMUX_NODES, SinkEnd, SourceEnd, TableId}
+-- Seats that have served their lines and handed their calls over to journals.
+use Rattle.std.specs.Prelude.{◌≡◌, ◌<◌, ◌≤◌, ℕ, Bool, List, [], length, slice_index_or}
+use Rattle.seats.specs.Imports.{DEMUX_NODES, LogEntry, Outcome, SinkEnd, SourceEnd, TableId}
+use Rattle.seats.specs.declared.journal.JournalLine.{JournalLine}
 use Rattle.seats.specs.declared.run.Desk.{Desk}
 use Rattle.seats.specs.declared.seat.Seat.{Seat}
+use Rattle.seats.specs.Calls.{MakesCalls}
 use Rattle.seats.specs.Holding.{HasLeft}
-use Rattle.seats.specs.Seated.{log_of, IsFit, GoesOn}
+use Rattle.seats.specs.Seated.{log_of, AreOnNodes, IsFit, IsReady}
 use Rattle.seats.specs.Turns.{HasAnsweredAll}
 
--- A line tells what is left of it to be read, and what was written to it; or it tells none of these.
-module _ {T : Type 0} (source : T → SourceEnd) (sink : T → SinkEnd) (may : ℕ → Bool) where
-  -- A seat has served its line, which became this: its log has grown by just its calls, which are those that the requests of the
-  -- line ask for and those by which all nodes were closed; and behind them it owns no node.
-  pub record HasServed (locks : List TableId) (line end : T) (old new : Seat) : Type 0 where
+-- It is ready, and keeps no call and nothing of any command.
+pub record IsReadyToHand (locks : List TableId) (s : Seat) : Type 0 where
+  pub ready : IsReady locks s
+  pub none : log_of s ≡ []
+  pub told : s.outcomes.items ≡ []
+
+-- each of these has served its line, as this relates what it was to what it is
+pub record HaveSat {D : Type 0} (sat : D → D → Type 0) (old new : List D) : Type 0 where
+  pub long : length new ≡ length old
+  pub each : (i : ℕ) (d : D) → i < length old → sat (slice_index_or old i d) (slice_index_or new i d)
+
+-- A line tells what is left of it to be read, and what was written to it; or it tells none of these. A journal says whether it was
+-- given these calls, and what became of these commands, and no others, between one state and another.
+module _ {T J : Type 0} (source : T → SourceEnd) (sink : T → SinkEnd) (may : ℕ → Bool)
+    (took : List LogEntry → List Outcome → J → J → Type 0) where
+  -- A seat has served its line: its client has made just these calls, which are those that the requests of the line ask for and
+  -- those by which all nodes were closed; its journal was given just them, and what became of the commands that they spell; and
+  -- behind them it owns no node.
+  pub record HasServed (locks : List TableId) (before after : JournalLine T J) (old new : Seat) : Type 0 where
     pub fit : IsFit locks new
-    pub goes : GoesOn old new
-    pub answers : HasAnsweredAll source sink may line end old.client new.client (log_of old) (log_of new) old.outcomes.items
-        new.outcomes.items
+    pub calls : List LogEntry
+    pub made : MakesCalls 0 old.client calls new.client
+    pub nodes : AreOnNodes calls
+    pub told : List Outcome
+    pub answers : HasAnsweredAll source sink may before.line after.line old.client new.client [] calls [] told
+    pub given : took calls told before.journal after.journal
     pub left : (node : ℕ) → node ≤ DEMUX_NODES → HasLeft node new.client
 
   -- each of the seats has served its line
-  pub record HaveServed (locks : List TableId) (old new : List (Desk T)) : Type 0 where
-    pub long : length new ≡ length old
-    pub each : (i : ℕ) (d : Desk T) → i < length old
-        → HasServed locks (slice_index_or old i d).line (slice_index_or new i d).line (slice_index_or old i d).seat
-        (slice_index_or new i d).seat
+  abbrev pub HaveServed : List TableId → (old new : List (Desk (JournalLine T J))) → Type 0
+  HaveServed locks old new = HaveSat (λ a b. HasServed locks a.line b.line a.seat b.seat) old new

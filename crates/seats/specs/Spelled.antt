@@ -1,21 +1,16 @@
--- The commands of a script that the requests of a line spell, by the calls that were made for them.
-use Rattle.std.specs.Prelude.{◌≡◌, ◌++◌, ◌+◌, ◌-◌, ◌^◌, ℕ, Bool, true, false, nat_eq, nat_lt, if◌then◌else◌, List, [], ◌∷◌, length}
-use Rattle.seats.specs.Imports.{Act, Close as CloseAct, ClientCommand, DEMUX_NODES, Dvr, LogEntry, Node, Once, Outcome, OutcomeKind, Slot, Target, Want, flat_map}
-use Rattle.dmx_calls.specs.declared.outcome.OutcomeKind.TheVariants.{Done as WasDone, Emfile as WasEmfile}
-use Rattle.client_script.specs.declared.line.Want.TheVariants.{Open, Close}
-use Rattle.seats.specs.declared.serve_frames.ask.Ask.{Ask}
-use Rattle.seats.specs.declared.serve_frames.ask.Ask.TheVariants.{OpenDemux, Call, Leave, Refused}
-use Rattle.seats.specs.Answered.{is_busy}
+-- The commands of a script that the requests of a line spell, with the calls by which they are done.
+use Rattle.std.specs.Prelude.{◌≡◌, ◌++◌, ◌+◌, ◌-◌, ◌^◌, ℕ, nat_eq, nat_lt, if◌then◌else◌, List, [], ◌∷◌, length, None}
+use Rattle.seats.specs.Imports.{Batches, ClientCommand, Counters, DEMUX_NODES, Dvr, Ending, LogEntry, Next, Node, Once, Outcome, OutcomeKind, Slots, Still, Target, Task, Through, Want, act_of, after, call_of, event_of, first, flat_map, kind_by}
 
 -- a command that was done: on what, what was asked, the calls that were made for it, and how it ended
 pub record DoneCommand : Type 0 where
   pub target : Target
   pub want : Want
   pub calls : List LogEntry
-  pub kind : OutcomeKind
+  pub ending : Ending
 
-abbrev pub done_command : Target → Want → List LogEntry → OutcomeKind → DoneCommand
-done_command target want calls kind = record { target = target; want = want; calls = calls; kind = kind }
+abbrev pub done_command : Target → Want → List LogEntry → Ending → DoneCommand
+done_command target want calls ending = record { target = target; want = want; calls = calls; ending = ending }
 
 -- the calls of these, one after another
 abbrev pub calls_in : List DoneCommand → List LogEntry
@@ -25,44 +20,25 @@ calls_in commands = flat_map (λ d. d.calls) commands
 abbrev pub target_of : (node : ℕ) → Target
 target_of node = if nat_eq node DEMUX_NODES then Dvr else Node node
 
--- a command, where it made calls
-abbrev pub done_command_by : Target → Want → OutcomeKind → List LogEntry → List DoneCommand
-done_command_by target want kind [] = []
-done_command_by target want kind (e ∷ es) = done_command target want (e ∷ es) kind ∷ []
+-- ------ how they are done
 
--- how the search for a free node ended: none was found where each of these calls found its node busy
-abbrev pub opened_kind : List LogEntry → OutcomeKind
-opened_kind [] = WasEmfile
-opened_kind (e ∷ es) = if is_busy e.response then opened_kind es else WasDone
+-- before this call a command stands that has this left to do, at this moment and whatever its client plays
+abbrev pub IsCallOf : (now : ℕ) → Task → LogEntry → Type 0
+IsCallOf now task e =
+    (e.node ≡ (event_of task 0).node) × ((batches : Batches) → e.act ≡ act_of (call_of batches (event_of task 0).want now))
 
-abbrev pub is_close : Act → Bool
-is_close CloseAct = true
-is_close _ = false
+-- These calls are what a command does from there on: each is the one before which it stands, by the replies to those before, and
+-- behind them it is through, and ends so.
+abbrev pub GoesThrough : (now : ℕ) → Next → Ending → List LogEntry → Type 0
+GoesThrough now (Through last) ending calls = (calls ≡ []) × (ending ≡ last)
+GoesThrough now (Still task) ending [] = ⊥
+GoesThrough now (Still task) ending (e ∷ es) = IsCallOf now task e × GoesThrough now (after task e.response) ending es
 
--- calls up to the first Close, and each Close from there on with those behind it
-pub record Closings : Type 0 where
-  pub before : List LogEntry
-  pub commands : List DoneCommand
+-- it was done by its calls at this moment, as a client does it, whatever nodes its slots are bound to
+abbrev pub IsDone : (now : ℕ) → DoneCommand → Type 0
+IsDone now d = (slots : Slots) → GoesThrough now (first slots d.target (Once d.want)) d.ending d.calls
 
-abbrev pub with_call : LogEntry → Closings → Closings
-with_call e c =
-    if is_close e.act then record {
-      before = [];
-      commands = done_command (target_of e.node) Close (e ∷ c.before) WasDone ∷ c.commands;
-    }
-    else record { before = e ∷ c.before; commands = c.commands }
-
-abbrev pub closings : List LogEntry → Closings
-closings [] = record { before = []; commands = [] }
-closings (e ∷ es) = with_call e (closings es)
-
--- The commands that a request spells for which these calls were made: none without a call; the `open` of a slot for the first
--- free demux node; the call that is asked for on a node; and to leave is a `close` for each node that was closed.
-abbrev pub commands_done_by : Ask → List LogEntry → List DoneCommand
-commands_done_by OpenDemux calls = done_command_by (Slot 0) Open (opened_kind calls) calls
-commands_done_by (Call node want) calls = done_command_by (target_of node) want WasDone calls
-commands_done_by Leave calls = (closings calls).commands
-commands_done_by (Refused code) calls = []
+-- ------ what is told of them
 
 -- the number of the line of a command behind so many: the next one, as far as a line can have it
 abbrev pub line_behind : (count : ℕ) → ℕ
@@ -78,11 +54,16 @@ commands_by count (d ∷ ds) =
 abbrev pub outcome_at : (count from to : ℕ) → OutcomeKind → Outcome
 outcome_at count from to kind = record { line = line_behind count; from = from; to = to; kind = kind }
 
+-- no counter is known: a command that has made calls asks for none
+abbrev pub no_counters : Counters
+no_counters node num = None
+
 -- what became of these, behind so many commands and calls
 abbrev pub outcomes_by : (count step : ℕ) → List DoneCommand → List Outcome
 outcomes_by count step [] = []
 outcomes_by count step (d ∷ ds) =
-    outcome_at count step (step + length d.calls) d.kind ∷ outcomes_by (count + 1) (step + length d.calls) ds
+    outcome_at count step (step + length d.calls) (kind_by no_counters d.ending)
+    ∷ outcomes_by (count + 1) (step + length d.calls) ds
 
 -- what is told of commands has grown by these, which were done behind so many calls
 abbrev pub AreKept : (step : ℕ) → List DoneCommand → (was now : List Outcome) → Type 0

@@ -9,14 +9,14 @@ use Rattle.seats.specs.Answered.{IsAnswered, AreClosings}
 use Rattle.seats.specs.Calls.{MakesCalls}
 use Rattle.seats.specs.Holding.{GivesBack, GivesBackMarked}
 use Rattle.seats.specs.Line.{Takes, RunsOut, Writes, BreaksOff}
-use Rattle.seats.specs.Spelled.{DoneCommand, commands_done_by, AreKept}
+use Rattle.seats.specs.Spelled.{DoneCommand, calls_in, AreKept}
 use Rattle.seats.specs.Told.{reply_bytes}
 
--- a request, the moment, the calls that were made for it, what was told, and the bytes that were read
+-- a request, the moment, the commands that were done for it, what was told, and the bytes that were read
 pub record Turn : Type 0 where
   pub request : List ℕ
   pub now : ℕ
-  pub calls : List LogEntry
+  pub commands : List DoneCommand
   pub told : Tell
   pub bytes : List ℕ
 
@@ -24,37 +24,37 @@ pub record Turn : Type 0 where
 pub record IsTurn (may : ℕ → Bool) (t : Turn) : Type 0 where
   pub long : length t.request ≡ REQUEST_LEN
   pub moment : IsTrue (may t.now)
-  pub is : IsAnswered (ask_of t.request) t.now t.calls t.told t.bytes
+  pub is : IsAnswered (ask_of t.request) t.now t.commands t.told t.bytes
 
 -- a request to leave
 abbrev pub IsLeaving : Turn → Type 0
 IsLeaving t = ask_of t.request ≡ Leave
 
--- the calls of these turns, one after another
-abbrev pub calls_of : List Turn → List LogEntry
-calls_of turns = flat_map (λ t. t.calls) turns
-
--- the commands that these turns spell, one after another
+-- the commands of these turns, one after another
 abbrev pub spelled_by : List Turn → List DoneCommand
-spelled_by turns = flat_map (λ t. commands_done_by (ask_of t.request) t.calls) turns
+spelled_by turns = flat_map (λ t. t.commands) turns
 
--- and then those by which all nodes are closed
-abbrev pub spelled : List Turn → (leaving : List LogEntry) → List DoneCommand
-spelled turns leaving = spelled_by turns ++ commands_done_by Leave leaving
+-- and their calls
+abbrev pub calls_of : List Turn → List LogEntry
+calls_of turns = calls_in (spelled_by turns)
+
+-- and then the commands by which all nodes are closed
+abbrev pub spelled : List Turn → (leaving : List DoneCommand) → List DoneCommand
+spelled turns leaving = spelled_by turns ++ leaving
 
 -- A caller makes the calls of these turns, one after another and behind those calls, and is d then. By each request to leave it
 -- gives back what it has.
 abbrev pub MakesTurns : (before : List LogEntry) → Caller → List Turn → Caller → Type 0
 MakesTurns before c [] d = d ≡ c
 MakesTurns before c (t ∷ ts) d =
-    (m : Caller) × MakesCalls (length before) c t.calls m × (IsLeaving t → GivesBack before t.calls m)
-    × MakesTurns (before ++ t.calls) m ts d
+    (m : Caller) × MakesCalls (length before) c (calls_in t.commands) m × (IsLeaving t → GivesBack before (calls_in t.commands) m)
+    × MakesTurns (before ++ calls_in t.commands) m ts d
 
 -- A caller makes the calls of this turn behind those of a log, and is d then. By a request to leave it gives back what it has, by the
 -- nodes that it has marked as held.
 pub record MakesTurn (held : List Bool) (log : List LogEntry) (c : Caller) (t : Turn) (d : Caller) : Type 0 where
-  pub made : MakesCalls (length log) c t.calls d
-  pub gone : IsLeaving t → GivesBackMarked held log t.calls d
+  pub made : MakesCalls (length log) c (calls_in t.commands) d
+  pub gone : IsLeaving t → GivesBackMarked held log (calls_in t.commands) d
 
 -- the same of the last turn of a line, if there is one
 abbrev pub MakesLast : (held : List Bool) → (log : List LogEntry) → Caller → List Turn → Caller → Type 0
@@ -96,8 +96,8 @@ module _ {T : Type 0} (source : T → SourceEnd) (sink : T → SinkEnd) (may : �
   abbrev pub HasTurned : (on : Bool) → (before after : T) → (held : List Bool) → (c d : Caller) → (old new : List LogEntry)
       → (was now : List Outcome) → Type 0
   HasTurned true before after held c d old new was now =
-      (t : Turn) × IsTold t before after × (new ≡ old ++ t.calls)
-      × AreKept (length old) (commands_done_by (ask_of t.request) t.calls) was now × MakesTurn held old c t d
+      (t : Turn) × IsTold t before after × (new ≡ old ++ calls_in t.commands)
+      × AreKept (length old) t.commands was now × MakesTurn held old c t d
   HasTurned false before after held c d old new was now =
       (ts : List Turn) × IsLast before ts after × (new ≡ old ++ calls_of ts) × AreKept (length old) (spelled_by ts) was now
       × MakesLast held old c ts d
@@ -111,12 +111,12 @@ module _ {T : Type 0} (source : T → SourceEnd) (sink : T → SinkEnd) (may : �
     pub told : AreTold line turns after
     pub last : List Turn
     pub is : IsLast after last end
-    pub leaving : List LogEntry
+    pub leaving : List DoneCommand
     pub closed : AreClosings (DEMUX_NODES + 1) leaving
-    pub log : new ≡ old ++ (calls_of turns ++ (calls_of last ++ leaving))
+    pub log : new ≡ old ++ calls_in (spelled (turns ++ last) leaving)
     pub kept : AreKept (length old) (spelled (turns ++ last) leaving) was now
     -- by the calls behind its requests it gives back what it has, as by each request to leave
     pub then : Caller
     pub made : MakesTurns old c (turns ++ last) then
-    pub leaves : MakesCalls (length (old ++ calls_of (turns ++ last))) then leaving d
-    pub back : GivesBack (old ++ calls_of (turns ++ last)) leaving d
+    pub leaves : MakesCalls (length (old ++ calls_of (turns ++ last))) then (calls_in leaving) d
+    pub back : GivesBack (old ++ calls_of (turns ++ last)) (calls_in leaving) d

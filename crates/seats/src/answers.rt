@@ -1,14 +1,15 @@
 // What a seat does for what it is asked, and what it tells.
-ghost use Rattle.std.specs.Prelude.{◌≡◌, ◌≢◌, ◌<◌, ◌≤◌, ◌+◌, ◌⊎◌, [], ℕ, true, None, Some, length, slice_get, vec_capacity, IfOk, IfSome};
+ghost use Rattle.std.specs.Prelude.{◌≡◌, ◌≢◌, ◌<◌, ◌≤◌, ◌+◌, [], ℕ, true, None, Some, length, slice_get, vec_capacity, IfOk, IfSome};
 ghost use Rattle.seats.specs.Imports.{DEMUX_NODES as nodes, act_of, invocation_of, own_call as own_call_by, response_of};
 ghost use Rattle.dmx_calls.specs.Invocation as asks;
 ghost use Rattle.seats.specs.Asks.{IsAskInRange, IsWantInRange};
-ghost use Rattle.seats.specs.declared.serve_frames.ask.Ask.TheVariants.{Leave};
+ghost use Rattle.seats.specs.declared.serve_frames.ask.Ask.TheVariants.{Leave, OpenDemux as OpenAsk};
 ghost use Rattle.seats.specs.Tells.{told_of};
 ghost use Rattle.seats.specs.declared.made.Made.{Made};
-ghost use Rattle.seats.specs.Answered.{is_busy as is_busy_by, refusal, told_opened, AreClosings, IsAnswered, IsClosing, IsFull, IsOpened};
+ghost use Rattle.dmx_calls.specs.declared.outcome.OutcomeKind.TheVariants.{Done as WasDone};
+ghost use Rattle.seats.specs.Answered.{is_busy as is_busy_by, refusal, told_opened, AreClosings, IsAnswered, IsAnsweredBy, IsClosing};
 ghost use Rattle.seats.specs.Calls.{PassesNone};
-ghost use Rattle.seats.specs.Doing.{ClosesHeld, Does, DoesCommand, HasAnswered, HasGone, KeepsBy, KeepsClosed, KeepsOne, KeepsOpened, MarksNoMore};
+ghost use Rattle.seats.specs.Doing.{ClosesHeld, DoesCommand, HasAnswered, HasDone, HasGone, KeepsOne, MarksNoMore};
 ghost use Rattle.seats.specs.Holding.{HasLeft};
 ghost use Rattle.seats.specs.Seated.{IsFit, HasRoom, GoesOn, MayLeave};
 ghost use Rattle.seats.specs.Told.{data_read, call_at};
@@ -113,7 +114,7 @@ impl Seat {
         ensures one { length self.new.outcomes.items ≡ length self.old.outcomes.items + 1 }
         ensures room { (vec_capacity self.new.made ≡ vec_capacity self.old.made) × (vec_capacity self.new.outcomes ≡ vec_capacity self.old.outcomes) }
         ensures did { DoesCommand node (act_of (invocation_of call)) result self.old self.new }
-        ensures kept { KeepsOne self.old self.new }
+        ensures kept { KeepsOne WasDone self.old self.new }
         ensures left { invocation_of call ≢ asks.Open → (i : ℕ) → HasLeft i self.old.client → HasLeft i self.new.client }
         ensures closed { invocation_of call ≡ asks.Close → HasLeft node self.new.client }
         ensures fewer { invocation_of call ≢ asks.Open → MarksNoMore self.old self.new }
@@ -138,8 +139,7 @@ impl Seat {
         ensures room { HasRoom 66 self.new }
         ensures goes { GoesOn self.old self.new }
         ensures at { IfSome result.at (λ i. i < length self.new.made.items) }
-        ensures did { Does (λ calls. IsOpened calls result.tell (data_read (call_at self.new.made.items result.at)) ⊎ IsFull calls result.tell (data_read (call_at self.new.made.items result.at))) self.old self.new }
-        ensures kept { KeepsOpened self.old self.new }
+        ensures did { (now : ℕ) → HasDone (λ ds. IsAnsweredBy OpenAsk now ds result.tell (data_read (call_at self.new.made.items result.at))) self.old self.new }
     {
         let from = self.count();
         'nodes: for node in 0..DEMUX_NODES {
@@ -170,8 +170,7 @@ impl Seat {
         ensures few { (length self.new.made.items ≤ length self.old.made.items + 2) × (self.old.client.left ≤ self.new.client.left + 2) }
         ensures told { length self.new.outcomes.items ≤ length self.old.outcomes.items + 1 }
         ensures room { (vec_capacity self.new.made ≡ vec_capacity self.old.made) × (vec_capacity self.new.outcomes ≡ vec_capacity self.old.outcomes) }
-        ensures did { Does (IsClosing node) self.old self.new }
-        ensures kept { KeepsClosed self.old self.new }
+        ensures did { HasDone (IsClosing node) self.old self.new }
         ensures held { ClosesHeld self.old self.new }
         ensures fewer { MarksNoMore self.old self.new }
         ensures free { slice_get self.new.held node ≢ Some true }
@@ -193,8 +192,7 @@ impl Seat {
         ensures few { (length self.new.made.items ≤ length self.old.made.items + 66) × (self.old.client.left ≤ self.new.client.left + 66) }
         ensures told { length self.new.outcomes.items ≤ length self.old.outcomes.items + 33 }
         ensures room { (vec_capacity self.new.made ≡ vec_capacity self.old.made) × (vec_capacity self.new.outcomes ≡ vec_capacity self.old.outcomes) }
-        ensures did { Does (AreClosings (nodes + 1)) self.old self.new }
-        ensures kept { KeepsClosed self.old self.new }
+        ensures did { HasDone (AreClosings (nodes + 1)) self.old self.new }
         ensures held { ClosesHeld self.old self.new }
         ensures free { (node : ℕ) → node ≤ nodes → slice_get self.new.held node ≢ Some true }
         ensures left { (node : ℕ) → node ≤ nodes → HasLeft node self.new.client }
@@ -221,8 +219,7 @@ impl Seat {
         ensures room { HasRoom 66 self.new }
         ensures goes { GoesOn self.old self.new }
         ensures at { IfSome result.at (λ i. i < length self.new.made.items) }
-        ensures did { Does (λ calls. IsAnswered ask now calls result.tell (data_read (call_at self.new.made.items result.at))) self.old self.new }
-        ensures kept { KeepsBy ask self.old self.new }
+        ensures did { HasDone (λ ds. IsAnswered ask now ds result.tell (data_read (call_at self.new.made.items result.at))) self.old self.new }
         ensures gone { ask ≡ Leave → HasGone self.old self.new }
     {
         match ask {
@@ -256,8 +253,7 @@ impl Seat {
         ensures room { MayLeave self.new }
         ensures goes { GoesOn self.old self.new }
         ensures at { result.at ≡ None }
-        ensures did { (now : ℕ) → Does (λ calls. IsAnswered ask now calls result.tell []) self.old self.new }
-        ensures kept { KeepsBy ask self.old self.new }
+        ensures did { (now : ℕ) → HasDone (λ ds. IsAnswered ask now ds result.tell []) self.old self.new }
         ensures gone { ask ≡ Leave → HasGone self.old self.new }
     {
         match ask {

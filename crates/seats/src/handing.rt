@@ -1,54 +1,63 @@
-// A seat that hands its calls over to a journal, and keeps none.
-ghost use Rattle.std.specs.Prelude.{◌≡◌, ◌<◌, ◌≤◌, ◌+◌, ◌^◌, [], ℕ, Bool, List, All, length, IfOk, OnOk, OnErr};
+// A seat at its line: it hands its calls over to a journal, and keeps none.
+ghost use Rattle.std.specs.Prelude.{◌≡◌, ◌<◌, ◌≤◌, ◌+◌, ◌^◌, [], ℕ, List, length, IfOk, OnOk, OnErr};
 ghost use Rattle.atomic_table.specs.Seated.{TableId};
-ghost use Rattle.seats.specs.Handed.{IsReadyToHand, HasServedTo, HaveSat};
-ghost use Rattle.seats.specs.Numbered.{numbered};
+ghost use Rattle.seats.specs.Numbered.{numbered, outcomes_behind, FitBehind};
 ghost use Rattle.seats.specs.Seated.{log_of, IsFit, HasRoom};
+ghost use Rattle.seats.specs.Served.{IsReadyToHand, HasServed};
 
-use crate::journal::{Journal, JournalLine};
-use crate::run::Desk;
+use crate::journal::{Before, Journal, JournalLine};
 use crate::seat::Seat;
 use adapter::Adapter;
 use emu_io::{Clock, Sink, Source};
 use machine::steps::Steps;
 use std::alloc::{AllocError as NoMemory, Global};
 use std::marker::Brand;
+use std::mem;
 use std::sync::Wait;
 use std::sync::ledger::{Blank, Ledger};
-use std::thread::Threads;
-use std::{mem, thread};
 
 impl Seat {
-    // Hands over the calls that it keeps, before which it has made so many, and lets go of its commands too. It answers how
-    // many calls it has made in all.
+    // Hands over the calls that it keeps, and what became of its commands, before which it has handed over so many. It answers
+    // how many it has handed over in all.
     fn hand_over<J: Journal>(
         &mut self,
         alloc: Global,
         journal: &mut J,
-        before: u64,
-    ) -> Result<u64, NoMemory>
-        requires few { before + length (log_of self.old) ≤ 2 ^ 40 }
-        ensures took { IfOk result (λ now. J.took (numbered before (log_of self.old)) journal.old journal.new) }
-        ensures count { IfOk result (λ now. now ≡ before + length (log_of self.old)) }
-        ensures none { OnOk result (log_of self.new ≡ []) }
-        ensures kept { OnErr result ((journal.new ≡ journal.old) × (log_of self.new ≡ log_of self.old)) }
+        before: Before,
+    ) -> Result<Before, NoMemory>
+        requires few { FitBehind before (length (log_of self.old)) self.old.outcomes.items }
+        ensures took { IfOk result (λ now. J.took (numbered before.calls (log_of self.old)) (outcomes_behind before.commands before.calls self.old.outcomes.items) journal.old journal.new) }
+        ensures count { IfOk result (λ now. (now.calls ≡ before.calls + length (log_of self.old)) × (now.commands ≡ before.commands + length self.old.outcomes.items)) }
+        ensures none { OnOk result ((log_of self.new ≡ []) × (self.new.outcomes.items ≡ [])) }
+        ensures kept { OnErr result (J.took [] [] journal.old journal.new × (log_of self.new ≡ log_of self.old) × (self.new.outcomes.items ≡ self.old.outcomes.items)) }
         ensures client { self.new.client ≡ self.old.client }
         ensures fit { (locks : List TableId) → IsFit locks self.old → IsFit locks self.new }
         ensures held { self.new.held ≡ self.old.held }
         ensures room { (calls : ℕ) → HasRoom calls self.old → HasRoom calls self.new }
     {
-        self.settle(alloc)?;
-        let now = before + self.log.len() as u64;
+        journal.hear(&self.made);
+        self.settle(alloc, journal.last())?;
+        let now = Before {
+            calls: before.calls + self.log.len() as u64,
+            commands: before.commands + self.outcomes.len() as u64,
+        };
         let calls = mem::replace(&mut self.log, Vec::new(alloc));
-        self.outcomes.clear();
-        journal.take(before, calls);
-        Ok(now)
+        match journal.take(before, calls, &self.outcomes) {
+            Ok(()) => {
+                self.outcomes.clear();
+                Ok(now)
+            }
+            Err(calls) => {
+                self.log = calls;
+                Err(NoMemory)
+            }
+        }
     }
 
     // Hands over all that is left; where there is no memory for that, the journal is told so.
-    fn hand_over_last<J: Journal>(&mut self, alloc: Global, journal: &mut J, before: u64)
-        requires few { before + length (log_of self.old) ≤ 2 ^ 40 }
-        ensures took { J.took (numbered before (log_of self.old)) journal.old journal.new }
+    fn hand_over_last<J: Journal>(&mut self, alloc: Global, journal: &mut J, before: Before)
+        requires few { FitBehind before (length (log_of self.old)) self.old.outcomes.items }
+        ensures took { J.took (numbered before.calls (log_of self.old)) (outcomes_behind before.commands before.calls self.old.outcomes.items) journal.old journal.new }
         ensures client { self.new.client ≡ self.old.client }
         ensures fit { (locks : List TableId) → IsFit locks self.old → IsFit locks self.new }
     {
@@ -60,7 +69,9 @@ impl Seat {
     /// Answers the requests of its line until that has ended or failed, and then closes what its program has. Behind each
     /// request it hands the calls that were made for it over to the journal, and keeps none of them; where memory is refused
     /// for that, with the next.
-    pub fn serve_to<T: Source + Sink + Drop, J: Journal + Drop, C: Clock, L: Ledger, R: Wait>(
+    ///
+    /// Where the line ends within a request, that isn't answered.
+    pub fn serve<T: Source + Sink + Drop, J: Journal + Drop, C: Clock, L: Ledger, R: Wait>(
         &mut self,
         rt: &R,
         alloc: Global,
@@ -70,9 +81,12 @@ impl Seat {
         steps: &mut Steps<L>,
     )
         requires ready { IsReadyToHand adapter.now self.old }
-        ensures { HasServedTo T.Source.end T.Sink.end (C.may_give clock.now) J.took adapter.now at.old at.new self.old self.new }
+        ensures { HasServed T.Source.end T.Sink.end (C.may_give clock.now) J.took adapter.now at.old at.new self.old self.new }
     {
-        let mut before = 0u64;
+        let mut before = Before {
+            calls: 0,
+            commands: 0,
+        };
         'requests: for _ in rt.forever() {
             if !self.turn(rt, alloc, adapter, &mut at.line, clock, steps) {
                 self.leave(rt, adapter, steps);
@@ -87,7 +101,7 @@ impl Seat {
     }
 
     // The same with a counter of steps of its own.
-    fn sit_counted_to<T: Source + Sink + Drop, J: Journal + Drop, C: Clock, L: Ledger, R: Wait>(
+    fn sit_counted<T: Source + Sink + Drop, J: Journal + Drop, C: Clock, L: Ledger, R: Wait>(
         &mut self,
         rt: &R,
         alloc: Global,
@@ -98,15 +112,15 @@ impl Seat {
     )
         requires ledger { (blank.name ≡ L.name) × (blank.parts ≡ L.parts) × (0 < L.parts) }
         requires ready { IsReadyToHand adapter.now self.old }
-        ensures { HasServedTo T.Source.end T.Sink.end (C.may_give clock.now) J.took adapter.now at.old at.new self.old self.new }
+        ensures { HasServed T.Source.end T.Sink.end (C.may_give clock.now) J.took adapter.now at.old at.new self.old self.new }
     {
         let mut steps: Steps<L> = Steps::new(blank);
-        self.serve_to(rt, alloc, adapter, at, clock, &mut steps);
+        self.serve(rt, alloc, adapter, at, clock, &mut steps);
     }
 
     /// Answers the requests of its line until that has ended or failed, and then closes what its program has; its calls are the
     /// journal's.
-    pub fn sit_to<T: Source + Sink + Drop, J: Journal + Drop, C: Clock, R: Wait>(
+    pub fn sit<T: Source + Sink + Drop, J: Journal + Drop, C: Clock, R: Wait>(
         &mut self,
         rt: &R,
         alloc: Global,
@@ -115,55 +129,8 @@ impl Seat {
         clock: &C,
     )
         requires ready { IsReadyToHand adapter.now self.old }
-        ensures { HasServedTo T.Source.end T.Sink.end (C.may_give clock.now) J.took adapter.now at.old at.new self.old self.new }
+        ensures { HasServed T.Source.end T.Sink.end (C.may_give clock.now) J.took adapter.now at.old at.new self.old self.new }
     {
-        self.sit_counted_to::<T, J, C, Brand, R>(rt, alloc, adapter, at, clock, Blank::new(1))
+        self.sit_counted::<T, J, C, Brand, R>(rt, alloc, adapter, at, clock, Blank::new(1))
     }
-}
-
-/// A desk whose seat serves its line, and keeps no calls. A closure that threads run may hold a value of one type parameter
-/// alone, which this is.
-pub trait Sitting {
-    /// Its seat is ready.
-    ghost ready: { List TableId → Self → Type 0 };
-
-    /// Its seat has served its line, at moments that the clock may give.
-    ghost sat: { (may : ℕ → Bool) → List TableId → Self → Self → Type 0 };
-
-    /// Its seat answers the requests of its line until that has ended or failed, and then closes what its program has.
-    fn sit<R: Wait, C: Clock>(&mut self, rt: &R, alloc: Global, adapter: &Adapter, clock: &C)
-        requires { ready adapter.now self.old }
-        ensures { sat (C.may_give clock.now) adapter.now self.old self.new };
-}
-
-impl<T: Source + Sink + Drop, J: Journal + Drop> Sitting for Desk<JournalLine<T, J>> {
-    ghost use Rattle.seats.specs.Handed.{IsReadyToHand, HasServedTo};
-
-    ghost ready = { λ locks d. IsReadyToHand locks d.seat };
-
-    ghost sat = { λ may locks a b. HasServedTo T.Source.end T.Sink.end may J.took locks a.line b.line a.seat b.seat };
-
-    fn sit<R: Wait, C: Clock>(&mut self, rt: &R, alloc: Global, adapter: &Adapter, clock: &C) {
-        self.seat.sit_to(rt, alloc, adapter, &mut self.line, clock)
-    }
-}
-
-/// Each seat, in a thread of its own, answers the requests of its line until that has ended or failed, and closes then what its
-/// program has. None keeps its calls.
-pub fn sit_all_to<R: Threads + Wait + Sync, D: Sitting + Send, C: Clock + Sync>(
-    rt: &R,
-    alloc: Global,
-    adapter: &Adapter,
-    clock: &C,
-    desks: &mut Vec<D>,
-)
-    requires ready { All (λ d. D.ready adapter.now d) desks.old.items }
-    ensures { HaveSat (D.sat (C.may_give clock.now) adapter.now) desks.old.items desks.new.items }
-{
-    let call = |_: usize, desk: &mut D|
-        requires { D.ready adapter.now desk.old }
-        ensures { D.sat (C.may_give clock.entry.now) adapter.entry.now desk.old desk.new }
-    { desk.sit(rt, alloc, adapter, clock) };
-    let threads = desks.len().max(1);
-    thread::for_each_mut(rt, desks, threads, &call);
 }

@@ -1,31 +1,23 @@
 //! Seats: each answers the requests of programs that come one after another, on the nodes of the adapter.
 //!
-//! A seat is a client of the adapter with its calls so far. It has a line, from which requests of 76 bytes come and to which the
-//! replies go, heads of 24 bytes and what was read (`serve_frames`; an ioctl's structure is read by `dmx_abi`). A request is answered
-//! by no call, by one, or, where a free demux node is looked for, by one for each node that is tried; where a demux node's reply
-//! changes its tap, the next call tells the dvr node of it. Where the line ends, or a read or a write of it fails, the seat closes all
-//! nodes that its program has. `sit_all` gives each seat a thread; with `serve_to` a seat hands its calls to a `Journal` behind each
-//! request and keeps none.
+//! A seat is a client of the adapter with a line, from which requests of 76 bytes come and to which the replies go, heads of 24
+//! bytes and what was read (`serve_frames`; `dmx_abi` reads an ioctl's structure). Behind each request it hands its calls to a
+//! `Journal`: `KeptJournal` keeps them in memory, `Forgotten` nothing. Where the line ends or fails, the seat closes all nodes
+//! that its program has. `sit_all` gives each seat a thread.
 //!
-//! What a contract sees: a request as the list of its bytes, which `ask_of` says to be an `Ask`; a `Tell` as its fields (`told_of`,
-//! `head_of`); a seat as its client, its log and what it keeps beside these. `MakesCalls` (`specs/Calls.antt`) says which calls a
-//! caller has made, `GoesOn` (`specs/Seated.antt`) that a seat's log has grown by just those. `IsAnsweredBy` (`specs/Answered.antt`) is
-//! the table of the requests, and `HasAnsweredAll` (`specs/Turns.antt`) says it of a line.
+//! What a contract sees: a request as its bytes, which `ask_of` says to be an `Ask`; a `Tell` as its fields; a seat as its client
+//! and its log. `IsAnsweredBy` (`specs/Answered.antt`) is the table of the requests: which commands of a script are done for
+//! each, and what is told. `HasAnsweredAll` (`specs/Turns.antt`) says it of a line, `HasServed` of a seat and its journal.
 //!
-//! What is proved, whatever comes on the lines and however the threads fall: `Ask::of` is what the definition says of any 76 bytes, and
-//! what is told is read again as what it was (`written_and_read`). A seat's log is just its calls. The requests of a line are answered
-//! in their order up to its end, where less than a request is left, or up to the first read or write of it that fails: each by the
-//! calls of the table, or, unless it is to leave, for want of memory by none, and the bytes written for it are the reply of the call
-//! whose place they name. Where a write failed, these are a front of the last reply (`IsLast`). Room for the calls by which all nodes
-//! are closed is kept while a seat has one (`MayLeave`), so a request to leave is always done, and a seat that has served its line owns
-//! no node (`HasServed`, `GivesBack`, `MakesTurns`). The requests of a line are the commands of a client of a script
-//! (`commands_done_by`), which asks for just these calls (`lines_are_played`). `HasServedTo` (`specs/Handed.antt`) says all of it of a
-//! seat that keeps none, and that its journal was given just these calls.
+//! What is proved, whatever comes on the lines and however the threads fall: `Ask::of` is what the definition says of any 76
+//! bytes, and what is told is read again (`written_and_read`). The requests are answered in their order up to the line's end or
+//! the first read or write that fails, each by the calls of the table, or, unless it is to leave, for want of memory by none; the
+//! bytes written are the reply of the call whose place they name. A request to leave is always done, and a seat that has served
+//! its line owns no node (`GivesBack`). The journal was given just these calls and what became of the commands; a script's client
+//! makes the same calls (`lines_are_played`).
 //!
-//! What is only tested: that the numbers of errors are those of Linux, and that the moment of a call is looked for behind its request
-//! (`tests_runs`). Limits: a seat makes at most 2^40 calls, of which 66 are kept for leaving. `desks_of` takes memory, and so does
-//! each request but one to leave. No clause says that a seat ends, nor when it takes a request; and over a line that tells no content,
-//! as a pipe tells none, they say nothing of what was asked and told.
+//! What is only tested, in `tests_runs`: that errors have Linux's numbers, and that a call's moment is looked for behind its
+//! request. Limits: 2^40 calls, of which 66 are kept for leaving. No clause says that a seat ends, nor when it takes a request.
 #![tactic(auto)]
 
 mod answers;
@@ -40,10 +32,9 @@ mod serve;
 pub mod serve_frames;
 
 pub use answers::Answered;
-pub use handing::{Sitting, sit_all_to};
-pub use journal::{Forgotten, Journal, JournalLine};
+pub use journal::{Before, Forgotten, Journal, JournalLine, KeptJournal};
 pub use laws::lines_are_played;
 pub use made::Made;
 pub use making::desks_of;
-pub use run::{Desk, sit_all};
-pub use seat::{Book, MOST_CALLS, Seat};
+pub use run::{Desk, Sitting, sit_all};
+pub use seat::{MOST_CALLS, Seat};

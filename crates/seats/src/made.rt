@@ -81,7 +81,7 @@ fn copied(alloc: Global, reply: &Reply) -> Result<Reply, NoMemory>
 fn entry_of(alloc: Global, who: u32, last: Option<&Entry>, made: &Made) -> Result<Entry, NoMemory>
     ensures { IfOk result (λ entry. told_entry entry ≡ told_made who made.now) }
 {
-    let act = KeptAct::of(alloc, made.act.clone()?)?;
+    let act = KeptAct::keep(alloc, made.act.clone()?)?;
     let copy = copied(alloc, &made.reply)?;
     let reply = SharedReply::of(alloc, last, copy)?;
     Ok(Entry {
@@ -95,16 +95,18 @@ fn entry_of(alloc: Global, who: u32, last: Option<&Entry>, made: &Made) -> Resul
 }
 
 /// Puts the entries of these calls, which this caller has made, behind those of the log; some of them, where memory is refused.
+/// Where the log has none this entry stands before them, if there is one.
 pub fn keep_all(
     alloc: Global,
     who: u32,
+    last: Option<&Entry>,
     calls: &[Made],
     log: &mut Vec<Entry>,
 ) -> Result<(), NoMemory>
     ensures { (rest : List ToldEntry) × (log.new.items ≡ log.old.items ++ rest) × OnOk result (map told_entry rest ≡ map (told_made who) calls.now) }
 {
     'calls: for made in calls {
-        let entry = entry_of(alloc, who, log.last(), made)?;
+        let entry = entry_of(alloc, who, log.last().or(last), made)?;
         log.push(entry)?;
     }
     Ok(())

@@ -1,16 +1,14 @@
 // The threads of the seats.
-ghost use Rattle.std.specs.Prelude.{◌≡◌, ◌<◌, All};
-ghost use Rattle.seats.specs.Seated.{IsReady};
-ghost use Rattle.seats.specs.Served.{HasServed, HaveServed};
+ghost use Rattle.std.specs.Prelude.{◌≡◌, ◌<◌, ℕ, Bool, List, All};
+ghost use Rattle.atomic_table.specs.Seated.{TableId};
+ghost use Rattle.seats.specs.Served.{HaveSat};
 
+use crate::journal::{Journal, JournalLine};
 use crate::seat::Seat;
 use adapter::Adapter;
 use emu_io::{Clock, Sink, Source};
-use machine::steps::Steps;
 use std::alloc::Global;
-use std::marker::Brand;
 use std::sync::Wait;
-use std::sync::ledger::{Blank, Ledger};
 use std::thread;
 use std::thread::Threads;
 
@@ -23,57 +21,48 @@ pub struct Desk<T: Drop> {
     pub line: T,
 }
 
-impl Seat {
-    // Serves its line, with a counter of steps of its own.
-    fn sit_counted<T: Source + Sink, C: Clock, L: Ledger, R: Wait>(
-        &mut self,
-        rt: &R,
-        alloc: Global,
-        adapter: &Adapter,
-        line: &mut T,
-        clock: &C,
-        blank: Blank,
-    )
-        requires ledger { (blank.name ≡ L.name) × (blank.parts ≡ L.parts) × (0 < L.parts) }
-        requires ready { IsReady adapter.now self.old }
-        ensures { HasServed T.Source.end T.Sink.end (C.may_give clock.now) adapter.now line.old line.new self.old self.new }
-    {
-        let mut steps: Steps<L> = Steps::new(blank);
-        self.serve(rt, alloc, adapter, line, clock, &mut steps);
-    }
+/// A desk whose seat serves its line. A closure that threads run may hold a value of one type parameter alone, which this is.
+pub trait Sitting {
+    /// Its seat is ready.
+    ghost ready: { List TableId → Self → Type 0 };
 
-    /// Answers the requests of its line until that has ended or failed, and then closes what its program has.
-    pub fn sit<T: Source + Sink, C: Clock, R: Wait>(
-        &mut self,
-        rt: &R,
-        alloc: Global,
-        adapter: &Adapter,
-        line: &mut T,
-        clock: &C,
-    )
-        requires ready { IsReady adapter.now self.old }
-        ensures { HasServed T.Source.end T.Sink.end (C.may_give clock.now) adapter.now line.old line.new self.old self.new }
-    {
-        self.sit_counted::<T, C, Brand, R>(rt, alloc, adapter, line, clock, Blank::new(1))
+    /// Its seat has served its line, at moments that the clock may give.
+    ghost sat: { (may : ℕ → Bool) → List TableId → Self → Self → Type 0 };
+
+    /// Its seat answers the requests of its line until that has ended or failed, and then closes what its program has.
+    fn sit<R: Wait, C: Clock>(&mut self, rt: &R, alloc: Global, adapter: &Adapter, clock: &C)
+        requires { ready adapter.now self.old }
+        ensures { sat (C.may_give clock.now) adapter.now self.old self.new };
+}
+
+impl<T: Source + Sink + Drop, J: Journal + Drop> Sitting for Desk<JournalLine<T, J>> {
+    ghost use Rattle.seats.specs.Served.{IsReadyToHand, HasServed};
+
+    ghost ready = { λ locks d. IsReadyToHand locks d.seat };
+
+    ghost sat = { λ may locks a b. HasServed T.Source.end T.Sink.end may J.took locks a.line b.line a.seat b.seat };
+
+    fn sit<R: Wait, C: Clock>(&mut self, rt: &R, alloc: Global, adapter: &Adapter, clock: &C) {
+        self.seat.sit(rt, alloc, adapter, &mut self.line, clock)
     }
 }
 
 /// Each seat, in a thread of its own, answers the requests of its line until that has ended or failed, and closes then what its
 /// program has.
-pub fn sit_all<R: Threads + Wait + Sync, T: Source + Sink + Send + Drop, C: Clock + Sync>(
+pub fn sit_all<R: Threads + Wait + Sync, D: Sitting + Send, C: Clock + Sync>(
     rt: &R,
     alloc: Global,
     adapter: &Adapter,
     clock: &C,
-    desks: &mut Vec<Desk<T>>,
+    desks: &mut Vec<D>,
 )
-    requires ready { All (λ d. IsReady adapter.now d.seat) desks.old.items }
-    ensures { HaveServed T.Source.end T.Sink.end (C.may_give clock.now) adapter.now desks.old.items desks.new.items }
+    requires ready { All (λ d. D.ready adapter.now d) desks.old.items }
+    ensures { HaveSat (D.sat (C.may_give clock.now) adapter.now) desks.old.items desks.new.items }
 {
-    let call = |_: usize, desk: &mut Desk<T>|
-        requires { IsReady adapter.now desk.old.seat }
-        ensures { HasServed T.Source.end T.Sink.end (C.may_give clock.entry.now) adapter.entry.now desk.old.line desk.new.line desk.old.seat desk.new.seat }
-    { desk.seat.sit(rt, alloc, adapter, &mut desk.line, clock) };
+    let call = |_: usize, desk: &mut D|
+        requires { D.ready adapter.now desk.old }
+        ensures { D.sat (C.may_give clock.entry.now) adapter.entry.now desk.old desk.new }
+    { desk.sit(rt, alloc, adapter, clock) };
     let threads = desks.len().max(1);
     thread::for_each_mut(rt, desks, threads, &call);
 }

@@ -2,9 +2,8 @@
 ghost use Rattle.std.specs.Prelude.{◌≡◌, ◌≢◌, ◌<◌, ◌≤◌, ◌+◌, ◌^◌, ◌++◌, ◌∷◌, [], ℕ, true, List, Some, length, map, option_map, slice_get, vec_capacity, OnOk, IfOk, IfSome};
 ghost use Rattle.seats.specs.Imports.{DEMUX_NODES as nodes, TableId, act_of, invocation_of, is_accepted as is_accepted_by, response_of, told_entry};
 ghost use Rattle.dmx_calls.specs.Invocation as asks;
-ghost use Rattle.seats.specs.Answered.{act_behind};
 ghost use Rattle.seats.specs.Calls.{PassesNone};
-ghost use Rattle.seats.specs.Doing.{MakesOne, DoesCommand, MarksNoMore};
+ghost use Rattle.seats.specs.Doing.{MakesOne, DoesCommand, MarksNoMore, act_by_tap, tap_by};
 ghost use Rattle.seats.specs.Holding.{HasLeft, has_then as has_then_by};
 ghost use Rattle.seats.specs.Spelled.{line_behind as line_behind_by, outcome_at};
 ghost use Rattle.seats.specs.Seated.{log_of, IsFit, IsNew, HasRoom, GoesOn};
@@ -12,9 +11,8 @@ ghost use Rattle.seats.specs.Seated.{log_of, IsFit, IsNew, HasRoom, GoesOn};
 use crate::made::{Made, keep_all};
 use adapter::{Adapter, Client};
 use dmx_calls::limits::{DEMUX_NODES, NODES};
-use dmx_calls::{Act, Call, Entry, Outcome, OutcomeKind, Reply, Tap, TapPids};
+use dmx_calls::{Act, Call, Entry, Outcome, OutcomeKind, Reply, Tap};
 use machine::steps::Steps;
-use pid_set::Pids;
 use std::alloc::{AllocError as NoMemory, Global};
 use std::sync::Wait;
 use std::sync::ledger::Ledger;
@@ -39,21 +37,12 @@ pub struct Seat {
     pub held: [bool; NODES as usize],
 }
 
-// The PIDs of a tap as a call tells them.
-fn widened(pids: &TapPids) -> Pids
-    ensures { result ≡ pids.now }
-{
-    let fits = pids.len() <= 128;
-    prove!(fits);
-    pids.fitted()
-}
-
 // What the dvr node is to be told behind this reply of a node.
 fn told_dvr(node: u32, reply: &Reply) -> Option<Call>
     ensures bare { IfSome result (λ call. PassesNone (act_of (invocation_of call)) × (invocation_of call ≢ asks.Open)) }
-    ensures acts { option_map (λ call. act_of (invocation_of call)) result ≡ act_behind node (response_of reply.now) }
+    ensures acts { option_map (λ call. act_of (invocation_of call)) result ≡ act_by_tap node (tap_by node (response_of reply.now)) }
 {
-    if node == DEMUX_NODES {
+    if node >= DEMUX_NODES {
         return None;
     }
     let Reply::Done { tap, .. } = reply else {
@@ -63,7 +52,7 @@ fn told_dvr(node: u32, reply: &Reply) -> Option<Call>
         Tap::Keep => None,
         Tap::Attach(pids) => Some(Call::Attach {
             node,
-            pids: widened(pids),
+            pids: pids.widened(),
         }),
         Tap::Detach => Some(Call::Detach { node }),
     }
@@ -90,8 +79,8 @@ fn has_then(had: bool, act: &Act, reply: &Reply) -> bool
     }
 }
 
-// The number of the line of a command behind so many.
-fn line_behind(count: usize) -> u32
+/// The number of the line of a command behind so many.
+pub(crate) fn line_behind(count: usize) -> u32
     ensures { result ≡ line_behind_by count }
 {
     if count < u32::MAX as usize {
@@ -124,7 +113,7 @@ impl Seat {
         self.log.len() as u64 + self.made.len() as u64
     }
 
-    // Makes a call, for which there is room, and keeps it.
+    // Makes a call, for which there is room, and keeps it. It answers what the reply asks of the dvr node.
     fn make<L: Ledger, R: Wait>(
         &mut self,
         rt: &R,
@@ -132,7 +121,7 @@ impl Seat {
         node: u32,
         call: Call,
         steps: &mut Steps<L>,
-    )
+    ) -> Option<Call>
         requires node { node ≤ nodes }
         requires bare { PassesNone (act_of (invocation_of call)) }
         requires fit { IsFit adapter.now self.old }
@@ -142,7 +131,8 @@ impl Seat {
         ensures one { (length self.new.made.items ≡ length self.old.made.items + 1) × (self.new.client.left + 1 ≡ self.old.client.left) }
         ensures room { vec_capacity self.new.made ≡ vec_capacity self.old.made }
         ensures rest { self.new.outcomes ≡ self.old.outcomes }
-        ensures did { MakesOne node (act_of (invocation_of call)) self.old self.new }
+        ensures next { IfSome result (λ next. PassesNone (act_of (invocation_of next)) × (invocation_of next ≢ asks.Open)) }
+        ensures did { MakesOne node (act_of (invocation_of call)) (option_map (λ next. act_of (invocation_of next)) result) self.old self.new }
         ensures left { invocation_of call ≢ asks.Open → (i : ℕ) → HasLeft i self.old.client → HasLeft i self.new.client }
         ensures closed { invocation_of call ≡ asks.Close → HasLeft node self.new.client }
         ensures fewer { invocation_of call ≢ asks.Open → MarksNoMore self.old self.new }
@@ -151,6 +141,7 @@ impl Seat {
         let act = Act::of(&call);
         let step = self.count();
         let (place, answer) = self.client.call(rt, adapter, node, call, steps);
+        let next = told_dvr(node, &answer.reply);
         let has = has_then(self.held[node as usize], &act, &answer.reply);
         self.held[node as usize] = has;
         self.made.push_reserved(Made {
@@ -160,10 +151,11 @@ impl Seat {
             act,
             reply: answer.reply,
         });
+        next
     }
 
-    /// Makes a call, for which there is room, and then what its reply asks of the dvr node. It answers where the call stands among
-    /// the last ones.
+    /// Makes a call, for which there is room, and then what its reply asks of the dvr node. It answers where the call stands
+    /// among the last ones.
     pub fn call<L: Ledger, R: Wait>(
         &mut self,
         rt: &R,
@@ -189,8 +181,7 @@ impl Seat {
         ensures free { invocation_of call ≡ asks.Close → slice_get self.new.held node ≢ Some true }
     {
         let at = self.made.len();
-        self.make(rt, adapter, node, call, steps);
-        if let Some(next) = told_dvr(node, &self.made[at].reply) {
+        if let Some(next) = self.make(rt, adapter, node, call, steps) {
             self.make(rt, adapter, DEMUX_NODES, next, steps);
         }
         at
@@ -217,8 +208,8 @@ impl Seat {
         });
     }
 
-    // Keeps its last calls in the log, where there is memory for that.
-    pub(crate) fn settle(&mut self, alloc: Global) -> Result<(), NoMemory>
+    // Keeps its last calls in the log, where there is memory for that; before the log's first stands this one, if there is one.
+    pub(crate) fn settle(&mut self, alloc: Global, last: Option<&Entry>) -> Result<(), NoMemory>
         ensures settled { OnOk result (self.new.made.items ≡ []) }
         ensures same { log_of self.new ≡ log_of self.old }
         ensures room { vec_capacity self.new.made ≡ vec_capacity self.old.made }
@@ -226,7 +217,7 @@ impl Seat {
         ensures rest { (self.new.client ≡ self.old.client) × (self.new.who ≡ self.old.who) × (self.new.outcomes ≡ self.old.outcomes) × (self.new.held ≡ self.old.held) }
     {
         let before = self.log.len();
-        match keep_all(alloc, self.who, &self.made, &mut self.log) {
+        match keep_all(alloc, self.who, last, &self.made, &mut self.log) {
             Ok(()) => {
                 self.made.clear();
                 Ok(())
@@ -255,46 +246,9 @@ impl Seat {
         if self.client.left() < calls as u64 {
             return Err(NoMemory);
         }
-        self.settle(alloc)?;
+        self.settle(alloc, None)?;
         self.made.reserve(calls)?;
         self.outcomes.reserve(calls)?;
         Ok(())
-    }
-}
-
-/// What is left of a seat: its client, the calls that this has made, and what became of the commands.
-#[derive(Drop)]
-pub struct Book {
-    /// The client.
-    pub client: Client,
-    /// Its calls, in their order.
-    pub log: Vec<Entry>,
-    /// What it was asked for and did by calls.
-    pub outcomes: Vec<Outcome>,
-}
-
-impl Seat {
-    /// The book of this seat.
-    ///
-    /// # Errors
-    ///
-    /// `NoMemory` where memory was refused.
-    pub fn into_book(mut self, alloc: Global) -> Result<Book, NoMemory>
-        ensures client { IfOk result (λ book. book.client ≡ self.client) }
-        ensures log { IfOk result (λ book. map told_entry book.log.items ≡ log_of self) }
-        ensures outcomes { IfOk result (λ book. book.outcomes ≡ self.outcomes) }
-    {
-        self.settle(alloc)?;
-        let Seat {
-            client,
-            log,
-            outcomes,
-            ..
-        } = self;
-        Ok(Book {
-            client,
-            log,
-            outcomes,
-        })
     }
 }

@@ -1,8 +1,7 @@
 // A seat at its line: requests come in, and replies go out.
 ghost use Rattle.std.specs.Prelude.{◌≡◌, ◌<◌, ◌≤◌, ◌+◌, ◌-◌, ℕ, true, false, length, OnOk, OnErr, IfSome};
 ghost use Rattle.seats.specs.Line.{Takes, RunsOut, Writes, BreaksOff};
-ghost use Rattle.seats.specs.Seated.{log_of, IsFit, IsReady, GoesOn, MayLeave};
-ghost use Rattle.seats.specs.Served.{HasServed};
+ghost use Rattle.seats.specs.Seated.{log_of, IsFit, GoesOn, MayLeave};
 ghost use Rattle.seats.specs.Told.{reply_bytes, data_read, call_at};
 ghost use Rattle.seats.specs.Turns.{HasTurned};
 
@@ -96,29 +95,5 @@ impl Seat {
         let ask = Ask::of(&bytes);
         let answered = self.answer(rt, alloc, adapter, ask, clock.now(), steps);
         self.tell(line, &answered).is_ok()
-    }
-
-    /// Answers the requests of its line until that has ended or failed, and then closes what its program has.
-    ///
-    /// Where the line ends within a request, that isn't answered.
-    pub fn serve<T: Source + Sink, C: Clock, L: Ledger, R: Wait>(
-        &mut self,
-        rt: &R,
-        alloc: Global,
-        adapter: &Adapter,
-        line: &mut T,
-        clock: &C,
-        steps: &mut Steps<L>,
-    )
-        requires ready { IsReady adapter.now self.old }
-        ensures { HasServed T.Source.end T.Sink.end (C.may_give clock.now) adapter.now line.old line.new self.old self.new }
-    {
-        'requests: for _ in rt.forever() {
-            if !self.turn(rt, alloc, adapter, line, clock, steps) {
-                self.leave(rt, adapter, steps);
-                return;
-            }
-        }
-        unreachable!()
     }
 }

@@ -20,12 +20,11 @@ pub use Rattle.dmx_calls.specs.Histories.{histories_of, pass_act, woven}
 pub use Rattle.dmx_calls.specs.History.{Entry, History, entry_of}
 pub use Rattle.dmx_calls.specs.Invocation.{Invocation}
 pub use Rattle.dmx_calls.specs.Legal.{IsLegalFor, May}
-pub use Rattle.dmx_calls.specs.Log.{LogEntry, act_of, filled}
+pub use Rattle.dmx_calls.specs.Log.{Act, LogEntry, act_of, filled}
 pub use Rattle.dmx_calls.specs.Response.{Again, Data, Done, Passed, Response}
 pub use Rattle.dmx_calls.specs.Rules.{rules_at}
 pub use Rattle.dmx_calls.specs.declared.histories.Fed.{Fed}
 pub use Rattle.dmx_calls.specs.declared.limits.TheConstants.{DEMUX_NODES}
-pub use Rattle.dmx_calls.specs.declared.log.Act.{Act}
 pub use Rattle.dmx_calls.specs.declared.log.Act.TheVariants.{End, Pass}
 pub use Rattle.dmx_calls.specs.declared.outcome.Outcome.{Outcome}
 pub use Rattle.dmx_calls.specs.declared.params.Input.TheVariants.{Frontend}

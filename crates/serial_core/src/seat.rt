@@ -104,7 +104,7 @@ impl SerialNode {
         let place = self.core.entries();
         let act = Act::of(&call);
         let reply = self.hear(who, call, steps)?;
-        let act = KeptAct::of(alloc, act)?;
+        let act = KeptAct::keep(alloc, act)?;
         let kept = SharedReply::of(alloc, self.entries.last(), reply)?;
         client.take(kept.told());
         self.entries.push(Entry {

@@ -1,8 +1,15 @@
--- Seats that have handed their calls over, and a feeder that has kept none: what they have called.
-use Rattle.serve_top.proofs.Imports.{◌≡◌, ⊎_elim, ℕ, zero, suc, Bool, true, ◌+◌, ◌<◌, ◌≤◌, ◌^◌, List, [], ◌∷◌, ◌++◌, length, map, replicate, reverse, Option, Some, None, refl, ap, sym, ◌∙◌, subst, arith, length-append, slice_get, slice_index_or, option_map, All, if◌then◌else◌, length-map, length-reverse, slice_get-map, slice_get-get_or, get_or_from_slice_get, slice_get_within, TableId, SourceEnd, SinkEnd, cut, PacketSize, Of188, head_of, Pulls, has_failed, Pulls-done, Fed, DEMUX_NODES, Outcome, LogEntry, Sources, plain, Caller, IsSameCaller, AreFreshCallers, AreAllCallers, HaveHistories, is_in, ended, still_all, at_place, at_end, one_value, HasMade, HasFed, HasFedAll, fed_entries, HasLogged, HaveCalled, called_none, mapped, JournalLine, Desk, Seat, MakesCalls, IsReadyToHand, HasServedTo, HaveServedTo, HasLeft, AreReady, HasAnsweredAll, Handed, Passing, HasServedLines, IsHandedBy, IsNewPassing, HasPassedToEnd, HasWorkedOn, every, fed_by}
-use Rattle.serve_top.proofs.Logged.{same_calls, logged_calls, brings_calls}
-use Rattle.serve_top.proofs.Reporting.{all_in}
+-- Seats that have handed their calls over, and a feeder that has told its batches: what they have called.
+use Rattle.serve_top.proofs.Imports.{◌≡◌, ⊎_elim, ℕ, zero, suc, Bool, true, ◌+◌, ◌<◌, ◌≤◌, ◌^◌, List, [], ◌∷◌, ◌++◌, length, map, false, get_or-replicate, replicate, reverse, Option, Some, None, refl, ap, sym, ◌∙◌, subst, arith, length-append, slice_get, slice_index_or, option_map, All, length-map, length-reverse, slice_get-map, slice_get-get_or, get_or_from_slice_get, slice_get_within, TableId, SourceEnd, SinkEnd, cut, PacketSize, Of188, head_of, Pulls, has_failed, Fed, DEMUX_NODES, Outcome, LogEntry, Sources, plain, Caller, IsSameCaller, AreFreshCallers, AreAllCallers, is_in, still_all, at_place, at_end, one_value, FeederWorker, HasPassedAll, HasFedToEnd, as_named, worked_feeder, HasFedAll, HasLogged, HaveCalled, called_none, mapped, JournalLine, Desk, Seat, MakesCalls, IsReadyToHand, HasServed, HaveServed, HasLeft, AreReady, AreOnNodes, HasAnsweredAll, ReportParts, AreServed, IsLeftBy, IsNewFeeder, every, fed_by}
+use Rattle.serve_top.proofs.Logged.{same_calls, logged_calls, brings_calls, passes_none}
 use Rattle.serve_top.proofs.Streaming.{read_to}
+
+-- a row that has all nodes
+all_in : (node : ℕ) → node ≤ DEMUX_NODES → is_in (replicate (DEMUX_NODES + 1) true) node ≡ every node
+all_in node low = get_or-replicate (DEMUX_NODES + 1) node true false (omega arith)
+
+-- as many clients as lines
+pub counted : (locks : List TableId) (n : ℕ) (feeder : Caller) (clients : List Caller) → AreFreshCallers locks n feeder clients → AreFreshCallers locks (length clients) feeder clients
+counted locks n feeder clients fresh = subst (λ (k : ℕ). AreFreshCallers locks k feeder clients) (sym fresh.long) fresh
 
 -- ------ lists
 
@@ -32,19 +39,19 @@ pub desks_ready : {T J : Type 0} (locks : List TableId) (clients : List Caller) 
 desks_ready {T} {J} locks clients desks ready k d low =
     let x = slice_index_or desks k d in
     let r = ready.each k x.seat (slice_get-map (λ (z : Desk (JournalLine T J)). z.seat) desks k ∙ ap (option_map (λ (z : Desk (JournalLine T J)). z.seat)) (slice_get-get_or desks k d low)) in
-    record { ready = r.0; none = r.1 }
+    record { ready = r.0; none = r.1; told = r.2 }
 
-module _ {T J : Type 0} (source : T → SourceEnd) (sink : T → SinkEnd) (may : ℕ → Bool) (took : List LogEntry → J → J → Type 0) (locks : List TableId) (n : ℕ) (feeder : Caller) (clients : List Caller) (fresh : AreFreshCallers locks n feeder clients) (all : AreAllCallers locks (clients ++ feeder ∷ []))
-    (old new : List (Desk (JournalLine T J))) (ready : AreReady locks clients (map (λ (d : Desk (JournalLine T J)). d.seat) old)) (h : HaveServedTo source sink may took locks old new) where
+module _ {T J : Type 0} (source : T → SourceEnd) (sink : T → SinkEnd) (may : ℕ → Bool) (took : List LogEntry → List Outcome → J → J → Type 0) (locks : List TableId) (n : ℕ) (feeder : Caller) (clients : List Caller) (fresh : AreFreshCallers locks n feeder clients) (all : AreAllCallers locks (clients ++ feeder ∷ []))
+    (old new : List (Desk (JournalLine T J))) (ready : AreReady locks clients (map (λ (d : Desk (JournalLine T J)). d.seat) old)) (h : HaveServed source sink may took locks old new) where
   -- its seat before
-  served_at : (k : ℕ) (d : Desk (JournalLine T J)) → slice_get new k ≡ Some d → (b : Desk (JournalLine T J)) × (slice_get old k ≡ Some b) × HasServedTo source sink may took locks b.line d.line b.seat d.seat
+  served_at : (k : ℕ) (d : Desk (JournalLine T J)) → slice_get new k ≡ Some d → (b : Desk (JournalLine T J)) × (slice_get old k ≡ Some b) × HasServed source sink may took locks b.line d.line b.seat d.seat
   served_at k d at =
       let low = slice_get_within new k d at in let long = h.long in let b = at_place old k (omega arith) in
       let s = h.each k d (omega arith) in (
         b.0,
         b.1,
-        subst (λ (z : Desk (JournalLine T J)). HasServedTo source sink may took locks z.line d.line z.seat d.seat) (get_or_from_slice_get old k b.0 d b.1)
-            (subst (λ (z : Desk (JournalLine T J)). HasServedTo source sink may took locks (slice_index_or old k d).line z.line (slice_index_or old k d).seat z.seat) (get_or_from_slice_get new k d d at) s),
+        subst (λ (z : Desk (JournalLine T J)). HasServed source sink may took locks z.line d.line z.seat d.seat) (get_or_from_slice_get old k b.0 d b.1)
+            (subst (λ (z : Desk (JournalLine T J)). HasServed source sink may took locks (slice_index_or old k d).line z.line (slice_index_or old k d).seat z.seat) (get_or_from_slice_get new k d d at) s),
       )
 
   client_at : (k : ℕ) (b : Desk (JournalLine T J)) → slice_get old k ≡ Some b → slice_get clients k ≡ Some b.seat.client
@@ -62,7 +69,8 @@ module _ {T J : Type 0} (source : T → SourceEnd) (sink : T → SinkEnd) (may :
     made : MakesCalls 0 before.seat.client book d.seat.client
     became : List Outcome
     answers : HasAnsweredAll source sink may before.line.line d.line.line before.seat.client d.seat.client [] book [] became
-    given : took book before.line.journal d.line.journal
+    given : took book became before.line.journal d.line.journal
+    nodes : AreOnNodes book
     left : (node : ℕ) → node ≤ DEMUX_NODES → HasLeft node d.seat.client
 
   choose : (k : ℕ) (o : Option (Desk (JournalLine T J))) → slice_get new k ≡ o → (book : List LogEntry) × ((d : Desk (JournalLine T J)) → o ≡ Some d → IsAt k d book)
@@ -71,7 +79,7 @@ module _ {T J : Type 0} (source : T → SourceEnd) (sink : T → SinkEnd) (may :
       let s = served_at k d at in (
         s.2.calls,
         λ x same. let one : d ≡ x = cc same in subst (λ (z : Desk (JournalLine T J)). IsAt k z s.2.calls) one
-            (record { before = s.0; there = s.1; made = s.2.made; became = s.2.told; answers = s.2.answers; given = s.2.given; left = s.2.left }),
+            (record { before = s.0; there = s.1; made = s.2.made; became = s.2.told; answers = s.2.answers; given = s.2.given; nodes = s.2.nodes; left = s.2.left }),
       )
 
   book_at : (k : ℕ) → List LogEntry
@@ -146,53 +154,45 @@ module _ {T J : Type 0} (source : T → SourceEnd) (sink : T → SinkEnd) (may :
 
   -- ------ the whole
 
-  module _ {B : Type 0} (told : List Fed → B → B → Type 0) (lines : List (JournalLine T J)) (are : map (λ (d : Desk (JournalLine T J)). d.line) old ≡ reverse lines) (x y : SourceEnd) (was now : B) (p q : Passing) (is : IsNewPassing feeder p)
-      (row : List Bool) (whole : row ≡ replicate (DEMUX_NODES + 1) true) (w : HasWorkedOn (is_in row) may told x y was now p q) (stop : q.stop ≡ None) (passed : HasPassedToEnd (is_in row) may told x y p.puller was now q) (end : Handed J) (left : IsHandedBy q new end) where
-    taken : List ℕ
-    taken = passed.draws.carries.more
-
-    pulls : Pulls [] taken passed.packets q.puller
-    unfolding taken
-    pulls = passed.draws.carries.pulls [] [] [] is.pulls
-
-    size : q.puller.cutting.size ≡ Of188
-    size = passed.draws.carries.size ∙ is.size
-
+  module _ {B : Type 0} (told : List Fed → B → B → Type 0) (lines : List (JournalLine T J)) (are : map (λ (d : Desk (JournalLine T J)). d.line) old ≡ reverse lines) (x y : SourceEnd) (was now : B) (p q : FeederWorker) (is : IsNewFeeder feeder p)
+      (row : List Bool) (whole : row ≡ replicate (DEMUX_NODES + 1) true) (w : HasFedToEnd (is_in row) 64 may told x y was now p q) (stop : q.stop ≡ None) (passed : HasPassedAll (is_in row) 64 may told x y p.puller was now q) (end : ReportParts J) (left : IsLeftBy locks q new end) where
     same_nodes : (node : ℕ) → node ≤ DEMUX_NODES → is_in row node ≡ every node
     same_nodes node low = ap (λ (r : List Bool). is_in r node) whole ∙ all_in node low
 
     -- all packets have passed all nodes
-    fed : HasFedAll every 64 may (cut Of188 taken).packets q.feeder passed.feeding
-    fed =
-        let given : (cut Of188 taken).packets ≡ passed.packets = ap (λ (s : PacketSize). (cut s taken).packets) (sym size) ∙ (Pulls-done [] taken passed.packets q.puller pulls passed.done).packets in
-        record {
-          fed = subst (λ (ps : List (List ℕ)). HasFed every 64 may ps (ended ∷ []) q.feeder passed.feeding) (sym given) (record {
-            who = passed.fed.who;
-            tiles = passed.fed.tiles;
-            moments = passed.fed.moments;
-            made = λ node v at. let low = slice_get_within q.feeder.passes node v at in let long = w.nodes in
-                subst (λ b. HasMade (if b then fed_entries passed.packets passed.feeding ++ ended ∷ [] else []) v) (same_nodes node (omega (arith, low, long))) (passed.fed.made node v at);
-          });
-          full = passed.full [] [] [] is.pulls;
-        }
+    through : HasPassedAll every 64 may told x y p.puller was now q
+    through = as_named (is_in row) every 64 may told x y p.puller was now q same_nodes w.nodes passed
 
-    pub has_served : HaveHistories (its_clients ++ q.feeder ∷ []) → HasServedLines source sink took told lines may x y was now end
+    taken : List ℕ
+    taken = through.draws.carries.more
+
+    pulls : Pulls [] taken through.packets q.puller
     unfolding taken
-    has_served histories = record {
+    pulls = through.draws.carries.pulls [] [] [] is.pulls
+
+    fed : HasFedAll every 64 may (cut Of188 taken).packets q.feeder through.feeding
+    unfolding taken
+    fed = subst (λ (s : PacketSize). HasFedAll every 64 may (cut s taken).packets q.feeder through.feeding) is.size
+        (worked_feeder every 64 may told x y p.puller was now q through [] is.pulls)
+
+    as_lines : length new ≡ length lines
+    as_lines = h.long ∙ (sym (length-map old (λ (d : Desk (JournalLine T J)). d.line)) ∙ (ap length are ∙ length-reverse lines))
+
+    own : AreServed source sink took told lines may x y was now q.feeder its_clients end.handed
+    unfolding taken
+    own = record {
       taken = taken;
-      consumes = passed.draws.carries.consumes;
+      consumes = through.draws.carries.consumes;
       failed = has_failed q.puller.reading;
-      reads = read_to p.puller.reading q.puller.reading x y passed.draws.follows is.going passed.done.stopped (w.few stop);
-      head = left.head taken passed.packets pulls ∙ ap (λ (s : PacketSize). head_of s taken (has_failed q.puller.reading)) size;
-      feeder = q.feeder;
-      feeding = passed.feeding;
+      reads = read_to p.puller.reading q.puller.reading x y through.draws.follows is.going through.done.stopped (w.few stop);
+      head = left.head taken through.packets pulls ∙ ap (λ (s : PacketSize). head_of s taken (has_failed q.puller.reading)) (through.draws.carries.size ∙ is.size);
+      feeding = through.feeding;
       fed = fed;
-      batches = passed.given;
-      clients = its_clients;
-      each = length-map new (λ (d : Desk (JournalLine T J)). d.seat.client) ∙ (h.long ∙ (sym (length-map old (λ (d : Desk (JournalLine T J)). d.line)) ∙ (ap length are ∙ length-reverse lines)));
+      batches = through.told;
+      each = length-map new (λ (d : Desk (JournalLine T J)). d.seat.client) ∙ as_lines;
+      kept = ap length left.journals ∙ (length-map new (λ (d : Desk (JournalLine T J)). d.line.journal) ∙ as_lines);
       books = its_books;
-      called = have_called (cut Of188 taken).packets q.feeder passed.feeding fed;
-      histories = histories;
+      called = have_called (cut Of188 taken).packets q.feeder through.feeding fed;
       asked = λ c book at.
           let s = seat_of c book at in let a = s.2 in (
             a.before.line,
@@ -201,9 +201,12 @@ module _ {T J : Type 0} (source : T → SourceEnd) (sink : T → SinkEnd) (may :
             slice_get-map (λ (d : Desk (JournalLine T J)). d.seat.client) new c ∙ ap (option_map (λ (d : Desk (JournalLine T J)). d.seat.client)) s.1,
             s.0.line.journal,
             ap (λ (l : List J). slice_get l c) left.journals ∙ (slice_get-map (λ (d : Desk (JournalLine T J)). d.line.journal) new c ∙ ap (option_map (λ (d : Desk (JournalLine T J)). d.line.journal)) s.1),
-            record { end = s.0.line.line; first = a.before.seat.client; became = a.became; answers = a.answers; given = a.given },
+            record { end = s.0.line.line; first = a.before.seat.client; became = a.became; answers = a.answers; given = a.given; nodes = a.nodes; none = passes_none 0 a.before.seat.client book s.0.seat.client a.made },
           );
       left = λ c client at node low.
           let v = mapped (λ (d : Desk (JournalLine T J)). d.seat.client) new c client at in
           subst (HasLeft node) v.2 ((seat_is c v.0 v.1).left node low);
     }
+
+    pub has_served : AreServed source sink took told lines may x y was now end.feeder end.clients.items end.handed
+    has_served = rw (left.feeder, left.clients) own

@@ -1,5 +1,5 @@
 -- From the calls of a seat to what its passes know of them.
-use Rattle.serve_top.proofs.Imports.{◌≡◌, ℕ, ◌+◌, List, [], ◌∷◌, ◌++◌, length, refl, sym, ◌∙◌, subst, arith, length-append, append-nil, append_assoc, Input, Invocation, Open, Pass, IsFrom, LogEntry, act_of, Caller, IsSameCaller, IsLegalAt, same_trans, BringFrom, IsLogged, brings_more, logged_more, same_self, MakesCalls, PassesNone}
+use Rattle.serve_top.proofs.Imports.{◌≡◌, ℕ, ◌+◌, List, [], ◌∷◌, ◌++◌, length, refl, sym, ◌∙◌, subst, arith, length-append, append-nil, append_assoc, All, All-nil, All-cons, Input, Invocation, Open, Pass, IsFrom, LogEntry, act_of, Caller, IsSameCaller, IsLegalAt, same_trans, BringFrom, IsLogged, brings_more, logged_more, same_self, MakesCalls, PassesNone}
 
 -- it is the same caller
 pub same_calls : (n : ℕ) (c : Caller) (es : List LogEntry) (d : Caller) → MakesCalls n c es d → IsSameCaller c d
@@ -16,7 +16,7 @@ logged_calls n c log (e ∷ es) d is l m =
     subst (IsLogged d) (append_assoc log (e ∷ []) es) (logged_calls (n + 1) m.0 (log ++ e ∷ []) es d long here m.3)
 
 -- a call by which no packets pass brings some of any
-brings_none : (packets : Input → List (List ℕ)) (i : Invocation) → PassesNone (act_of i) → IsFrom packets i
+pub brings_none : (packets : Input → List (List ℕ)) (i : Invocation) → PassesNone (act_of i) → IsFrom packets i
 brings_none packets (Pass input first brought now) none = absurd none
 brings_none packets Open none = tt
 brings_none packets _ none = tt
@@ -28,3 +28,8 @@ brings_calls packets n c log (e ∷ es) d l m =
     let k = m.2 in
     let here : BringFrom packets m.0 (log ++ e ∷ []) = brings_more c m.0 (IsLegalAt e.node) e.node e.place k.entry k.made k.same.0 packets log e l refl refl (brings_none packets k.entry.invocation (subst PassesNone k.act k.none)) in
     subst (BringFrom packets d) (append_assoc log (e ∷ []) es) (brings_calls packets (n + 1) m.0 (log ++ e ∷ []) es d here m.3)
+
+-- by none of them do packets pass
+pub passes_none : (n : ℕ) (c : Caller) (es : List LogEntry) (d : Caller) → MakesCalls n c es d → All (λ (e : LogEntry). PassesNone e.act) es
+passes_none n c [] d m = All-nil (λ (e : LogEntry). PassesNone e.act)
+passes_none n c (e ∷ es) d m = All-cons (λ (e : LogEntry). PassesNone e.act) e es m.2.none (passes_none (n + 1) m.0 es d m.3)

@@ -6,7 +6,7 @@ use Rattle.serve_top.proofs.Filled.{same_sources}
 use Rattle.serve_top.proofs.Scripting.{AreCalls, lines_of, lines_at, clients_low, behind_none, question, asked_last, asked_others, asked_own, asked_clients, next_same, outcomes_same, none_next, question_next, Parted, parted_at}
 
 -- a fact of each member
-every_member : {A : Type 0} (P : A → Type 0) (xs : List A) → ((i : ℕ) (x : A) → slice_get xs i ≡ Some x → P x) → All P xs
+pub every_member : {A : Type 0} (P : A → Type 0) (xs : List A) → ((i : ℕ) (x : A) → slice_get xs i ≡ Some x → P x) → All P xs
 every_member P xs each i d low = each i (get_or xs i d) (slice_get-get_or xs i d low)
 
 -- what a client has logged, where it is what its commands in this script ask for, and brings no packets

@@ -1,9 +1,6 @@
 -- What a server has done where it has written its report.
-use Rattle.std.specs.Prelude.{◌≡◌, ◌≢◌, ◌≤◌, ◌++◌, ℕ, Bool, true, List, [], length, map, replicate, reverse, slice_get, Some, Option}
-use Rattle.serve_top.specs.Imports.{Appends, AreWorked, Caller, Consumes, DEMUX_NODES, Desk, Dvr, Fed, FeederWorker, Frontend, Going, HasAnsweredAll, HasFedAll, HasLeft, HaveCalled, IsLoggedIn, IsWholeRun, LogEntry, Of188, Outcome, Pulls, Scripted, SinkEnd, SourceEnd, Sources, TellWhatWasCalled, commands_by, commands_of, cut, has_failed, head_of, log_of, no_writes, report_of, spelled, told_entry, told_head}
-use Rattle.dmx_calls.specs.Response.{NoMemory}
-use Rattle.serve_top.specs.declared.left.Books.{Books}
-use Rattle.serve_top.specs.declared.left.ReportParts.{ReportParts}
+use Rattle.std.specs.Prelude.{◌≡◌, ◌≢◌, ◌≤◌, ◌++◌, ℕ, Bool, true, List, [], length, replicate, reverse, slice_get, Some, Option}
+use Rattle.serve_top.specs.Imports.{Appends, Caller, Consumes, DEMUX_NODES, Dvr, Fed, Frontend, HasAnsweredAll, HasFedAll, HasLeft, HaveCalled, IsLoggedIn, IsWholeRun, LogEntry, NoMemory, Of188, Outcome, Scripted, SinkEnd, SourceEnd, Sources, TellWhatWasCalled, commands_by, commands_of, cut, head_of, no_writes, report_of, spelled}
 use Rattle.serve_top.specs.Read.{HasReadTo}
 
 -- all nodes
@@ -71,36 +68,3 @@ pub record HasReported {T : Type 0} (source : T → SourceEnd) (sink : T → Sin
   -- it is a run of the script, where no call has found memory wanting
   pub run : FindMemory books → IsRunOf script may (cut Of188 taken).packets told histories
   pub written : Appends was now (report_of (head_of Of188 taken failed) told histories)
-
--- ------ on the way
-
--- It is the worker of this feeder, and has drawn and fed nothing yet.
-pub record IsNewFeeder (feeder : Caller) (f : FeederWorker) : Type 0 where
-  pub caller : f.feeder ≡ feeder
-  pub fed : f.feeding.items ≡ []
-  pub given : f.puller.given ≡ 0
-  pub pulls : Pulls [] [] [] f.puller
-  pub size : f.puller.cutting.size ≡ Of188
-  pub start : f.puller.start ≡ 0
-  pub going : f.puller.reading ≡ Going
-
-module _ {T : Type 0} where
-  -- these are the clients of the seats, their logs and what became of their commands
-  pub record AreBooksOf (desks : List (Desk T)) (books : Books) : Type 0 where
-    pub clients : books.clients.items ≡ map (λ d. d.seat.client) desks
-    pub logs : map (λ log. map told_entry log.items) books.logs.items ≡ map (λ d. log_of d.seat) desks
-    pub outcomes : map (λ those. those.items) books.outcomes.items ≡ map (λ d. d.seat.outcomes.items) desks
-
-  -- this is left of a feeder and of seats
-  pub record IsLeftBy (feeder : FeederWorker) (desks : List (Desk T)) (left : ReportParts) : Type 0 where
-    pub head : (taken : List ℕ) (given : List (List ℕ)) → Pulls [] taken given feeder.puller
-        → told_head left.head ≡ head_of feeder.puller.cutting.size taken (has_failed feeder.puller.reading)
-    pub tells : (among : ℕ → Bool) (packets : Sources)
-        → HaveCalled among packets feeder.feeder feeder.feeding.items (map (λ d. d.seat.client) desks) (map (λ d. log_of d.seat) desks)
-        → TellWhatWasCalled among packets feeder.feeder feeder.feeding.items (map (λ d. d.seat.client) desks) (map (λ d. log_of d.seat) desks) left.histories
-    pub outcomes : map (λ those. those.items) left.outcomes.items ≡ map (λ d. d.seat.outcomes.items) desks
-    pub runs : (script : Scripted) (among : ℕ → Bool) (most : ℕ) (may : ℕ → Bool) (stream : List (List ℕ))
-        (told : List (List Outcome))
-        → AreWorked script among most may stream feeder.feeder feeder.feeding.items (map (λ d. d.seat.client) desks)
-        (map (λ d. log_of d.seat) desks) told
-        → IsWholeRun script most may stream told left.histories

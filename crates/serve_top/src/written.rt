@@ -3,18 +3,20 @@ ghost use Rattle.std.specs.Prelude.{◌≡◌, ◌++◌, [], true, IsOk, OnOk};
 ghost use Rattle.serve_top.specs.Imports.{Appends, text_of, told_entry, told_head};
 ghost use Rattle.serve_top.specs.Lines.{call_line, fed_line, HasWritten};
 
-use crate::passing::Batches;
 use crate::server::NoReport;
-use dmx_calls::{Entry, Fed};
+use dmx_calls::limits::NODES;
+use dmx_calls::{Entry, Fed, Outcome};
 use emu_io::Sink;
 use report_text::{add_entry, told_report, write_all};
-use seats::Journal;
+use seats::{Before, Journal, Made};
 use std::alloc::{AllocError as NoMemory, Global};
 use text_forms::{write_decimal, write_node};
+use ts_batch::Batch;
 use ts_watch::Head;
+use workers::Batches;
 
-/// A journal that writes a line for each call, or for each batch, as it is given them. Where a write fails, or memory for a line is
-/// refused, it isn't whole any more, and writes nothing behind that.
+/// A journal that writes a line for each call, or for each batch, as it is given them. Where a write fails, or memory for a line
+/// is refused, it isn't whole any more, and writes nothing behind that.
 #[derive(Drop)]
 pub struct WrittenLines<K: Drop> {
     /// Where the lines go.
@@ -82,14 +84,26 @@ impl<K: Sink + Drop> Journal for WrittenLines<K> {
     ghost use Rattle.serve_top.specs.Lines.{call_line, HasWritten};
     ghost use Rattle.serve_top.specs.Inside.Writing.{written_none, written_both};
 
-    ghost took = { λ calls a b. HasWritten K.end (flat_map call_line calls) a b };
+    ghost took = { λ calls told a b. HasWritten K.end (flat_map call_line calls) a b };
 
-    fn take(&mut self, before: u64, calls: Vec<Entry>) {
-        let mut step = before;
+    fn hear(&mut self, _calls: &[Made]) {}
+
+    fn take(
+        &mut self,
+        before: Before,
+        calls: Vec<Entry>,
+        _told: &[Outcome],
+    ) -> Result<(), Vec<Entry>> {
+        let mut step = before.calls;
         'calls: for call in calls {
             self.put(&Entry { step, ..call });
             step += 1;
         }
+        Ok(())
+    }
+
+    fn last(&self) -> Option<&Entry> {
+        None
     }
 
     fn miss(&mut self) {
@@ -98,7 +112,7 @@ impl<K: Sink + Drop> Journal for WrittenLines<K> {
 
     ghost took_none = { λ a. written_none K.end a };
 
-    ghost took_both = { λ a b c xs ys p q. written_both K.end call_line a b c xs ys p q };
+    ghost took_both = { λ a b c xs ys os ps p q. written_both K.end call_line a b c xs ys p q };
 }
 
 impl<K: Sink + Drop> Batches for WrittenLines<K> {
@@ -108,11 +122,16 @@ impl<K: Sink + Drop> Batches for WrittenLines<K> {
 
     ghost took = { λ feeding a b. HasWritten K.end (flat_map fed_line feeding) a b };
 
-    fn take(&mut self, fed: Fed) {
+    fn begin(&mut self, _batch: &Batch) {}
+
+    fn take(&mut self, fed: Fed, _places: &[u64; NODES as usize]) -> Result<(), NoMemory> {
         self.line.clear();
         let made = add_fed(&mut self.line, fed);
         self.write(made);
+        Ok(())
     }
+
+    fn finish(&mut self, _places: &[u64; NODES as usize]) {}
 
     ghost took_none = { λ a. written_none K.end a };
 

@@ -66,20 +66,22 @@ module _ (script : Scripted) (locks : List TableId) (n : ℕ) (feeder : Caller) 
     begun_few = let k = b.each c w at in let none = k.core.steps in omega (arith, none)
 
   -- the feeder before its first call
-  module _ (f : FeederWorker) (is : f.feeder ≡ feeder) (none : f.feeding.items ≡ []) (given : f.puller.given ≡ 0) where
+  module _ (f : FeederWorker) (is : f.feeder ≡ feeder) (none : f.count ≡ 0) (given : f.puller.given ≡ 0) where
     pub begun_feeder : IsFitFeeder locks f
     begun_feeder = record {
       fits = subst (λ (x : Caller). Fits locks x.passes) (sym is) (all.fits (length clients) feeder (at_last clients feeder));
-      left = let size = ap length none in let calls = ap (λ (x : Caller). x.left) is ∙ fresh.first.calls in omega (arith, size, calls);
-      few = let size = ap length none in omega (arith, size);
+      left = let calls = ap (λ (x : Caller). x.left) is ∙ fresh.first.calls in omega (arith, calls);
+      count = omega (arith, none);
       given = omega (arith, given);
     }
 
-    pub begun_passed : (among : ℕ → Bool) (most : ℕ) (may : ℕ → Bool) (x : SourceEnd) → HasPassed among most may x x f.puller f
-    begun_passed among most may x = record {
+    pub begun_passed : {B : Type 0} (among : ℕ → Bool) (most : ℕ) (may : ℕ → Bool) (took : List Fed → B → B → Type 0) (x : SourceEnd) (was : B) → took [] was was → HasPassed among most may took x x f.puller was was f
+    begun_passed among most may took x was nothing = record {
+      feeding = [];
+      told = nothing;
       packets = [];
       draws = draws_none x f.puller;
       given = given;
-      fed = subst (λ (y : Caller). HasFed among most may [] [] y f.feeding.items) (sym is) (subst (HasFed among most may [] [] feeder) (sym none) (fed_none locks (n + 1) 0 (2 ^ 44) feeder fresh.first among most may refl));
-      full = λ ahead taken given pulls. (subst (AreFullBatches most) (sym none) tt, inr (subst (All (λ fed. fed.count ≡ most)) (sym none) (All-nil (λ (fed : Fed). fed.count ≡ most))));
+      fed = subst (λ (y : Caller). HasFed among most may [] [] y []) (sym is) (fed_none locks (n + 1) 0 (2 ^ 44) feeder fresh.first among most may refl);
+      full = λ ahead taken given pulls. (tt, inr (All-nil (λ (fed : Fed). fed.count ≡ most)));
     }

@@ -1,7 +1,7 @@
 -- What the threads of a run leave are the histories of a run of the script.
 use Rattle.workers.proofs.Imports.{◌≡◌, ℕ, Bool, true, ◌<◌, ◌≤◌, List, [], ◌∷◌, ◌++◌, length, map, sum, take, slice_get, Some, None, ap, sym, ◌∙◌, subst, refl, arith, slice_get_within, TableId, View, Fed, DEMUX_NODES, Outcome, Entry, LogEntry, clients_in, Scripted, next_event, outcomes, Batch, replies, sources, AreFull, IsWholeRun, Others, IsSoFar, IsOver, runs_end, are_accounted, Caller, HaveHistories, at_place, batch_of, HasWorked, AreWorked, IsLoggedIn, WorkersHaveCalled, steps_from}
 use Rattle.workers.proofs.Members.{steps_tile}
-use Rattle.workers.proofs.Batches.{total_is}
+use Rattle.workers.proofs.FullBatches.{total_is}
 use Rattle.workers.proofs.Owning.{Moment, at_end, acts_by, made_by}
 use Rattle.workers.proofs.Completing.{whole, whole_full}
 use Rattle.workers.proofs.Naming.{named_call}

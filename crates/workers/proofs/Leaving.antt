@@ -40,14 +40,14 @@ module _ (may : ℕ → Bool) (locks : List TableId) where
 -- ------ the feeder
 
 -- all packets of the stream that was taken have passed
-pub worked_feeder : (among : ℕ → Bool) (most : ℕ) (may : ℕ → Bool) (x y : SourceEnd) (first : Pulling) (f : FeederWorker) (k : HasPassedAll among most may x y first f) (ahead : List ℕ) → Pulls ahead [] [] first
-    → HasFedAll among most may (cut first.cutting.size (ahead ++ k.draws.carries.more)).packets f.feeder f.feeding.items
-worked_feeder among most may x y first f k ahead pulls =
+pub worked_feeder : {B : Type 0} (among : ℕ → Bool) (most : ℕ) (may : ℕ → Bool) (took : List Fed → B → B → Type 0) (x y : SourceEnd) (first : Pulling) (was now : B) (f : FeederWorker) (k : HasPassedAll among most may took x y first was now f) (ahead : List ℕ) → Pulls ahead [] [] first
+    → HasFedAll among most may (cut first.cutting.size (ahead ++ k.draws.carries.more)).packets f.feeder k.feeding
+worked_feeder among most may took x y first was end f k ahead pulls =
     let more = k.draws.carries.more in
     let now : Pulls ahead more k.packets f.puller = k.draws.carries.pulls ahead [] [] pulls in
     let all : (cut first.cutting.size (ahead ++ more)).packets ≡ k.packets = ap (λ size. (cut size (ahead ++ more)).packets) (sym k.draws.carries.size) ∙ (Pulls-done ahead more k.packets f.puller now k.done).packets in
     record {
-      fed = subst (λ (ps : List (List ℕ)). HasFed among most may ps (ended ∷ []) f.feeder f.feeding.items) (sym all) k.fed;
+      fed = subst (λ (ps : List (List ℕ)). HasFed among most may ps (ended ∷ []) f.feeder k.feeding) (sym all) k.fed;
       full = k.full ahead [] [] pulls;
     }
 
@@ -94,7 +94,7 @@ module _ (script : Scripted) (locks : List TableId) (n : ℕ) (feeder : Caller) 
         (λ last. subst (λ (x : Caller). IsSameCaller x d) here.1 (subst (IsSameCaller feeder) last.1 same)) (at_end now g d k there))
         (at_end clients feeder c k at)
 
-  module _ (f : FeederWorker) (w : LeftByThreads) (left : IsLeftByWorkers f new w) (none : (k : ℕ) (v : ClientWorker) → slice_get new k ≡ Some v → v.stop ≡ None) where
+  module _ (f : FeederWorker) (feeding : List Fed) (w : LeftByThreads) (left : IsLeftByWorkers f feeding new w) (none : (k : ℕ) (v : ClientWorker) → slice_get new k ≡ Some v → v.stop ≡ None) where
     -- each client has done its commands
     pub worked_each : (c : ℕ) (client : Caller) (log : List LogEntry) (told : List Outcome) → slice_get w.clients.items c ≡ Some client → slice_get (map (λ (log : Vec ToldEntry Global). map told_entry log.items) w.logs.items) c ≡ Some log → slice_get (map (λ (those : Vec Outcome Global). those.items) w.outcomes.items) c ≡ Some told
         → HasWorked script c may client log told
@@ -105,10 +105,10 @@ module _ (script : Scripted) (locks : List TableId) (n : ℕ) (feeder : Caller) 
         subst (λ (x : Caller). HasWorked script c may x log told) v.2 (subst (λ (x : List LogEntry). HasWorked script c may v.0.client x told) one
         (worked_one may locks script c u.0 v.0 told (begun_works script locks n feeder clients fresh all old b c u.0 u.1 may) u.2 (none c v.0 v.1) (left.each c v.0 told v.1 at_told)))
 
-    pub all_worked : (most : ℕ) (stream : List (List ℕ)) → n ≡ clients_in script → HasFedAll (is_named script.lines) most may stream f.feeder f.feeding.items
+    pub all_worked : (most : ℕ) (stream : List (List ℕ)) → n ≡ clients_in script → HasFedAll (is_named script.lines) most may stream f.feeder feeding
         → AreWorked script (is_named script.lines) most may stream w.feeder w.feeding.items w.clients.items (map (λ (log : Vec ToldEntry Global). map told_entry log.items) w.logs.items) (map (λ (those : Vec Outcome Global). those.items) w.outcomes.items)
     all_worked most stream is fed = record {
-      fed = subst (λ (es : Vec Fed Global). HasFedAll (is_named script.lines) most may stream w.feeder es.items) (sym left.feeding) (subst (λ (x : Caller). HasFedAll (is_named script.lines) most may stream x f.feeding.items) (sym left.feeder) fed);
+      fed = subst (λ (es : List Fed). HasFedAll (is_named script.lines) most may stream w.feeder es) (sym left.feeding) (subst (λ (x : Caller). HasFedAll (is_named script.lines) most may stream x feeding) (sym left.feeder) fed);
       named = λ node is. is;
       clients = ap length left.clients ∙ (length-map new (λ (v : ClientWorker). v.client) ∙ (many ∙ is));
       logs = ap length (books_are w.logs.items new left.logs) ∙ (length-map new log_of ∙ (many ∙ is));

@@ -7,7 +7,7 @@ pub mod Completing
 pub mod Naming
 pub mod Owning
 mod Playing
-pub mod Batches
+pub mod FullBatches
 pub mod Merged
 pub mod SoFar
 pub mod Ended

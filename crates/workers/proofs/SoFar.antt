@@ -5,7 +5,7 @@ use Rattle.std.specs.Prelude.{reverse}
 use Rattle.dmx_calls.specs.Response.{NoMemory}
 use Rattle.workers.proofs.Members.{all_at, steps_tile}
 use Rattle.workers.proofs.Calls.{has_all}
-use Rattle.workers.proofs.Batches.{sizes, total_is, given}
+use Rattle.workers.proofs.FullBatches.{sizes, total_is, given}
 use Rattle.workers.proofs.Feeders.{acts_of}
 use Rattle.workers.proofs.Owning.{Moment, acts_by, called}
 use Rattle.workers.proofs.Merged.{AreWoven, there, stands}

@@ -1,5 +1,5 @@
 -- Why a client has made too many calls.
-use Rattle.workers.proofs.Imports.{◌≡◌, ◌≢◌, inr, refl, sym, ap, subst, ◌∙◌, ℕ, ◌≤◌, Bool, List, [], ◌∷◌, ◌++◌, length, map, Some, arith, All, option_map, SourceEnd, length-map, All-nil, All-cons, All-tail, slice_get-map, TableId, IsPacket, told_entry, LogEntry, DEMUX_NODES, ToldEntry, AreNumbered, clients_in, Scripted, IsTooLong, MOST_CALLS, NoMemory, Pulling, Pulls, OfStream, are_packets, Pulls-done, Pulls-size, Caller, AreFreshCallers, AreAllCallers, HaveHistories, ended, one_value, AreOnNodes, ClientWorker, FeederWorker, log_of, AreFreshWorkers, HaveCome, is_named, IsRunning, ManyCallsAreTooLong, HasCalled, HasPassedAll}
+use Rattle.workers.proofs.Imports.{◌≡◌, ◌≢◌, inr, refl, sym, ap, subst, ◌∙◌, ℕ, ◌≤◌, Bool, List, [], ◌∷◌, ◌++◌, length, map, Some, arith, All, option_map, SourceEnd, length-map, All-nil, All-cons, All-tail, slice_get-map, TableId, IsPacket, told_entry, LogEntry, Fed, DEMUX_NODES, ToldEntry, AreNumbered, clients_in, Scripted, IsTooLong, MOST_CALLS, NoMemory, Pulling, Pulls, OfStream, are_packets, Pulls-done, Pulls-size, Caller, AreFreshCallers, AreAllCallers, HaveHistories, ended, one_value, AreOnNodes, ClientWorker, FeederWorker, log_of, AreFreshWorkers, HaveCome, is_named, IsRunning, ManyCallsAreTooLong, HasCalled, HasPassedAll}
 use Rattle.std.specs.Prelude.{slice_get}
 use Rattle.workers.proofs.Lists.{mapped}
 use Rattle.workers.proofs.Beginning.{begun_works}
@@ -9,7 +9,7 @@ use Rattle.workers.proofs.Leaving.{come_at, many}
 
 module _ (script : Scripted) (locks : List TableId) (n : ℕ) (feeder : Caller) (clients : List Caller) (fresh : AreFreshCallers locks n feeder clients) (all : AreAllCallers locks (clients ++ feeder ∷ []))
     (may : ℕ → Bool) (old new : List ClientWorker) (b : AreFreshWorkers script clients old) (h : HaveCome may locks old new)
-    (most : ℕ) (x y : SourceEnd) (first : Pulling) (f : FeederWorker) (k : HasPassedAll (is_named script.lines) most may x y first f)
+    {B : Type 0} (most : ℕ) (took : List Fed → B → B → Type 0) (x y : SourceEnd) (first : Pulling) (was now : B) (f : FeederWorker) (k : HasPassedAll (is_named script.lines) most may took x y first was now f)
     (found : (i : ℕ) (w : ClientWorker) → slice_get new i ≡ Some w → w.stop ≢ Some NoMemory) (is : n ≡ clients_in script) (numbered : AreNumbered script) (histories : HaveHistories (map (λ (w : ClientWorker). w.client) new ++ f.feeder ∷ [])) where
   now_pulls : (ahead : List ℕ) → Pulls ahead [] [] first → Pulls ahead k.draws.carries.more k.packets f.puller
   now_pulls ahead pulls = k.draws.carries.pulls ahead [] [] pulls
@@ -21,7 +21,7 @@ module _ (script : Scripted) (locks : List TableId) (n : ℕ) (feeder : Caller) 
   told_nodes [] on = All-nil (λ (e : LogEntry). e.node ≤ DEMUX_NODES)
   told_nodes (e ∷ es) on = All-cons (λ (e : LogEntry). e.node ≤ DEMUX_NODES) (told_entry e) (map told_entry es) (on 0 e (omega arith)) (told_nodes es (All-tail (λ (e : ToldEntry). e.node ≤ DEMUX_NODES) e es on))
 
-  running : (ahead : List ℕ) → Pulls ahead [] [] first → IsRunning script (is_named script.lines) most may k.packets (ended ∷ []) f.feeder f.feeding.items (map (λ (w : ClientWorker). w.client) new) (map log_of new)
+  running : (ahead : List ℕ) → Pulls ahead [] [] first → IsRunning script (is_named script.lines) most may k.packets (ended ∷ []) f.feeder k.feeding (map (λ (w : ClientWorker). w.client) new) (map log_of new)
   running ahead pulls = record {
     numbered = numbered;
     are_packets = subst (All IsPacket) (Pulls-done ahead k.draws.carries.more k.packets f.puller (now_pulls ahead pulls) k.done).packets (are_packets f.puller.cutting.size (ahead ++ k.draws.carries.more));
@@ -51,6 +51,6 @@ module _ (script : Scripted) (locks : List TableId) (n : ℕ) (feeder : Caller) 
         k.draws.carries.more,
         k.draws.carries.consumes,
         λ ahead pulls. subst (λ (t : ℕ). IsTooLong script first.start t ahead k.draws.carries.more) (size ∙ sym turns_is)
-            (law script (is_named script.lines) most may k.packets (ended ∷ []) f.feeder f.feeding.items (map (λ (z : ClientWorker). z.client) new) (map log_of new) (running ahead pulls) first.start ahead k.draws.carries.more
+            (law script (is_named script.lines) most may k.packets (ended ∷ []) f.feeder k.feeding (map (λ (z : ClientWorker). z.client) new) (map log_of new) (running ahead pulls) first.start ahead k.draws.carries.more
             (Pulls-size ahead k.draws.carries.more k.packets f.puller (now_pulls ahead pulls)) i (log_of w) (slice_get-map log_of new i ∙ ap (option_map log_of) at) size),
       )

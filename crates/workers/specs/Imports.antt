@@ -26,11 +26,10 @@ pub use Rattle.dmx_calls.specs.Calls.{response_of, told_entry}
 pub use Rattle.dmx_calls.specs.Histories.{feeder_acts, feeder_entry}
 pub use Rattle.dmx_calls.specs.History.{Entry, entry_of}
 pub use Rattle.dmx_calls.specs.Invocation.{Pass}
-pub use Rattle.dmx_calls.specs.Log.{IsFrom, LogEntry, Sources, act_of, filled_entry}
+pub use Rattle.dmx_calls.specs.Log.{Act, IsFrom, LogEntry, Sources, act_of, filled_entry}
 pub use Rattle.dmx_calls.specs.Response.{Passed, Response}
 pub use Rattle.dmx_calls.specs.declared.histories.Fed.{Fed}
 pub use Rattle.dmx_calls.specs.declared.limits.TheConstants.{DEMUX_NODES}
-pub use Rattle.dmx_calls.specs.declared.log.Act.{Act}
 pub use Rattle.dmx_calls.specs.declared.outcome.Outcome.{Outcome}
 pub use Rattle.dmx_calls.specs.declared.params.Input.{Input}
 pub use Rattle.dmx_calls.specs.declared.params.Input.TheVariants.{Frontend}
@@ -42,6 +41,7 @@ pub use Rattle.node_lock.specs.declared.view.View.{View}
 pub use Rattle.script_run.specs.Budget.{IsTooLong, all_commands, bytes_written, most_calls}
 pub use Rattle.script_run.specs.IsRun.{AreAsked, AreInOrder, Batch, InTurn, StandsIn, Step, replies, sources, steps_of}
 pub use Rattle.script_run.specs.WholeRun.{AreFull, IsGiven, IsWholeRun}
+pub use Rattle.std.proofs.lemmas.List.{append-nil, append_assoc}
 pub use Rattle.std.specs.Io.KnownBytes.{IsAtEnd}
 pub use Rattle.std.specs.List.{list_any}
 pub use Rattle.ts_packet.specs.Cut.{cut}

@@ -80,7 +80,7 @@ impl ClientWorker {
         let Event { step, node, want } = event;
         let call = call_of(alloc, &self.core, &want, now)?;
         let asked = Act::of(&call);
-        let act = KeptAct::of(alloc, asked)?;
+        let act = KeptAct::keep(alloc, asked)?;
         let (place, answer) = self.client.call(rt, adapter, node, call, steps);
         let kept = kept_of(alloc, self.log.last(), answer)?;
         self.core.take(kept.told());

@@ -3,6 +3,7 @@ ghost use Rattle.std.specs.Prelude.{◌≡◌, ◌≢◌, true, false, ℕ, ◌+
 ghost use Rattle.workers.specs.Imports.{Draws, IsDone, IsSameCaller, NoMemory as WantOfMemory, Pulling, SourceEnd, TooMany, is_in};
 ghost use Rattle.workers.specs.Inside.FeederWork.{IsFitFeeder, LeavesOthers, MayPass, HasPassed, HasFedToEnd};
 
+use crate::batches::Batches;
 use adapter::{Adapter, Feeder};
 use client_core::Stop;
 use dmx_calls::Fed;
@@ -12,33 +13,33 @@ use feed_pull::{PullFault, Puller};
 use machine::steps::Steps;
 use std::alloc::AllocError as NoMemory;
 use std::marker::Brand;
+use std::sync::Wait;
 use std::sync::ledger::{Blank, Ledger};
-use std::sync::{Arc, Wait};
-use ts_batch::Batch;
 
 // The caller number of the feeder.
 const FEEDER: u32 = 0;
 
-/// The feeder with the stream that it passes, its batches so far, and why it stopped, if it did.
+/// The feeder with the stream that it passes, how many batches have passed, and why it stopped, if it did.
 #[derive(Drop)]
 pub struct FeederWorker {
     /// The feeder of the adapter.
     pub feeder: Feeder,
     /// What cuts the stream into batches.
     pub puller: Puller,
-    /// The batches that it has passed, in their order.
-    pub feeding: Vec<Fed>,
+    /// How many batches have passed.
+    pub count: u64,
     /// Why it has stopped before the stream's end, if it has.
     pub stop: Option<Stop>,
 }
 
 impl FeederWorker {
-    // The next batch passes these nodes, at a moment of the clock, and is kept among the batches; or none is left.
-    fn turn<S: Source, L: Ledger, R: Wait, C: Clock, G: Gate>(
+    // The next batch passes these nodes, at a moment of the clock, and is told; or none is left.
+    fn turn<S: Source, B: Batches, L: Ledger, R: Wait, C: Clock, G: Gate>(
         &mut self,
         rt: &R,
         adapter: &Adapter,
         source: &mut S,
+        batches: &mut B,
         most: u32,
         nodes: &[bool; NODES as usize],
         clock: &C,
@@ -50,13 +51,12 @@ impl FeederWorker {
         ensures same { IsSameCaller self.old.feeder self.new.feeder }
         ensures others { LeavesOthers (is_in nodes.now) self.old.feeder.passes self.new.feeder.passes }
         ensures draws { (packets : List (List ℕ)) × Draws (S.end source.old) (S.end source.new) self.old.puller self.new.puller packets }
-        ensures passed { OnOk result ((before : SourceEnd) (first : Pulling) → HasPassed (is_in nodes.now) most (C.may_give clock.now) before (S.end source.old) first self.old
-            → HasPassed (is_in nodes.now) most (C.may_give clock.now) before (S.end source.new) first self.new) }
+        ensures passed { OnOk result ((before : SourceEnd) (first : Pulling) (was : B) → HasPassed (is_in nodes.now) most (C.may_give clock.now) B.took before (S.end source.old) first was batches.old self.old
+            → HasPassed (is_in nodes.now) most (C.may_give clock.now) B.took before (S.end source.new) first was batches.new self.new) }
         ensures done { IfOk result (λ some. some ≡ false → IsDone self.new.puller) }
         ensures rises { IfOk result (λ some. some ≡ true → self.old.puller.given < self.new.puller.given) }
     {
-        gate.at(FEEDER, self.feeding.len() as u64);
-        self.feeding.reserve(1)?;
+        gate.at(FEEDER, self.count);
         let Some(batch) = self.puller.pull(source, most)? else {
             return Ok(false);
         };
@@ -66,17 +66,20 @@ impl FeederWorker {
             count: batch.count(),
             now,
         };
-        self.feeder.feed(rt, adapter, nodes, batch, now, steps);
-        self.feeding.push_reserved(fed);
+        batches.begin(&batch);
+        let places = self.feeder.feed(rt, adapter, nodes, batch, now, steps);
+        batches.take(fed, &places)?;
+        self.count += 1;
         Ok(true)
     }
 
     // The whole stream passes, batch by batch.
-    fn pass_all<S: Source, L: Ledger, R: Wait, C: Clock, G: Gate>(
+    fn pass_all<S: Source, B: Batches, L: Ledger, R: Wait, C: Clock, G: Gate>(
         &mut self,
         rt: &R,
         adapter: &Adapter,
         source: &mut S,
+        batches: &mut B,
         most: u32,
         nodes: &[bool; NODES as usize],
         clock: &C,
@@ -88,11 +91,13 @@ impl FeederWorker {
         ensures same { IsSameCaller self.old.feeder self.new.feeder }
         ensures others { LeavesOthers (is_in nodes.now) self.old.feeder.passes self.new.feeder.passes }
         ensures draws { (packets : List (List ℕ)) × Draws (S.end source.old) (S.end source.new) self.old.puller self.new.puller packets }
-        ensures passed { OnOk result ((before : SourceEnd) (first : Pulling) → HasPassed (is_in nodes.now) most (C.may_give clock.now) before (S.end source.old) first self.old
-            → HasPassed (is_in nodes.now) most (C.may_give clock.now) before (S.end source.new) first self.new) }
+        ensures passed { OnOk result ((before : SourceEnd) (first : Pulling) (was : B) → HasPassed (is_in nodes.now) most (C.may_give clock.now) B.took before (S.end source.old) first was batches.old self.old
+            → HasPassed (is_in nodes.now) most (C.may_give clock.now) B.took before (S.end source.new) first was batches.new self.new) }
         ensures done { OnOk result (IsDone self.new.puller) }
     {
-        'batches: while self.turn(rt, adapter, source, most, nodes, clock, gate, steps)? {}
+        'batches: while self.turn(
+            rt, adapter, source, batches, most, nodes, clock, gate, steps,
+        )? {}
         Ok(())
     }
 
@@ -113,11 +118,12 @@ impl FeederWorker {
 
     // The stream passes and then its end, with a counter of steps of its own. The end passes too where memory was refused,
     // so that clients which wait for bytes go on.
-    fn work_counted<S: Source, L: Ledger, R: Wait, C: Clock, G: Gate>(
+    fn work_counted<S: Source, B: Batches, L: Ledger, R: Wait, C: Clock, G: Gate>(
         &mut self,
         rt: &R,
         adapter: &Adapter,
         source: &mut S,
+        batches: &mut B,
         most: u32,
         nodes: &[bool; NODES as usize],
         clock: &C,
@@ -126,54 +132,47 @@ impl FeederWorker {
     )
         requires ledger { (blank.name ≡ L.name) × (blank.parts ≡ L.parts) × (0 < L.parts) }
         requires may { MayPass most (S.end source.old).faults adapter.now self.old }
-        requires begun { HasPassed (is_in nodes.now) most (C.may_give clock.now) (S.end source.old) (S.end source.old) self.old.puller self.old }
-        ensures { HasFedToEnd (is_in nodes.now) most (C.may_give clock.now) (S.end source.old) (S.end source.new) self.old self.new }
+        requires begun { HasPassed (is_in nodes.now) most (C.may_give clock.now) B.took (S.end source.old) (S.end source.old) self.old.puller batches.old batches.old self.old }
+        ensures { HasFedToEnd (is_in nodes.now) most (C.may_give clock.now) B.took (S.end source.old) (S.end source.new) batches.old batches.new self.old self.new }
     {
         let mut steps: Steps<L> = Steps::new(blank);
-        let passed = self.pass_all(rt, adapter, source, most, nodes, clock, gate, &mut steps);
-        self.feeder.end(rt, adapter, nodes, &mut steps);
-        gate.at(FEEDER, self.feeding.len() as u64 + 1);
+        let passed = self.pass_all(
+            rt, adapter, source, batches, most, nodes, clock, gate, &mut steps,
+        );
+        let places = self.feeder.end(rt, adapter, nodes, &mut steps);
+        batches.finish(&places);
+        gate.at(FEEDER, self.count.saturating_add(1));
         self.stop = self.stop_of(passed);
     }
 
     /// Passes the stream through these nodes in batches of so many packets, the last one with what is left, and then its end.
-    /// Where memory is refused the end passes all the same: whatever stops the feeder, its last call on each of them is End.
-    pub fn work<S: Source, R: Wait, C: Clock, G: Gate>(
+    /// Each batch is told as it passes. Before each batch, and once more behind the end, it calls the gate as caller 0. Where
+    /// memory is refused the end passes all the same: whatever stops the feeder, its last call on each of them is End.
+    pub fn work<S: Source, B: Batches, R: Wait, C: Clock, G: Gate>(
         &mut self,
         rt: &R,
         adapter: &Adapter,
         source: &mut S,
+        batches: &mut B,
         most: u32,
         nodes: &[bool; NODES as usize],
         clock: &C,
         gate: &G,
     )
         requires may { MayPass most (S.end source.old).faults adapter.now self.old }
-        requires begun { HasPassed (is_in nodes.now) most (C.may_give clock.now) (S.end source.old) (S.end source.old) self.old.puller self.old }
-        ensures { HasFedToEnd (is_in nodes.now) most (C.may_give clock.now) (S.end source.old) (S.end source.new) self.old self.new }
+        requires begun { HasPassed (is_in nodes.now) most (C.may_give clock.now) B.took (S.end source.old) (S.end source.old) self.old.puller batches.old batches.old self.old }
+        ensures { HasFedToEnd (is_in nodes.now) most (C.may_give clock.now) B.took (S.end source.old) (S.end source.new) batches.old batches.new self.old self.new }
     {
-        self.work_counted::<S, Brand, R, C, G>(
+        self.work_counted::<S, B, Brand, R, C, G>(
             rt,
             adapter,
             source,
+            batches,
             most,
             nodes,
             clock,
             gate,
             Blank::new(1),
         )
-    }
-
-    /// The feeder, and the batches that it has passed.
-    pub fn into_parts(self) -> (Feeder, Vec<Fed>)
-        ensures feeder { result.0 ≡ self.feeder }
-        ensures feeding { result.1 ≡ self.feeding }
-    {
-        let FeederWorker {
-            feeder,
-            feeding,
-            ..
-        } = self;
-        (feeder, feeding)
     }
 }

@@ -20,6 +20,7 @@
 //! most 64 packets, 549,755,813,888 calls of a client. The work of threads is this project's own.
 #![tactic(auto)]
 
+mod batches;
 mod client_worker;
 mod clients;
 mod ending;
@@ -31,6 +32,7 @@ mod run;
 pub mod script_nodes;
 mod threads;
 
+pub use batches::Batches;
 pub use ending::histories_of_run;
 pub use feeder_worker::FeederWorker;
 pub use laws::{

@@ -13,6 +13,7 @@ use crate::threads::work_all;
 use adapter::{Adapter, Client, Feeder};
 use client_core::Stop;
 use client_script::Script;
+use dmx_calls::Fed;
 use emu_io::{Clock, Gate, Source};
 use feed_pull::Puller;
 use std::alloc::{AllocError as NoMemory, Global};
@@ -59,10 +60,11 @@ fn gather(
 fn left_by(
     alloc: Global,
     feeder: FeederWorker,
+    feeding: Vec<Fed>,
     clients: Vec<ClientWorker>,
 ) -> Result<LeftByThreads, NoMemory>
     requires { IsDone feeder.puller }
-    ensures { IfOk result (IsLeftByWorkers feeder clients.items) }
+    ensures { IfOk result (IsLeftByWorkers feeder feeding.items clients.items) }
 {
     let head = feeder.puller.head(alloc)?;
     let ClientsLeft {
@@ -70,13 +72,12 @@ fn left_by(
         logs,
         outcomes,
     } = left_by_clients(alloc, clients)?;
-    let (feeder, feeding) = feeder.into_parts();
     Ok(LeftByThreads {
         feeding,
         logs,
         outcomes,
         head,
-        feeder,
+        feeder: feeder.feeder,
         clients,
     })
 }
@@ -137,15 +138,17 @@ pub fn work<R: Threads + Wait + Sync, S: Source + Send, C: Clock + Sync, G: Gate
     let mut feeder = FeederWorker {
         feeder,
         puller,
-        feeding: Vec::new(alloc),
+        count: 0,
         stop: None,
     };
+    let mut feeding = Vec::new(alloc);
     let mut workers = workers_of(alloc, clients, script)?;
     work_all(
         rt,
         alloc,
         adapter,
         &mut feeder,
+        &mut feeding,
         &mut workers,
         source,
         batch,
@@ -154,7 +157,7 @@ pub fn work<R: Threads + Wait + Sync, S: Source + Send, C: Clock + Sync, G: Gate
         gate,
     );
     match stop_of(feeder.stop, &workers) {
-        None => Ok(left_by(alloc, feeder, workers)?),
+        None => Ok(left_by(alloc, feeder, feeding, workers)?),
         Some(stop) => {
             gather(alloc, adapter, feeder, workers)?;
             Err(stop)

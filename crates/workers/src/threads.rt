@@ -5,6 +5,7 @@ ghost use Rattle.workers.specs.Inside.Begun.{HaveCome};
 ghost use Rattle.workers.specs.Inside.FeederWork.{MayPass, HasPassed, HasFedToEnd};
 ghost use Rattle.workers.specs.Inside.Working.{MayWork, HasCome};
 
+use crate::batches::Batches;
 use crate::client_worker::ClientWorker;
 use crate::feeder_worker::FeederWorker;
 use adapter::Adapter;
@@ -37,11 +38,18 @@ fn work_each<R: Threads + Wait + Sync, C: Clock + Sync, G: Gate + Sync>(
 
 /// The feeder at work in this thread, and each of the clients in another. Where no thread can be made for them, they come behind
 /// the feeder, so that none of them waits for what nobody passes.
-pub fn work_all<R: Threads + Wait + Sync, S: Source + Send, C: Clock + Sync, G: Gate + Sync>(
+pub fn work_all<
+    R: Threads + Wait + Sync,
+    S: Source + Send,
+    B: Batches + Send,
+    C: Clock + Sync,
+    G: Gate + Sync,
+>(
     rt: &R,
     alloc: Global,
     adapter: &Adapter,
     feeder: &mut FeederWorker,
+    batches: &mut B,
     clients: &mut Vec<ClientWorker>,
     source: &mut S,
     batch: u32,
@@ -50,16 +58,16 @@ pub fn work_all<R: Threads + Wait + Sync, S: Source + Send, C: Clock + Sync, G: 
     gate: &G,
 )
     requires feeder { MayPass batch (S.end source.old).faults adapter.now feeder.old }
-    requires begun { HasPassed (is_in nodes.now) batch (C.may_give clock.now) (S.end source.old) (S.end source.old) feeder.old.puller feeder.old }
+    requires begun { HasPassed (is_in nodes.now) batch (C.may_give clock.now) B.took (S.end source.old) (S.end source.old) feeder.old.puller batches.old batches.old feeder.old }
     requires clients { All (λ w. MayWork adapter.now w) clients.old.items }
-    ensures feeder { HasFedToEnd (is_in nodes.now) batch (C.may_give clock.now) (S.end source.old) (S.end source.new) feeder.old feeder.new }
+    ensures feeder { HasFedToEnd (is_in nodes.now) batch (C.may_give clock.now) B.took (S.end source.old) (S.end source.new) batches.old batches.new feeder.old feeder.new }
     ensures clients { HaveCome (C.may_give clock.now) adapter.now clients.old.items clients.new.items }
 {
     let mut first = ||
         requires may { MayPass batch (S.end source.now).faults adapter.now feeder.now }
-        requires begun { HasPassed (is_in nodes.now) batch (C.may_give clock.now) (S.end source.now) (S.end source.now) feeder.now.puller feeder.now }
-        ensures { HasFedToEnd (is_in nodes.entry.now) batch (C.may_give clock.entry.now) (S.end source.entry.now) (S.end source.exit.now) feeder.entry.now feeder.exit.now }
-    { feeder.work(rt, adapter, source, batch, nodes, clock, gate) };
+        requires begun { HasPassed (is_in nodes.now) batch (C.may_give clock.now) B.took (S.end source.now) (S.end source.now) feeder.now.puller batches.now batches.now feeder.now }
+        ensures { HasFedToEnd (is_in nodes.entry.now) batch (C.may_give clock.entry.now) B.took (S.end source.entry.now) (S.end source.exit.now) batches.entry.now batches.exit.now feeder.entry.now feeder.exit.now }
+    { feeder.work(rt, adapter, source, batches, batch, nodes, clock, gate) };
     let mut others = ||
         requires { IsSync R.row × IsSync C.row × IsSync G.row × All (λ w. MayWork adapter.now w) clients.now.items }
         ensures { HaveCome (C.may_give clock.entry.now) adapter.entry.now clients.entry.now.items clients.exit.now.items }

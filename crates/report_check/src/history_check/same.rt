@@ -2,19 +2,7 @@
 ghost use Rattle.std.specs.Prelude.{◌≡◌, ◌≢◌, true, false};
 ghost use Rattle.dmx_calls.specs.Calls.{response_of};
 
-use dmx_calls::{LogReply, LogTap, Reply, Tap, TapPids};
-use pid_set::{KeptPids, Pids};
-
-// Whether two sets are the same.
-fn is_same_set(this: &TapPids, other: &KeptPids) -> bool
-    ensures same { result ≡ true → this.now ≡ other.now }
-    ensures differs { result ≡ false → this.now ≢ other.now }
-{
-    let fits = this.len() <= 128;
-    prove!(fits);
-    let wide: Pids = this.fitted();
-    wide == other.set()
-}
+use dmx_calls::{LogReply, LogTap, Reply, Tap};
 
 // Whether two taps are the same.
 fn is_same_tap(this: &Tap, other: &LogTap) -> bool
@@ -23,7 +11,7 @@ fn is_same_tap(this: &Tap, other: &LogTap) -> bool
 {
     match this {
         Tap::Keep => matches!(other, Tap::Keep),
-        Tap::Attach(pids) => matches!(other, Tap::Attach(p) if is_same_set(pids, p)),
+        Tap::Attach(pids) => matches!(other, Tap::Attach(p) if pids.widened() == p.set()),
         Tap::Detach => matches!(other, Tap::Detach),
     }
 }

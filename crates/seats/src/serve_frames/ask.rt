@@ -106,13 +106,13 @@ fn asked(verb: u32, node: u32, number: u32, len: u32, argument: &[u8]) -> Ask
 }
 
 impl Ask {
-    /// What these bytes ask: verb, node, number and length in four bytes each, the lowest first, and an argument of 60 bytes of which
-    /// the first `length` count.
+    /// What these bytes ask: verb, node, number and length in four bytes each, the lowest first, and an argument of 60 bytes of
+    /// which the first `length` count.
     ///
-    /// A read's number is its count, and asks for no more than 65,536 bytes. Where a verb wants a node, one above 32 is refused with
-    /// EBADF; an unknown verb and a length above 60 with EINVAL; an ioctl that `dmx_abi` doesn't know with ENOTTY, and with EINVAL
-    /// where its argument has another length, its input or its output is none, or it asks for a system time counter, which no node
-    /// has.
+    /// A read's number is its count, and asks for no more than 65,536 bytes. Where a verb wants a node, one above 32 is refused
+    /// with EBADF; an unknown verb and a length above 60 with EINVAL; an ioctl that `dmx_abi` doesn't know with ENOTTY, and with
+    /// EINVAL where its argument has another length, its input or its output is none, or it asks for a system time counter, which
+    /// no node has.
     pub fn of(bytes: &[u8; REQUEST_LEN]) -> Ask
         ensures value { result ≡ ask_by bytes.now }
         ensures range { IsAskInRange result }

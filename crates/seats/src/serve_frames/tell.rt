@@ -18,8 +18,8 @@ pub type ReplyHead = ArrayVec<u8, 24>;
 pub struct Tell {
     /// 0, or the number of an error of Linux.
     pub code: u32,
-    /// The node of an open. Of a poll, and of a read that finds nothing: 1 where something is there to be read, 2 where an overflow
-    /// is pending or 4 where a timeout is, and 8 where the stream has ended, together.
+    /// The node of an open. Of a poll, and of a read that finds nothing: 1 where something is there to be read, 2 where an
+    /// overflow is pending or 4 where a timeout is, and 8 where the stream has ended, together.
     pub value: u32,
     /// The place of the call in its node's history, or `NO_PLACE` where none was made.
     pub place: u64,

@@ -1,5 +1,5 @@
-//! Reads and writes that fail, on one thread and by threads, and where a report is checked: worked out by hand from the rules of the
-//! statuses.
+//! Reads and writes that fail, on one thread and by threads, and where a report is checked: worked out by hand from the rules of
+//! the statuses.
 use super::ends::{FIRST, Part, TestEnds, input_of, told};
 use super::report_lines::text_of;
 use client_script::{FaultKind, FaultyWord, ScriptFault, WantedWord};

@@ -5,10 +5,10 @@ use super::ends::{Part, input_of};
 use super::lines::MemLine;
 use super::report_lines::reply_to;
 use emu_io::{FixedClock, MemSink, MemSource, NoGate};
-use seats::JournalLine;
+use seats::{Forgotten, JournalLine};
 use serve_top::{Handed, NoReport, WrittenLines, serve, serve_to, write_head};
 use std::alloc::Global;
-use std::sync::Wait;
+use std::sync::{Arc, Wait};
 use std::thread::Threads;
 
 // A packet of PID 1.
@@ -84,7 +84,17 @@ fn is_reported<R: Threads + Wait + Sync>(rt: &R, alloc: Global, row: &JournalRow
     let mut source = MemSource::new(input, 1000, Vec::new(alloc));
     let mut sink = MemSink::new(alloc, row.room, 100, Vec::new(alloc)).ok()?;
     let (clock, gate) = (FixedClock::new(7), NoGate::new());
-    let ended = serve(rt, alloc, &mut source, lines, &mut sink, &clock, &gate);
+    let ears = Arc::new(alloc, Forgotten).ok()?;
+    let ended = serve(
+        rt,
+        alloc,
+        &mut source,
+        lines,
+        &mut sink,
+        &ears,
+        &clock,
+        &gate,
+    );
     let report = sink.bytes();
     Some(ended == row.ended && is_like(report, row.report) && has_calls(report, row.calls))
 }

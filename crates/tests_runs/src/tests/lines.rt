@@ -5,14 +5,13 @@ ghost use Rattle.std.specs.Io.KnownBytes.{ReadConsumes, WriteAppends};
 ghost use Rattle.emu_io.specs.Causes.{HasCause};
 ghost use Rattle.adapter.specs.Callers.{AreFreshCallers};
 ghost use Rattle.adapter.specs.Rows.{Fits};
-ghost use Rattle.seats.specs.Handed.{IsReadyToHand};
-ghost use Rattle.seats.specs.Seated.{IsReady};
+ghost use Rattle.seats.specs.Served.{IsReadyToHand};
 
 use super::ends::CountingClock;
 use adapter::{Adapter, Client, Feeder};
 use dmx_calls::{Act, Entry};
 use emu_io::{Failed, MemSink, MemSource, Sink, Source};
-use seats::{Book, Desk, Seat, desks_of};
+use seats::{Desk, JournalLine, KeptJournal, Seat, desks_of};
 use std::alloc::Global;
 use std::sync::atomic::AtomicU64;
 use std::sync::atomic::Ordering::SeqCst;
@@ -29,8 +28,7 @@ pub fn one_seat(
     clients: Vec<Client>,
 ) -> Option<Seat>
     requires { AreFreshCallers adapter.now 1 feeder.now clients.items }
-    ensures ready { IfSome result (IsReady adapter.now) }
-    ensures hand { IfSome result (IsReadyToHand adapter.now) }
+    ensures ready { IfSome result (IsReadyToHand adapter.now) }
     ensures feeder { Fits adapter.now feeder.now.passes × (feeder.now.left ≡ 2 ^ 44) }
 {
     let mut lines = Vec::new(alloc);
@@ -181,16 +179,17 @@ fn are_made(log: &[Entry], calls: &[Step]) -> bool {
 
 // Whether the one seat of a new adapter does what a row says where so many bytes come. None where memory is wanting.
 fn is_so<R: Wait>(rt: &R, alloc: Global, row: &LineRow, come: usize) -> Option<bool> {
-    let mut line = MemLine::new(alloc, row.asked, come, row.room)?;
+    let line = MemLine::new(alloc, row.asked, come, row.room)?;
     let clock = CountingClock {
         count: line.passed.clone().ok()?,
         is_backwards: false,
     };
     let (adapter, feeder, clients) = Adapter::new(alloc, 1).ok()?;
     let mut seat = one_seat(&adapter, &feeder, alloc, clients)?;
-    seat.sit(rt, alloc, &adapter, &mut line, &clock);
-    let Book { log, .. } = seat.into_book(alloc).ok()?;
-    Some(are_replies(line.to.bytes(), row.written) && are_made(&log, row.calls))
+    let journal = KeptJournal::new(alloc);
+    let mut at = JournalLine { line, journal };
+    seat.sit(rt, alloc, &adapter, &mut at, &clock);
+    Some(are_replies(at.line.to.bytes(), row.written) && are_made(&at.journal.log, row.calls))
 }
 
 #[test]

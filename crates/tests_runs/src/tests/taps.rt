@@ -1,5 +1,5 @@
-//! What the dvr node records after each attach and detach, also by those that no request makes: of several PIDs, of another client's
-//! demux node, of a node that there isn't. Worked out by hand from the rules.
+//! What the dvr node records after each attach and detach, also by those that no request makes: of several PIDs, of another
+//! client's demux node, of a node that there isn't. Worked out by hand from the rules.
 ghost use Rattle.std.specs.Prelude.{◌≡◌, ◌<◌};
 ghost use Rattle.dvr_core.specs.Examples.{ThreeOf64, EachOnce, All64, NoLook};
 

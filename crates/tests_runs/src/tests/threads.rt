@@ -1,5 +1,5 @@
-//! Runs by threads: what the order of their calls may be, moments that go on or back, gates that hold one thread until another has come
-//! to a step, and the session of a number.
+//! Runs by threads: what the order of their calls may be, moments that go on or back, gates that hold one thread until another
+//! has come to a step, and the session of a number.
 use super::ends::{CountingClock, FIRST, Part, SECOND, TestEnds, input_of, told};
 use super::gates::{Hold, HoldingGate};
 use super::report_lines::{reply_to, text_of};

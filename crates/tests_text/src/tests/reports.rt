@@ -94,7 +94,7 @@ fn read_of(alloc: Global, place: u64) -> Result<Entry, NoMemory> {
         step: place,
         node: 0,
         who: 1,
-        act: KeptAct::of(alloc, act)?,
+        act: KeptAct::keep(alloc, act)?,
         reply: SharedReply::of(alloc, None, Reply::Data(buf))?,
     })
 }

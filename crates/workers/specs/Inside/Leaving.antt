@@ -1,6 +1,6 @@
 -- How workers that came to their end are left.
 use Rattle.std.specs.Prelude.{◌≡◌, ◌≢◌, ◌⊎◌, ◌++◌, ℕ, List, length, map, slice_get, Option, Some, None}
-use Rattle.workers.specs.Imports.{NoMemory, Outcome, Pulls, Stop, has_failed, head_of, told_head}
+use Rattle.workers.specs.Imports.{Fed, NoMemory, Outcome, Pulls, Stop, has_failed, head_of, told_head}
 use Rattle.workers.specs.declared.client_worker.ClientWorker.{ClientWorker}
 use Rattle.workers.specs.declared.feeder_worker.FeederWorker.{FeederWorker}
 use Rattle.workers.specs.declared.left.LeftByThreads.{LeftByThreads}
@@ -21,9 +21,9 @@ pub record StopsBy (feeder : Option Stop) (clients : List ClientWorker) (stop : 
   pub one : (stop ≡ feeder) ⊎ ((k : ℕ) × (w : ClientWorker) × (slice_get clients k ≡ Some w) × (stop ≡ w.stop))
 
 -- the feeder with its batches and the stream's head, and the clients with their logs and outcomes
-pub record IsLeftByWorkers (f : FeederWorker) (workers : List ClientWorker) (left : LeftByThreads) : Type 0 where
+pub record IsLeftByWorkers (f : FeederWorker) (batches : List Fed) (workers : List ClientWorker) (left : LeftByThreads) : Type 0 where
   pub feeder : left.feeder ≡ f.feeder
-  pub feeding : left.feeding ≡ f.feeding
+  pub feeding : left.feeding.items ≡ batches
   pub head : (ahead taken : List ℕ) (given : List (List ℕ)) → Pulls ahead taken given f.puller
       → told_head left.head ≡ head_of f.puller.cutting.size (ahead ++ taken) left.head.read_fault
   pub fault : left.head.read_fault ≡ has_failed f.puller.reading

@@ -1,58 +1,7 @@
-use Rattle.serve_top.proofs.Imports.{◌≡◌, ◌∙◌, Result, Err, Some, ap, sym, arith, refl, subst, Caller, IsSameCaller, Failed, TooLong, no_stop}
-use Rattle.serve_top.proofs.Handover.{desks_ready, still_callers, has_served}
-use Rattle.serve_top.proofs.PassedOn.{begun_fit, begun_passed}
-use Rattle.serve_top.proofs.Reporting.{counted}
-use Rattle.serve_top.proofs.Streaming.{too_often}
 use Rattle.serve_top.proofs.journals.serve_to.Goals as goal
 
--- two errors of one result
-same_err : {T E : Type 0} (a b : E) (r : Result T E) → r ≡ Err a → r ≡ Err b → a ≡ b
-same_err a b r is so = let both = sym is ∙ so in cc
-
-pub desks_of-requires-clause-few : goal.desks_of-requires-clause-few
-desks_of-requires-clause-few g c = let long = c.in_ok-adapter.ensures.fresh.long in let few = c.requires.few in let n = c.len.ensures in omega (arith, long, few, n)
-
-pub desks_of-requires-clause-lines : goal.desks_of-requires-clause-lines
-desks_of-requires-clause-lines g c = let long = c.in_ok-adapter.ensures.fresh.long in let few = c.requires.few in let n = c.len.ensures in omega (arith, long, few, n)
-
-pub sit_and_pass-requires-clause-passing : goal.sit_and_pass-requires-clause-passing
-sit_and_pass-requires-clause-passing g c κs within =
-    let a = c.in_ok-adapter in
-    record { faults = λ going. c.requires.faults; fit = begun_fit a.adapter _ a.feeder a.clients.items a.ensures.fresh a.ensures.all c.in_ok-passing.passing c.in_ok-passing.ensures }
-
-pub sit_and_pass-requires-clause-begun : goal.sit_and_pass-requires-clause-begun
-sit_and_pass-requires-clause-begun g c κs within =
-    let a = c.in_ok-adapter in
-    begun_passed a.adapter _ a.feeder a.clients.items a.ensures.fresh a.ensures.all c.in_ok-passing.passing c.in_ok-passing.ensures _ _ g.B.Batches.took _ _ ((g.met.B.Batches g.world.𝓛 g.world.𝓜 g.world.𝓡 ((λ s x. x), (λ x. x), (λ x. x), λ x. x)).took_none _)
-
-pub sit_and_pass-requires-clause-desks : goal.sit_and_pass-requires-clause-desks
-sit_and_pass-requires-clause-desks g c κs within =
-    let a = c.in_ok-adapter in
-    desks_ready a.adapter a.clients.items c.in_ok-desks.desks.items (c.in_ok-desks.ensures.ready a.adapter a.feeder (counted a.adapter _ a.feeder a.clients.items a.ensures.fresh))
-
-pub handed_by-requires-clause-done : goal.handed_by-requires-clause-done
-handed_by-requires-clause-done g c = (c.sit_and_pass.ensures.passing.all (no_stop _ c.in_default.is)).done
-
-pub handed_by-requires-clause-all : goal.handed_by-requires-clause-all
-handed_by-requires-clause-all g c =
-    let a = c.in_ok-adapter in let e = c.sit_and_pass.ensures in
-    still_callers g.T.Source.end g.T.Sink.end (g.C.Clock.may_give c.args.clock.now) g.J.Journal.took a.adapter _ a.feeder a.clients.items a.ensures.fresh a.ensures.all c.in_ok-desks.desks.items c.sit_and_pass.new.desks.items
-    (c.in_ok-desks.ensures.ready a.adapter a.feeder (counted a.adapter _ a.feeder a.clients.items a.ensures.fresh)) e.desks
-    c.sit_and_pass.new.passing.feeder (subst (λ (f : Caller). IsSameCaller f c.sit_and_pass.new.passing.feeder) c.in_ok-passing.ensures.caller e.passing.same)
-
-pub returns-in-Some-clause-reads : goal.returns-in-Some-clause-reads
-returns-in-Some-clause-reads g c h =
-    let e = c.sit_and_pass.ensures.passing in let p = c.in_ok-passing.ensures in
-    let long = c.no_report.ensures.too_long (same_err c.no_report.result TooLong _ refl h) in
-    too_often _ _ c.in_ok-passing.passing.puller c.sit_and_pass.new.passing.puller e.draws.0 e.draws.1 p.pulls p.start (e.too_long long.0 (c.in-Some.is ∙ ap Some long.1))
-
-pub returns-in-Some-clause-failed : goal.returns-in-Some-clause-failed
-returns-in-Some-clause-failed g c h = let same : c.no_report.result ≡ Failed = cc in absurd (c.no_report.ensures.failed same)
+pub gather-requires : goal.gather-requires
+gather-requires g c = record { all = c.in_ok-adapter.ensures.all }
 
 pub returns-clause-served : goal.returns-clause-served
-returns-clause-served g c =
-    let a = c.in_ok-adapter in let e = c.sit_and_pass.ensures in
-    has_served g.T.Source.end g.T.Sink.end (g.C.Clock.may_give c.args.clock.now) g.J.Journal.took a.adapter _ a.feeder a.clients.items a.ensures.fresh a.ensures.all c.in_ok-desks.desks.items c.sit_and_pass.new.desks.items
-    (c.in_ok-desks.ensures.ready a.adapter a.feeder (counted a.adapter _ a.feeder a.clients.items a.ensures.fresh)) e.desks
-    g.B.Batches.took c.args.lines.items c.in_ok-desks.ensures.lines _ _ c.args.batches.now c.sit_and_pass.new.batches c.in_ok-passing.passing c.sit_and_pass.new.passing c.in_ok-passing.ensures
-    _ refl e.passing c.in_default.is (e.passing.all (no_stop _ c.in_default.is)) c.in_ok-handed_by.field-0 c.in_ok-handed_by.ensures.left c.in_ok-handed_by.ensures.histories
+returns-clause-served g c = record { feeder = _; clients = _; served = c.in_ok-adapter.ensures.served; histories = c.gather.ensures.histories }

@@ -1,10 +1,15 @@
-use Rattle.workers.proofs.Imports.{rules, ◌≡◌, ◌≢◌, ◌≤◌, ◌+◌, ◌^◌, length, ◌++◌, inl, ⊎_elim, [], None, Some, refl, ap, ◌∙◌, slice_index_or, slice_get-get_or, IsTooLong, head_of, NoMemory, TooLong, IsLeftByWorkers, StopsBy, draws_none, on_err, many_reads, of_stream, is_in, is_named}
+use Rattle.workers.proofs.Imports.{rules, ◌≡◌, ◌≢◌, ◌≤◌, ◌+◌, ◌^◌, List, Vec, Global, length, ◌++◌, inl, ⊎_elim, [], None, Some, refl, ap, sym, subst, ◌∙◌, slice_index_or, slice_get-get_or, IsTooLong, cut, head_of, NoMemory, TooLong, Fed, HasFedAll, IsLeftByWorkers, StopsBy, draws_none, on_err, many_reads, of_stream, is_in, is_named}
+use Rattle.workers.specs.Inside.Adding.{added_none}
 use Rattle.workers.proofs.Beginning.{begun_fit, begun_few, begun_feeder, begun_passed}
 use Rattle.workers.proofs.Leaving.{all_worked, all_same, all_on_nodes, worked_feeder, no_stop, one_of_both, still_callers}
 use Rattle.workers.proofs.FeederWork.{as_named}
 use Rattle.workers.proofs.TooLong.{calls_by}
 use Rattle.workers.proofs.Budgeting.{many_calls}
 use Rattle.workers.proofs.run.work.Goals as goal
+
+-- a list was told of these
+abbrev took : List Fed → Vec Fed Global → Vec Fed Global → Type 0
+took feeding a b = b.items ≡ a.items ++ feeding
 
 pub workers_of-requires : goal.workers_of-requires
 workers_of-requires g c = c.requires.fresh.long
@@ -20,15 +25,15 @@ work_all-requires-clause-feeder g c κs within =
       few = r.few;
       faults = λ going. r.faults;
       fit = begun_feeder c.args.script.now c.args.adapter.now _ c.args.feeder c.args.clients.items r.fresh r.all
-          (record { feeder = c.args.feeder; puller = c.args.puller; feeding = c.new.result; stop = None }) refl c.new.ensures.items r.given;
+          (record { feeder = c.args.feeder; puller = c.args.puller; count = 0; stop = None }) refl refl r.given;
     }
 
 pub work_all-requires-clause-begun : goal.work_all-requires-clause-begun
 work_all-requires-clause-begun g c κs within =
     let r = c.requires in
     begun_passed c.args.script.now c.args.adapter.now _ c.args.feeder c.args.clients.items r.fresh r.all
-    (record { feeder = c.args.feeder; puller = c.args.puller; feeding = c.new.result; stop = None }) refl c.new.ensures.items r.given
-    (is_in c.named.result) c.args.batch (g.C.Clock.may_give c.args.clock.now) _
+    (record { feeder = c.args.feeder; puller = c.args.puller; count = 0; stop = None }) refl refl r.given
+    (is_in c.named.result) c.args.batch (g.C.Clock.may_give c.args.clock.now) took _ c.new-feeding.result (added_none c.new-feeding.result.items)
 
 pub work_all-requires-clause-clients : goal.work_all-requires-clause-clients
 work_all-requires-clause-clients g c κs within k d low =
@@ -49,14 +54,15 @@ returns-in_ok-left_by-in-None-clause-left g c =
     let stop : c.stop_of.result ≡ None = search rules in
     let s : StopsBy f.stop vs c.stop_of.result = rw (← c.deref.ensures.value) c.stop_of.ensures in
     let none = s.none stop in
-    let left : IsLeftByWorkers f vs c.in_ok-left_by-in-None.field-0 = c.in_ok-left_by-in-None.ensures in
-    let all = as_named (is_in c.named.result) (is_named c.args.script.now.lines) c.args.batch may _ _ c.args.puller f (λ node low. c.named.ensures node low) fed.nodes (fed.all (no_stop f.stop none.0)) in
+    let left : IsLeftByWorkers f c.work_all.new.batches.items vs c.in_ok-left_by-in-None.field-0 = c.in_ok-left_by-in-None.ensures in
+    let all = as_named (is_in c.named.result) (is_named c.args.script.now.lines) c.args.batch may took _ _ c.args.puller c.new-feeding.result c.work_all.new.batches f (λ node low. c.named.ensures node low) fed.nodes (fed.all (no_stop f.stop none.0)) in
     let more = all.draws.carries.more in (
       more,
       all.draws.carries.consumes,
       λ ahead pulls. record {
-        worked = all_worked c.args.script.now c.args.adapter.now _ c.args.feeder c.args.clients.items r.fresh r.all may ws vs b c.work_all.ensures.clients f c.in_ok-left_by-in-None.field-0 left none.1
-            c.args.batch _ refl (worked_feeder (is_named c.args.script.now.lines) c.args.batch may _ _ c.args.puller f all ahead pulls);
+        worked = all_worked c.args.script.now c.args.adapter.now _ c.args.feeder c.args.clients.items r.fresh r.all may ws vs b c.work_all.ensures.clients f c.work_all.new.batches.items c.in_ok-left_by-in-None.field-0 left none.1
+            c.args.batch _ refl (subst (λ (fs : List Fed). HasFedAll (is_named c.args.script.now.lines) c.args.batch may (cut c.args.puller.cutting.size (ahead ++ more)).packets f.feeder fs) (sym (all.told ∙ ap (λ (l : List Fed). l ++ all.feeding) c.new-feeding.ensures.items))
+            (worked_feeder (is_named c.args.script.now.lines) c.args.batch may took _ _ c.args.puller c.new-feeding.result c.work_all.new.batches f all ahead pulls));
         head = left.head ahead more all.packets (all.draws.carries.pulls ahead [] [] pulls) ∙ ap (λ size. head_of size (ahead ++ more) c.in_ok-left_by-in-None.field-0.head.read_fault) all.draws.carries.size;
       },
     )
@@ -68,7 +74,7 @@ returns-in_ok-left_by-in-None-clause-all g c =
     let b = c.in_ok-workers.ensures.fresh in
     let stop : c.stop_of.result ≡ None = search rules in
     let s : StopsBy f.stop vs c.stop_of.result = rw (← c.deref.ensures.value) c.stop_of.ensures in
-    all_same c.args.script.now c.args.adapter.now _ c.args.feeder c.args.clients.items r.fresh r.all may ws vs b c.work_all.ensures.clients f c.in_ok-left_by-in-None.field-0 c.in_ok-left_by-in-None.ensures (s.none stop).1 c.work_all.ensures.feeder.same
+    all_same c.args.script.now c.args.adapter.now _ c.args.feeder c.args.clients.items r.fresh r.all may ws vs b c.work_all.ensures.clients f c.work_all.new.batches.items c.in_ok-left_by-in-None.field-0 c.in_ok-left_by-in-None.ensures (s.none stop).1 c.work_all.ensures.feeder.same
 
 pub returns-in_ok-left_by-in-None-clause-nodes : goal.returns-in_ok-left_by-in-None-clause-nodes
 returns-in_ok-left_by-in-None-clause-nodes g c =
@@ -77,7 +83,7 @@ returns-in_ok-left_by-in-None-clause-nodes g c =
     let b = c.in_ok-workers.ensures.fresh in
     let stop : c.stop_of.result ≡ None = search rules in
     let s : StopsBy f.stop vs c.stop_of.result = rw (← c.deref.ensures.value) c.stop_of.ensures in
-    all_on_nodes c.args.script.now c.args.adapter.now _ c.args.feeder c.args.clients.items r.fresh r.all may ws vs b c.work_all.ensures.clients f c.in_ok-left_by-in-None.field-0 c.in_ok-left_by-in-None.ensures (s.none stop).1
+    all_on_nodes c.args.script.now c.args.adapter.now _ c.args.feeder c.args.clients.items r.fresh r.all may ws vs b c.work_all.ensures.clients f c.work_all.new.batches.items c.in_ok-left_by-in-None.field-0 c.in_ok-left_by-in-None.ensures (s.none stop).1
 
 pub gather-requires : goal.gather-requires
 gather-requires g c =
@@ -94,10 +100,10 @@ returns-in_ok-gather-in-Some-clause-too_long g c turns is =
     let s : StopsBy f.stop vs c.stop_of.result = rw (← c.deref.ensures.value) c.stop_of.ensures in
     let found : c.stop_of.result ≢ Some NoMemory = λ e. absurd (cc (stop, e)) in
     let memory = s.memory found in
-    let all = as_named (is_in c.named.result) (is_named c.args.script.now.lines) c.args.batch may _ _ c.args.puller f (λ node low. c.named.ensures node low) fed.nodes (fed.all memory.0) in
+    let all = as_named (is_in c.named.result) (is_named c.args.script.now.lines) c.args.batch may took _ _ c.args.puller c.new-feeding.result c.work_all.new.batches f (λ node low. c.named.ensures node low) fed.nodes (fed.all memory.0) in
     ⊎_elim
     (λ first. let k = fed.too_long turns first in of_stream (g.S.Source.end c.args.source.now) (g.S.Source.end c.work_all.new.source) c.args.puller _ (IsTooLong c.args.script.now c.args.puller.start turns) (λ ahead taken (q : 2 ^ 32 ≤ c.args.puller.start + length taken). inl (k.0, q))
     (many_reads _ _ c.args.puller f.puller fed.draws.0 fed.draws.1 k.1))
     (λ many. calls_by c.args.script.now c.args.adapter.now _ c.args.feeder c.args.clients.items r.fresh r.all may ws vs c.in_ok-workers.ensures.fresh c.work_all.ensures.clients
-    c.args.batch _ _ c.args.puller f all memory.1 refl c.in_ok-workers.ensures.numbered c.in_ok-gather-in-Some.ensures many_calls turns many.1.0 many.1.1 many.1.2 many.1.3 many.0)
+    c.args.batch took _ _ c.args.puller c.new-feeding.result c.work_all.new.batches f all memory.1 refl c.in_ok-workers.ensures.numbered c.in_ok-gather-in-Some.ensures many_calls turns many.1.0 many.1.1 many.1.2 many.1.3 many.0)
     (one_of_both may c.args.adapter.now ws vs c.work_all.ensures.clients f.stop c.stop_of.result turns s stop)

@@ -1,4 +1,4 @@
-use Rattle.seats.proofs.Imports.{rules, ◌≡◌, length, None, ap, sym, ◌∙◌, option_map, invocation_of, act_of}
+use Rattle.seats.proofs.Imports.{rules, ◌≡◌, length, None, ap, option_map, invocation_of, act_of}
 use Rattle.dmx_calls.specs.declared.call.Call.{Call}
 use Rattle.seats.proofs.Doing.{does_one, does_two}
 use Rattle.seats.proofs.Going.{goes_trans}
@@ -10,12 +10,11 @@ returns-in-Some-clause-goes g c = goes_trans c.args.self.now c.make.new.self c.m
 pub returns-in-Some-clause-did : goal.returns-in-Some-clause-did
 returns-in-Some-clause-did g c =
     let place : c.len-at.result ≡ length c.args.self.now.made.items = search rules in
-    does_two c.args.node _ c.len-at.result c.args.self.now c.make.new.self c.make.ensures.did place c.index.result.now c.index.ensures
-    _ c.make-in-Some.new.self c.make-in-Some.ensures.did (sym (ap (option_map (λ (k : Call). act_of (invocation_of k))) c.in-Some.is) ∙ c.told_dvr.ensures.acts)
+    does_two c.args.node _ _ c.len-at.result c.args.self.now c.make.new.self c.make.ensures.did place
+    _ _ c.make-in-Some.new.self c.make-in-Some.ensures.did (ap (option_map (λ (k : Call). act_of (invocation_of k))) c.in-Some.is)
 
 pub returns-in_default-clause-did : goal.returns-in_default-clause-did
 returns-in_default-clause-did g c =
     let place : c.len-at.result ≡ length c.args.self.now.made.items = search rules in
-    let none : c.told_dvr.result ≡ None = search rules in
-    does_one c.args.node _ c.len-at.result c.args.self.now c.make.new.self c.make.ensures.did place c.index.result.now c.index.ensures
-    (sym (ap (option_map (λ (k : Call). act_of (invocation_of k))) none) ∙ c.told_dvr.ensures.acts)
+    let none : c.make.result ≡ None = search rules in
+    does_one c.args.node _ _ c.len-at.result c.args.self.now c.make.new.self c.make.ensures.did place (ap (option_map (λ (k : Call). act_of (invocation_of k))) none)

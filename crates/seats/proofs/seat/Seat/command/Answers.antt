@@ -1,8 +1,8 @@
 use Rattle.seats.proofs.Imports.{rules, sym, subst, ap, Vec, Global, Caller, HasLeft, Made, Outcome, WasDone}
 use Rattle.dmx_calls.specs.declared.log.Entry.{Entry}
 use Rattle.seats.proofs.Doing.{command_kept}
-use Rattle.seats.proofs.Going.{goes_trans}
-use Rattle.seats.proofs.Keeping.{keeps_so}
+use Rattle.seats.proofs.Going.{goes_trans, log_same}
+use Rattle.seats.proofs.Keeping.{keeps_one}
 use Rattle.seats.proofs.seat.Seat.command.Goals as goal
 
 pub returns-clause-fit : goal.returns-clause-fit
@@ -25,5 +25,5 @@ returns-clause-did g c =
 pub returns-clause-kept : goal.returns-clause-kept
 returns-clause-kept g c =
     let r = c.keep.ensures.rest in
-    keeps_so WasDone c.args.self.now c.call-at.new.self c.keep.new.self c.count-from.result (search rules) (ap (λ (v : Vec Outcome Global). v.items) c.call-at.ensures.rest) c.keep.ensures.told
-    (ap (λ (v : Vec Entry Global). v.items) r.2) (ap (λ (v : Vec Made Global). v.items) r.3)
+    keeps_one WasDone c.args.self.now c.call-at.new.self c.keep.new.self c.count-from.result (search rules) (ap (λ (v : Vec Outcome Global). v.items) c.call-at.ensures.rest) c.keep.ensures.told
+    (log_same c.call-at.new.self c.keep.new.self (ap (λ (v : Vec Entry Global). v.items) r.2) (ap (λ (v : Vec Made Global). v.items) r.3) r.1)

@@ -1,6 +1,5 @@
-use Rattle.seats.proofs.Imports.{arith, ◌≡◌, ap, sym, ◌∙◌, subst, refl, Ask, OpenDemux, Call, Leave, KeepsBy, commands_done_by, target_of, act_of}
+use Rattle.seats.proofs.Imports.{arith, ◌≡◌, ap, sym, ◌∙◌, OpenDemux, Call, Leave, act_of}
 use Rattle.seats.specs.declared.serve_frames.ask.Ask.TheVariants.{Refused}
-use Rattle.seats.proofs.Keeping.{keeps_none, keeps_command, none_done}
 use Rattle.seats.proofs.Doing.{answered_open, answered_call, answered_leave, answered_refused, answered_wanting}
 use Rattle.seats.proofs.Going.{goes_self}
 use Rattle.seats.proofs.seat.Seat.done.Goals as goal
@@ -9,11 +8,11 @@ pub returns-in-Refused-clause-goes : goal.returns-in-Refused-clause-goes
 returns-in-Refused-clause-goes g c = goes_self c.args.self.now
 
 pub returns-in-OpenDemux-clause-did : goal.returns-in-OpenDemux-clause-did
-returns-in-OpenDemux-clause-did g c = answered_open c.args.ask c.args.now c.args.self.now c.open_demux.new.self _ _ c.in-OpenDemux.is c.open_demux.ensures.did
+returns-in-OpenDemux-clause-did g c = answered_open c.args.ask c.args.now c.args.self.now c.open_demux.new.self _ _ c.in-OpenDemux.is (c.open_demux.ensures.did c.args.now)
 
 pub returns-in-Ok-clause-did : goal.returns-in-Ok-clause-did
 returns-in-Ok-clause-did g c =
-    answered_call c.args.ask c.args.now c.in-Call.node c.in-Call.want c.command-at.result _ c.args.self.now c.command-at.new.self c.told_at.result.tell c.told_at.result.at c.command-at.ensures.did c.in-Call.is
+    answered_call c.args.ask c.args.now c.in-Call.node c.in-Call.want c.command-at.result _ c.args.self.now c.command-at.new.self c.told_at.result.tell c.told_at.result.at c.command-at.ensures.did c.command-at.ensures.kept c.in-Call.is
     (ap act_of c.in-Ok.ensures.value) c.told_at.ensures.at c.told_at.ensures.told
 
 pub returns-in_default-clause-did : goal.returns-in_default-clause-did
@@ -25,23 +24,6 @@ returns-in-Leave-clause-did g c = answered_leave c.args.ask c.args.now c.args.se
 
 pub returns-in-Refused-clause-did : goal.returns-in-Refused-clause-did
 returns-in-Refused-clause-did g c = answered_refused c.args.ask c.args.now c.in-Refused.code c.args.self.now _ _ c.in-Refused.is c.refused-in-Refused.ensures
-
-pub returns-in-OpenDemux-clause-kept : goal.returns-in-OpenDemux-clause-kept
-returns-in-OpenDemux-clause-kept g c = subst (λ (a : Ask). KeepsBy a c.args.self.now c.open_demux.new.self) (sym c.in-OpenDemux.is) c.open_demux.ensures.kept
-
-pub returns-in-Ok-clause-kept : goal.returns-in-Ok-clause-kept
-returns-in-Ok-clause-kept g c =
-    subst (λ (a : Ask). KeepsBy a c.args.self.now c.command-at.new.self) (sym c.in-Call.is)
-    (keeps_command c.in-Call.node _ c.command-at.result (target_of c.in-Call.node) c.in-Call.want c.args.self.now c.command-at.new.self c.command-at.ensures.did c.command-at.ensures.kept)
-
-pub returns-in_default-clause-kept : goal.returns-in_default-clause-kept
-returns-in_default-clause-kept g c = keeps_none (commands_done_by c.args.ask) c.args.self.now c.args.self.now (none_done c.args.ask) refl refl
-
-pub returns-in-Leave-clause-kept : goal.returns-in-Leave-clause-kept
-returns-in-Leave-clause-kept g c = subst (λ (a : Ask). KeepsBy a c.args.self.now c.leave.new.self) (sym c.in-Leave.is) c.leave.ensures.kept
-
-pub returns-in-Refused-clause-kept : goal.returns-in-Refused-clause-kept
-returns-in-Refused-clause-kept g c = keeps_none (commands_done_by c.args.ask) c.args.self.now c.args.self.now (none_done c.args.ask) refl refl
 
 pub returns-in-OpenDemux-clause-gone : goal.returns-in-OpenDemux-clause-gone
 returns-in-OpenDemux-clause-gone g c leave = absurd (let both : OpenDemux ≡ Leave = sym c.in-OpenDemux.is ∙ leave in cc both)

@@ -1,7 +1,5 @@
-use Rattle.seats.proofs.Imports.{sym, subst, refl, Ask, KeepsBy, commands_done_by}
 use Rattle.seats.proofs.Doing.{answered_leave, answered_untold, answered_wanting}
 use Rattle.seats.proofs.Going.{goes_self}
-use Rattle.seats.proofs.Keeping.{keeps_none, none_done}
 use Rattle.seats.proofs.seat.Seat.done_without.Goals as goal
 
 pub returns-in-Leave-clause-room : goal.returns-in-Leave-clause-room
@@ -11,9 +9,6 @@ pub returns-in-Leave-clause-did : goal.returns-in-Leave-clause-did
 returns-in-Leave-clause-did g c now =
     answered_untold c.args.ask now c.args.self.now c.leave.new.self c.refused.result.tell c.refused.result.at c.refused.ensures.1
     (answered_leave c.args.ask now c.args.self.now c.leave.new.self c.refused.result.tell c.refused.result.at c.in-Leave.is c.leave.ensures.did c.refused.ensures)
-
-pub returns-in-Leave-clause-kept : goal.returns-in-Leave-clause-kept
-returns-in-Leave-clause-kept g c = subst (λ (a : Ask). KeepsBy a c.args.self.now c.leave.new.self) (sym c.in-Leave.is) c.leave.ensures.kept
 
 pub returns-in-Leave-clause-gone : goal.returns-in-Leave-clause-gone
 returns-in-Leave-clause-gone g c leave = record { held = c.leave.ensures.held; left = c.leave.ensures.left }
@@ -26,6 +21,3 @@ returns-in_default-clause-did g c now =
     let r = c.refused-in_default in
     answered_untold c.args.ask now c.args.self.now c.args.self.now r.result.tell r.result.at r.ensures.1
     (answered_wanting c.args.ask now c.args.self.now r.result.tell r.result.at c.in_default.not-Leave r.ensures)
-
-pub returns-in_default-clause-kept : goal.returns-in_default-clause-kept
-returns-in_default-clause-kept g c = keeps_none (commands_done_by c.args.ask) c.args.self.now c.args.self.now (none_done c.args.ask) refl refl

@@ -1,7 +1,6 @@
-use Rattle.seats.proofs.Imports.{rules, arith, ◌≢◌, sym, subst, refl, ℕ, true, Some, slice_get, dite, ℕ_discrete, HasLeft, Leave, commands_done_by}
+use Rattle.seats.proofs.Imports.{rules, arith, ◌≢◌, sym, subst, refl, ℕ, true, Some, slice_get, dite, ℕ_discrete, HasLeft}
 use Rattle.seats.proofs.Doing.{closings_none, closings_more}
 use Rattle.seats.proofs.Closing.{closes_none, closes_more}
-use Rattle.seats.proofs.Keeping.{keeps_none, keeps_more}
 use Rattle.seats.proofs.Going.{goes_self, goes_trans}
 use Rattle.seats.proofs.seat.Seat.leave.Goals as goal
 
@@ -14,7 +13,6 @@ nodes-init g c = record {
   told = search rules;
   room = search rules;
   did = closings_none c.args.self.now;
-  kept = keeps_none (commands_done_by Leave) c.args.self.now c.args.self.now refl refl refl;
   held = closes_none c.args.self.now c.args.self.now refl;
   fewer = λ i held. held;
   free = λ i low. absurd (omega arith);
@@ -32,7 +30,6 @@ nodes-preserved g c =
       told = let a = v.told in let b = e.told in omega (arith, a, b);
       room = search rules;
       did = closings_more c.nodes.node _ c.args.self.now c.nodes.self c.let_go.new.self refl v.did e.did;
-      kept = keeps_more c.nodes.node c.args.self.now c.nodes.self c.let_go.new.self v.did e.did v.kept e.kept;
       held = closes_more c.args.self.now c.nodes.self c.let_go.new.self v.goes e.goes v.held e.held;
       fewer = λ i held. v.fewer i (e.fewer i held);
       free = λ i low. dite (ℕ_discrete i c.nodes.node)

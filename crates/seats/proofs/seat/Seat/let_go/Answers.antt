@@ -1,6 +1,5 @@
-use Rattle.seats.proofs.Imports.{rules, ◌≡◌, Bool, get_or, false, true, Some, refl, ap, sym, ◌∙◌, slice_get-get_or, get_or_from_slice_get, Leave, commands_done_by}
+use Rattle.seats.proofs.Imports.{rules, ◌≡◌, Bool, get_or, false, true, Some, refl, ap, sym, ◌∙◌, slice_get-get_or, get_or_from_slice_get}
 use Rattle.seats.proofs.Closing.{closes_none, closes_one}
-use Rattle.seats.proofs.Keeping.{keeps_none, keeps_closed}
 use Rattle.seats.proofs.Doing.{closing_none, closing_one}
 use Rattle.seats.proofs.Going.{goes_self}
 use Rattle.seats.proofs.seat.Seat.let_go.Goals as goal
@@ -12,13 +11,7 @@ pub returns-then-not-self-node-clause-did : goal.returns-then-not-self-node-clau
 returns-then-not-self-node-clause-did g c = closing_none c.args.node c.args.self.now
 
 pub returns-clause-did : goal.returns-clause-did
-returns-clause-did g c = closing_one c.args.node c.command.result c.args.self.now c.command.new.self c.command.ensures.did
-
-pub returns-then-not-self-node-clause-kept : goal.returns-then-not-self-node-clause-kept
-returns-then-not-self-node-clause-kept g c = keeps_none (commands_done_by Leave) c.args.self.now c.args.self.now refl refl refl
-
-pub returns-clause-kept : goal.returns-clause-kept
-returns-clause-kept g c = keeps_closed c.args.node c.command.result c.args.self.now c.command.new.self c.command.ensures.did c.command.ensures.kept
+returns-clause-did g c = closing_one c.args.node c.command.result c.args.self.now c.command.new.self c.command.ensures.did c.command.ensures.kept
 
 pub returns-then-not-self-node-clause-held : goal.returns-then-not-self-node-clause-held
 returns-then-not-self-node-clause-held g c = closes_none c.args.self.now c.args.self.now refl

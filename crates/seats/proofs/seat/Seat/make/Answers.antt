@@ -58,7 +58,7 @@ returns-clause-did g c =
     let s = c.args.self.now in
     let m : Made = record { node = c.args.node; place = c.call-place.result.0; step = c.count-step.result; act = c.of-act.result; reply = c.call-place.result.1.reply } in
     let items : c.push_reserved.new.self.items ≡ s.made.items ++ m ∷ [] = search rules in
-    record { own = m; has = record { made = items; log = refl; who = refl }; node = refl; act = c.of-act.ensures }
+    record { own = m; has = record { made = items; log = refl; who = refl }; node = refl; act = c.of-act.ensures; asks = c.told_dvr-next.ensures.acts }
 
 pub returns-clause-fewer : goal.returns-clause-fewer
 returns-clause-fewer g c other =

@@ -1,8 +1,8 @@
 use Rattle.seats.proofs.Imports.{rules, arith, ◌≡◌, true, refl, ap, sym, ◌∙◌, Vec, Global, response_of, Made, is_busy, Outcome, WasDone, WasEmfile}
 use Rattle.dmx_calls.specs.declared.log.Entry.{Entry}
 use Rattle.seats.proofs.Doing.{tried_none, tried_more, opened, full}
-use Rattle.seats.proofs.Going.{goes_self, goes_trans}
-use Rattle.seats.proofs.Keeping.{keeps_opened, keeps_so, grown_free, grown_full}
+use Rattle.seats.proofs.Going.{goes_self, goes_trans, log_same}
+use Rattle.seats.proofs.Keeping.{keeps_one}
 use Rattle.seats.proofs.seat.Seat.open_demux.Goals as goal
 
 pub nodes-init : goal.nodes-init
@@ -15,7 +15,7 @@ nodes-preserved g c =
     record {
       fit = e.fit;
       goes = goes_trans c.args.self.now c.nodes.self c.call-at.new.self i.goes e.goes;
-      tried = tried_more c.nodes.node c.call-at.result c.args.self.now c.nodes.self c.call-at.new.self i.tried e.did c.index.result.now c.index.ensures _ refl busy;
+      tried = tried_more c.nodes.node c.call-at.result c.args.self.now c.nodes.self c.call-at.new.self i.tried e.did c.index.result.now c.index.ensures c.nodes-test.true _ refl busy;
       made = let a = i.made in let b = e.few.0 in omega (arith, a, b);
       left = let a = i.left in let b = e.few.1 in omega (arith, a, b);
       room = search rules;
@@ -31,11 +31,14 @@ returns-in-nodes-clause-goes g c =
     (goes_trans c.args.self.now c.nodes.self c.call-at.new.self c.nodes.invariant.goes c.call-at.ensures.goes) c.keep.ensures.goes
 
 pub returns-in-nodes-clause-did : goal.returns-in-nodes-clause-did
-returns-in-nodes-clause-did g c =
+returns-in-nodes-clause-did g c now =
     let r = c.keep.ensures.rest in
-    opened c.nodes.node c.call-at.result c.args.self.now c.nodes.self c.call-at.new.self c.nodes.invariant.tried c.call-at.ensures.did c.index.result.now c.index.ensures
-    c.keep.new.self c.told_open.result.tell c.told_open.result.at c.nodes-test.true (sym c.is_busy.ensures ∙ c.if-is_busy.false)
-    (ap (λ (v : Vec Made Global). v.items) r.3) (ap (λ (v : Vec Entry Global). v.items) r.2) r.1 c.told_open.ensures.at c.told_open.ensures.told
+    let made = ap (λ (v : Vec Made Global). v.items) r.3 in
+    let log = log_same c.call-at.new.self c.keep.new.self (ap (λ (v : Vec Entry Global). v.items) r.2) made r.1 in
+    opened c.nodes.node c.call-at.result c.args.self.now c.nodes.self c.call-at.new.self c.nodes.invariant.tried c.call-at.ensures.did c.index.result.now c.index.ensures c.nodes-test.true
+    now c.keep.new.self c.told_open.result.tell c.told_open.result.at (sym c.is_busy.ensures ∙ c.if-is_busy.false) log made
+    (keeps_one WasDone c.args.self.now c.call-at.new.self c.keep.new.self c.count-from.result (search rules) (ap (λ (v : Vec Outcome Global). v.items) (c.call-at.ensures.rest ∙ c.nodes.invariant.told)) c.keep.ensures.told log)
+    c.told_open.ensures.at c.told_open.ensures.told
 
 pub returns-clause-fit : goal.returns-clause-fit
 returns-clause-fit g c = c.keep-2.ensures.fit c.args.adapter.now c.nodes.invariant.fit
@@ -44,22 +47,8 @@ pub returns-clause-goes : goal.returns-clause-goes
 returns-clause-goes g c = goes_trans c.args.self.now c.nodes.self c.keep-2.new.self c.nodes.invariant.goes c.keep-2.ensures.goes
 
 pub returns-clause-did : goal.returns-clause-did
-returns-clause-did g c =
+returns-clause-did g c now =
     let r = c.keep-2.ensures.rest in
-    full c.nodes.node c.args.self.now c.nodes.self c.keep-2.new.self _ _ c.nodes.invariant.tried (search rules) (ap (λ (v : Vec Made Global). v.items) r.3) (ap (λ (v : Vec Entry Global). v.items) r.2) r.1 c.refused.ensures
-
-pub returns-in-nodes-clause-kept : goal.returns-in-nodes-clause-kept
-returns-in-nodes-clause-kept g c =
-    let r = c.keep.ensures.rest in
-    let made = ap (λ (v : Vec Made Global). v.items) r.3 in let log = ap (λ (v : Vec Entry Global). v.items) r.2 in
-    keeps_opened WasDone c.args.self.now c.keep.new.self
-    (grown_free c.nodes.node c.call-at.result c.args.self.now c.nodes.self c.call-at.new.self c.keep.new.self c.nodes.invariant.tried c.call-at.ensures.did c.index.result.now c.index.ensures
-    (sym c.is_busy.ensures ∙ c.if-is_busy.false) made log r.1)
-    (keeps_so WasDone c.args.self.now c.call-at.new.self c.keep.new.self c.count-from.result (search rules) (ap (λ (v : Vec Outcome Global). v.items) (c.call-at.ensures.rest ∙ c.nodes.invariant.told)) c.keep.ensures.told log made)
-
-pub returns-clause-kept : goal.returns-clause-kept
-returns-clause-kept g c =
-    let r = c.keep-2.ensures.rest in
-    let made = ap (λ (v : Vec Made Global). v.items) r.3 in let log = ap (λ (v : Vec Entry Global). v.items) r.2 in
-    keeps_opened WasEmfile c.args.self.now c.keep-2.new.self (grown_full c.nodes.node c.args.self.now c.nodes.self c.keep-2.new.self c.nodes.invariant.tried (search rules) made log r.1)
-    (keeps_so WasEmfile c.args.self.now c.nodes.self c.keep-2.new.self c.count-from.result (search rules) (ap (λ (v : Vec Outcome Global). v.items) c.nodes.invariant.told) c.keep-2.ensures.told log made)
+    let log = log_same c.nodes.self c.keep-2.new.self (ap (λ (v : Vec Entry Global). v.items) r.2) (ap (λ (v : Vec Made Global). v.items) r.3) r.1 in
+    full now c.nodes.node c.args.self.now c.nodes.self c.keep-2.new.self _ _ c.nodes.invariant.tried (search rules) log
+    (keeps_one WasEmfile c.args.self.now c.nodes.self c.keep-2.new.self c.count-from.result (search rules) (ap (λ (v : Vec Outcome Global). v.items) c.nodes.invariant.told) c.keep-2.ensures.told log) c.refused.ensures

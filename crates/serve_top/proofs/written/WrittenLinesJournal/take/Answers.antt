@@ -14,11 +14,11 @@ calls-preserved g c =
     let i = c.calls.invariant in let n = i.step in let long = length-append c.calls.yielded (c.in-Some.call ∷ []) in
     record {
       step = omega (arith, n, long);
-      wrote = lines_then g.K.Sink.end c.args.before c.calls.step c.calls.yielded c.in-Some.call c.args.self.now c.calls.self c.put.new.self i.step i.wrote c.put.ensures;
+      wrote = lines_then g.K.Sink.end c.args.before.calls c.calls.step c.calls.yielded c.in-Some.call c.args.self.now c.calls.self c.put.new.self i.step i.wrote c.put.ensures;
     }
 
 pub returns : goal.returns
 returns g c =
     let b = c.into_iter-call-iterator.ensures.into_iter_gives in
     let t = YieldsList-end (YieldsList-from_vec {s = c.into_iter-call-iterator.result} c.args.calls.items b.0 (b.1 ∙ c.args.calls.ok.0)) c.calls.yielded c.calls.call-iterator c.calls.yielded_by c.next.result c.next.new.self c.in-None.is c.next.ensures.steps in
-    subst (λ (l : List ToldEntry). HasWritten g.K.Sink.end (lines_from c.args.before l) c.args.self.now c.calls.self) (sym (map_same c.calls.yielded) ∙ t.0) c.calls.invariant.wrote
+    record { took = subst (λ (l : List ToldEntry). HasWritten g.K.Sink.end (lines_from c.args.before.calls l) c.args.self.now c.calls.self) (sym (map_same c.calls.yielded) ∙ t.0) c.calls.invariant.wrote; back = tt }

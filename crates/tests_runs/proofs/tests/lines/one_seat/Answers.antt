@@ -6,7 +6,7 @@ all_ready : {T : Type 0} (locks : List TableId) (clients : List Caller) (desks :
 all_ready locks clients desks ready k d low =
     let x = slice_index_or desks k d in
     let r = ready.each k x.seat (slice_get-map (λ (z : Desk _). z.seat) desks k ∙ ap (option_map (λ (z : Desk _). z.seat)) (slice_get-get_or desks k d low)) in
-    record { ready = r.0; none = r.1 }
+    record { ready = r.0; none = r.1; told = r.2 }
 
 counted : (locks : List TableId) (n : ℕ) (feeder : Caller) (clients : List Caller) → AreFreshCallers locks n feeder clients → AreFreshCallers locks (length clients) feeder clients
 counted locks n feeder clients fresh = subst (λ (k : ℕ). AreFreshCallers locks k feeder clients) (sym fresh.long) fresh
@@ -17,14 +17,6 @@ if_some P (Err x) a e h = absurd (cc e)
 
 pub returns-clause-ready : goal.returns-clause-ready
 returns-clause-ready c =
-    let locks = c.args.adapter.now in let clients = c.args.clients.items in let desks = c.in_ok-desks.desks in
-    let ready = if_some (λ (v : Vec (Desk ℕ) Global). (ls : List TableId) (f : Caller) → AreFreshCallers ls (length clients) f clients → AreReady ls clients (map (λ (d : Desk ℕ). d.seat) v.items))
-    c.desks_of.result desks c.in_ok-desks.ensures.value c.desks_of.ensures.ready in
-    let all = all_ready locks clients desks.items (ready locks c.args.feeder.now (counted locks 1 c.args.feeder.now clients c.requires)) in
-    (All-pop (λ (d : Desk ℕ). IsReadyToHand locks d.seat) desks.items c.pop.new.self.items (Some c.in_ok-seat.field-0) c.in_ok-seat.ensures.items all).1.ready
-
-pub returns-clause-hand : goal.returns-clause-hand
-returns-clause-hand c =
     let locks = c.args.adapter.now in let clients = c.args.clients.items in let desks = c.in_ok-desks.desks in
     let ready = if_some (λ (v : Vec (Desk ℕ) Global). (ls : List TableId) (f : Caller) → AreFreshCallers ls (length clients) f clients → AreReady ls clients (map (λ (d : Desk ℕ). d.seat) v.items))
     c.desks_of.result desks c.in_ok-desks.ensures.value c.desks_of.ensures.ready in

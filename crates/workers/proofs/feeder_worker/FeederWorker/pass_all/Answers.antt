@@ -3,7 +3,7 @@ use Rattle.workers.proofs.Working.{same_self}
 use Rattle.workers.proofs.feeder_worker.FeederWorker.pass_all.Goals as goal
 
 pub batches-init : goal.batches-init
-batches-init g c = record { fit = c.requires.may.fit; same = same_self c.args.self.now.feeder; others = λ node off. refl; draws = ([], draws_none _ c.args.self.now.puller); passed = λ before first h. h }
+batches-init g c = record { fit = c.requires.may.fit; same = same_self c.args.self.now.feeder; others = λ node off. refl; draws = ([], draws_none _ c.args.self.now.puller); passed = λ before first was h. h }
 
 pub turn-requires : goal.turn-requires
 turn-requires g c = record {
@@ -30,7 +30,7 @@ batches-preserved g c = let k = c.batches.invariant.draws in let d = c.turn.ensu
   same = same_trans c.args.self.now.feeder c.batches.self.feeder c.turn.new.self.feeder c.batches.invariant.same c.turn.ensures.same;
   others = λ node off. c.turn.ensures.others node off ∙ c.batches.invariant.others node off;
   draws = (k.0 ++ d.0, draws_then _ _ _ _ _ _ k.0 d.0 k.1 d.1);
-  passed = λ before first h. c.in_ok-turn.ensures.passed before first (c.batches.invariant.passed before first h);
+  passed = λ before first was h. c.in_ok-turn.ensures.passed before first was (c.batches.invariant.passed before first was h);
 }
 
 pub returns-clause-same : goal.returns-clause-same

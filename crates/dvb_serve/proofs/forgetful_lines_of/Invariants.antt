@@ -1,5 +1,0 @@
-use Rattle.std.proofs.Common.{◌≡◌, vec_len}
-use Rattle.dvb_serve.proofs.forgetful_lines_of.Given as goal
-
-abbrev pub invariant-seats : goal.invariant-seats
-invariant-seats l = vec_len l.lines ≡ l.counter
