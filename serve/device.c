@@ -27,12 +27,12 @@ struct device *device_at(struct at at) { return &at.line->table->devices[at.plac
 /* the device behind a descriptor, if there is one */
 int found(int fd, struct at *at)
 {
-	struct stat now;
-	if (!is_marked(fd) || syscall(SYS_fstat, fd, &now))
-		return 0;
+	ino_t ino = is_marked(fd) ? pipe_of(fd) : 0;
+	if (!ino)
+		return unmark(fd), 0;
 	for (struct line *line = lines; line < &lines[MOST_LINES]; line++)
 		for (int i = 0; line->table && i < MOST_DEVICES; i++)
-			if (line->table->devices[i].kind && line->table->devices[i].ino == now.st_ino && S_ISFIFO(now.st_mode)) {
+			if (line->table->devices[i].kind && line->table->devices[i].ino == ino) {
 				*at = (struct at){ line, i };
 				return 1;
 			}
@@ -51,14 +51,21 @@ int find(int fd, struct at *at)
 
 /* ------ what can be read, inside of `take` */
 
-/* The device may have something: who waits for its descriptors, and who reads, is woken. */
+/* The device may have something: who reads it is woken. */
+void wake_readers(struct at at)
+{
+	struct device *device = device_at(at);
+	__atomic_add_fetch(&device->turn, 1, __ATOMIC_SEQ_CST);
+	if (device->readers)
+		syscall(SYS_futex, &device->turn, FUTEX_WAKE, INT_MAX, NULL, NULL, 0);
+}
+
+/* The same, and who waits for its descriptors is woken too. */
 void ring(struct at at)
 {
 	struct device *device = device_at(at);
 	struct mine *mine = &at.line->mine[at.place];
-	__atomic_add_fetch(&device->turn, 1, __ATOMIC_SEQ_CST);
-	if (device->readers)
-		syscall(SYS_futex, &device->turn, FUTEX_WAKE, INT_MAX, NULL, NULL, 0);
+	wake_readers(at);
 	if (is_object(mine->rings, device->ino) && syscall(SYS_write, mine->rings, "", 1) == 1)
 		device->tokens++;
 }

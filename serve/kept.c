@@ -49,12 +49,24 @@ void unmark(int fd)
 		set(marked, fd, 0);
 }
 
-/* whether this is still the pipe of this inode */
-int is_object(int fd, ino_t ino)
+/*
+ * The inode of the pipe behind a descriptor; 0 where there is none. Its times aren't asked for: a system that was asked for those of a named
+ * pipe notes new ones on the disk at the next write.
+ */
+ino_t pipe_of(int fd)
 {
-	struct stat now;
-	return fd >= 0 && !syscall(SYS_fstat, fd, &now) && S_ISFIFO(now.st_mode) && now.st_ino == ino;
+	struct statx now;
+	struct stat all;
+	if (fd < 0)
+		return 0;
+	if (!syscall(SYS_statx, fd, "", AT_EMPTY_PATH, STATX_TYPE | STATX_INO, &now))
+		return S_ISFIFO(now.stx_mode) ? now.stx_ino : 0;
+	/* (an old system, or a sandbox, that doesn't know this call) */
+	return errno != EBADF && !syscall(SYS_fstat, fd, &all) && S_ISFIFO(all.st_mode) ? all.st_ino : 0;
 }
+
+/* whether this is still the pipe of this inode */
+int is_object(int fd, ino_t ino) { return ino && pipe_of(fd) == ino; }
 
 /* the first number of the preload's own descriptors: a high one, which programs that close all low ones leave alone */
 static int first_own(void)

@@ -14,6 +14,7 @@
 #include <sys/random.h>
 #include <sys/stat.h>
 #include <sys/syscall.h>
+#include <sys/uio.h>
 #include <time.h>
 #include <unistd.h>
 
@@ -86,19 +87,30 @@ int wait_raw(struct pollfd *all, nfds_t count, long time)
 
 /* ------ locks, in which no signal's handler runs and no thread ends */
 
+/* how many of them this thread is in: the first holds all back, and the last lets go */
+static __thread int held __attribute__((tls_model("initial-exec")));
+
 static void hold_back(struct pause *pause)
 {
 	sigset_t all;
-	sigfillset(&all);
-	pthread_sigmask(SIG_SETMASK, &all, &pause->before);
-	pthread_setcancelstate(PTHREAD_CANCEL_DISABLE, &pause->state);
+	if (!held) {
+		sigfillset(&all);
+		pthread_sigmask(SIG_SETMASK, &all, &pause->before);
+		pthread_setcancelstate(PTHREAD_CANCEL_DISABLE, &pause->state);
+	}
+	held++;
 }
 
 static void go_on(const struct pause *pause)
 {
+	if (--held)
+		return;
 	pthread_setcancelstate(pause->state, NULL);
 	pthread_sigmask(SIG_SETMASK, &pause->before, NULL);
 }
+
+/* a thread that was begun with all signals held back has them so to its end */
+void hold_for_good(void) { held++; }
 
 /* what this process has: its lines and the descriptors of its devices */
 void enter(struct pause *pause)
@@ -306,9 +318,24 @@ static int get(struct line *line, void *bytes, size_t count)
 	return is_bad;
 }
 
+/*
+ * Takes the reply, and the bytes behind it: both at once where they have come, and what is left of each, or can't be written at once, alone.
+ */
+static int get_all(struct line *line, struct reply *reply, void *into, uint32_t room)
+{
+	struct iovec parts[2] = { { reply, sizeof *reply }, { into, room } };
+	long n = room ? syscall(SYS_readv, line->tell, parts, 2) : 0;
+	size_t done = n > 0 ? (size_t)n : 0, head = done < sizeof *reply ? done : sizeof *reply;
+	done -= head;
+	if (get(line, (char *)reply + head, sizeof *reply - head) || reply->length > room || done > reply->length)
+		return -1;
+	return get(line, (char *)into + done, reply->length - done);
+}
+
 static int exchange(struct line *line, const struct request *request, struct reply *reply, void *into, uint32_t room)
 {
-	char ask[PATH] = "", tell[PATH] = "";
+	char ask[PATH], tell[PATH];
+	*ask = 0;
 	int first = line->ask < 0;
 	int bad = line->table->is_gone || (first && come_in(line, ask, tell));
 	line->table->is_asking = 1;
@@ -318,8 +345,7 @@ static int exchange(struct line *line, const struct request *request, struct rep
 		unlink(ask);
 		unlink(tell);
 	}
-	bad = bad || get(line, reply, sizeof *reply) || reply->length > room;
-	int taken = bad ? -1 : get(line, into, reply->length);
+	int taken = bad ? -1 : get_all(line, reply, into, room);
 	line->table->is_asking = 0;
 	if (taken < 0 && !line->table->is_gone)
 		line_lost(line);

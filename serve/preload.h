@@ -76,6 +76,7 @@ void enter(struct pause *pause);
 void leave(struct pause *pause);
 void take(struct line *line, struct pause *pause);
 void give(struct line *line, struct pause *pause);
+void hold_for_good(void);
 struct line *line_to(int adapter);
 void line_lost(struct line *line);
 int ask(struct line *line, uint32_t verb, uint32_t node, uint32_t number, const void *argument, uint32_t length,
@@ -89,6 +90,7 @@ void let_go(int fd);
 int is_own(int fd);
 int give_way(int fd);
 int moved(int fd, int wanted);
+ino_t pipe_of(int fd);
 int is_object(int fd, ino_t ino);
 void mark(int fd);
 void unmark(int fd);
@@ -111,6 +113,7 @@ int device_ioctl(int fd, struct at at, uint32_t number, void *argument);
 void device_begin(struct line *line, int place, int rings);
 void look(struct at at, int fd);
 void ring(struct at at);
+void wake_readers(struct at at);
 void sweep(void);
 void sweep_all(void);
 

@@ -66,7 +66,7 @@ static void rang(struct at at)
 	take(at.line, &pause);
 	if (device->kind && device->ino == at.line->mine[at.place].ino) {
 		if (device->readers && !device->in_set && device->kind != FRONTEND) {
-			ring(at);
+			wake_readers(at);
 			device->state = UNKNOWN;
 		} else if (device->state != READY) {
 			look(at, -1);
@@ -102,8 +102,8 @@ static void hear(void)
 	}
 }
 
-/* timeouts that are over, servers that have gone, and devices without a bell */
-static void look_round(void)
+/* timeouts that are over, devices without a bell, and servers that may have gone */
+static void look_round(int may_be_gone)
 {
 	long now = milliseconds();
 	for (struct line *line = lines; line < &lines[MOST_LINES]; line++) {
@@ -111,7 +111,7 @@ static void look_round(void)
 		struct pause pause;
 		if (!line->table)
 			continue;
-		if (line->tell >= 0 && wait_raw(&tell, 1, 0) > 0 && tell.revents & (POLLHUP | POLLNVAL)) {
+		if (may_be_gone && line->tell >= 0 && wait_raw(&tell, 1, 0) > 0 && tell.revents & (POLLHUP | POLLNVAL)) {
 			take(line, &pause);
 			line_lost(line);
 			give(line, &pause);
@@ -149,8 +149,17 @@ static nfds_t gather(struct pollfd *all, long *time)
 	return count;
 }
 
+/* whether something else than bells and a time was told by a wait: then all is looked at */
+static int is_more(int told, const struct pollfd *all, nfds_t count)
+{
+	for (nfds_t i = 0; i < count; i++)
+		if (all[i].revents && all[i].fd != bells)
+			return 1;
+	return told < 0 || !count;
+}
+
 /* one turn of a watcher: 0 where it is to end */
-static int turn(int number, struct pollfd *all, nfds_t *count, long *time)
+static int turn(int number, int told, struct pollfd *all, nfds_t *count, long *time)
 {
 	struct pause pause;
 	char bytes[64];
@@ -162,14 +171,16 @@ static int turn(int number, struct pollfd *all, nfds_t *count, long *time)
 		goes_on = 0;
 	}
 	if (goes_on) {
-		while (syscall(SYS_read, wake[0], bytes, sizeof bytes) > 0)
+		int more = is_more(told, all, *count);
+		while (more && syscall(SYS_read, wake[0], bytes, sizeof bytes) > 0)
 			;
-		sweep_all();
+		if (more)
+			sweep_all();
 		if (is_late)
 			look_at(ALL);
 		is_late = 0;
 		hear();
-		look_round();
+		look_round(more);
 		*count = gather(all, time);
 	}
 	leave(&pause);
@@ -181,10 +192,12 @@ static void *run(void *number)
 	struct pollfd all[2 + MOST_LINES * (1 + MOST_DEVICES)];
 	long time = 0;
 	nfds_t count = 0;
+	int told;
+	hold_for_good();
 	sem_post(&has_come);
 	do
-		wait_raw(all, count, time);
-	while (turn((int)(intptr_t)number, all, &count, &time));
+		told = wait_raw(all, count, time);
+	while (turn((int)(intptr_t)number, told, all, &count, &time));
 	return NULL;
 }
 
