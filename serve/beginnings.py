@@ -12,6 +12,8 @@ from room import RATE, SERVE, calls_of, is_passed, ran
 
 # The seconds in which a terminal tells what is waited for, and the byte that stands for Ctrl-C there.
 TELLS, CTRL_C = 20, b"\x03"
+# How many bells there are when a program begins, when it has opened a node, and that one once more with another.
+BELLS = "0\n1\n2\n"
 # Scripts, with the statuses that they end with.
 ENDS = {"exit 77": 77, "kill -SEGV $$": 139, "kill -KILL $$": 137, "(trap '' TERM; sleep 100) & exit 5": 5}
 
@@ -103,4 +105,12 @@ def try_nested(room):
     room.want(status == 0 and out == told, "one in another", out)
 
 
-PARTS = try_terminal, try_bare, try_ends, try_nested
+def try_bells(room):
+    """A bell's file is made when its node is opened for the first time, and not before."""
+    script = "bells() { ls \"$DVBEMU_DIR\" | grep -c '^bell'; }; demux=/dev/dvb/adapter0/demux0; bells; exec 3<$demux; bells; " \
+        "exec 3<&-; exec 3<$demux 4<$demux; bells"
+    out, _ = room.run("sh", "-c", script, keep="none")
+    room.want(out == BELLS, "a bell's file comes with the first open of its node", out)
+
+
+PARTS = try_terminal, try_bare, try_ends, try_nested, try_bells
