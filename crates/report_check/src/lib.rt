@@ -16,7 +16,7 @@
 //!
 //! What is only tested, by `examples/rows`: which line and kind `first_fault` tells, and that reports worked out by hand are
 //! right. The time is linear in the report, the packets that its nodes are passed and the bytes of writes; memory holds what was
-//! read, its text once more, and the packets that clients play. How a report is checked is this project's own.
+//! read, and the packets that clients play. How a report is checked is this project's own.
 #![tactic(auto)]
 
 mod client;

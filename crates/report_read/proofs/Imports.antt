@@ -7,17 +7,16 @@ pub use Rattle.dmx_calls.specs.declared.reply.Tap.TheVariants.{Attach as AttachT
 pub use Rattle.filter_match.specs.Match.{numbers_below}
 pub use Rattle.filter_match.specs.Places.{filter_with, place_at}
 pub use Rattle.pid_set.proofs.Rising.{Above, Below, Rising, rising-from}
-pub use Rattle.report_read.specs.Imports.{Act, AddPid as AddPidAct, Again, All, Attach as AttachAct, Busy, Close as CloseAct, Data, Detach as DetachAct, Done, End as EndAct, HasBytes, Input, IsFilter, LARGEST_READ, LogEntry, NoMemory, Open as OpenAct, Outcome, OutcomeKind, Output, Overflow, Pass as PassAct, Passed, PidRow, Place, Poll as PollAct, PollError, Read as ReadAct, Ready, Refused, RemovePid as RemovePidAct, Response, SectionFilter, SetFilter as SetFilterAct, SetPes as SetPesAct, SetSize as SetSizeAct, Start as StartAct, Stop as StopAct, Tally, TapChange, TimedOut, Told, ToldNode, entry_text, has_pid, hex_byte, is_ascii_digit, text_of, told_entry, with_place}
+pub use Rattle.report_read.specs.Imports.{Act, AddPid as AddPidAct, Again, All, Attach as AttachAct, Busy, Close as CloseAct, Data, Detach as DetachAct, Done, End as EndAct, HasBytes, Input, IsFilter, LARGEST_READ, LogEntry, NoMemory, Open as OpenAct, Outcome, OutcomeKind, Output, Overflow, Pass as PassAct, Passed, PidRow, Place, Poll as PollAct, PollError, Read as ReadAct, Ready, Refused, RemovePid as RemovePidAct, Response, SectionFilter, SetFilter as SetFilterAct, SetPes as SetPesAct, SetSize as SetSizeAct, Start as StartAct, Stop as StopAct, Tally, TapChange, TimedOut, Told, ToldNode, entry_text, flat_map, has_pid, hex_byte, is_ascii_digit, text_of, told_entry, told_node_text, with_place}
 pub use Rattle.report_read.specs.Inside.Entries.{entry_in}
 pub use Rattle.report_read.specs.Inside.Parts.{begins_place, is_full_for, more_pids, more_places, pid_step, place_step}
-pub use Rattle.report_read.specs.Inside.Reading.{Reading, all_in, begins_number, begins_with, behind, bytes_in, choose, digits, many, number16, number32, number64, number_in, onto, with_first}
+pub use Rattle.report_read.specs.Inside.Reading.{Reading, all_in, begins_number, begins_with, behind, bytes_in, choose, digits, gone, many, number16, number32, number64, number_in, onto, with_first}
 pub use Rattle.report_read.specs.Inside.Whole.{client_in, clients_in, node_in, nodes_in, outcome_in, outcomes_in, row_in, rows_in, told_in}
 pub use Rattle.report_read.specs.Ranges.{ArePartsInRange, IsActInRange, IsEntryInRange, IsEntryOf, IsInRange, IsKindInRange, IsNodeInRange, IsOutcomeInRange, IsPidSet, IsResponseInRange, IsRowInRange, IsTallyInRange, IsTapInRange}
 pub use Rattle.report_read.specs.Report.{IsNoLine, IsNoReport, are_nodes, are_placed, are_rows, told_of}
 pub use Rattle.report_text.specs.Acts.{act_text, next_pid_text, pids_text}
 pub use Rattle.report_text.specs.Replies.{flag_text, response_text}
 pub use Rattle.report_text.specs.Report.{client_text, clients_text, outcome_text, row_text, tally_text}
-pub use Rattle.report_text.specs.Told.{told_node_text}
 pub use Rattle.std.proofs.Common.{Bool, List, None, Some, [], ap, append-nil, append_assoc, arith, codes, drop, false, fold, get_or, length, length-append, map, nat_le, refl, replicate, rules, suc, sym, take, true, zero, ℕ, ◌%◌, ◌++◌, ◌+◌, ◌-◌, ◌/◌, ◌<◌, ◌^◌, ◌∙◌, ◌∷◌, ◌≡◌, ◌≤◌}
 pub use Rattle.std.proofs.Math.Bool.{and-false}
 pub use Rattle.std.proofs.Math.Seq.{drop-append_seam, take-append_seam}
@@ -26,7 +25,7 @@ pub use Rattle.std.proofs.lemmas.Fmt.{decimal_nonempty}
 pub use Rattle.std.proofs.lemmas.List.{length-map, map-append, take_all}
 pub use Rattle.std.proofs.lemmas.List.Elements.{All-filter, All-from_get_or, All-get_or, All-head, All-map, All-nil, All-push, All-tail}
 pub use Rattle.std.specs.Fmt.{decimal}
-pub use Rattle.std.specs.List.{filter, flat_map}
+pub use Rattle.std.specs.List.{filter}
 pub use Rattle.std.specs.Prelude.{nat_eq, nat_lt, not, ◌&&◌, ◌==◌, ◌≢◌}
 pub use Rattle.std.specs.Str.{all_ascii_digits}
 pub use Rattle.text_forms.proofs.Decimals.{decimal-digits, number_between-decimal}

@@ -8,4 +8,5 @@ pub mod ClientsAgain
 pub mod WholeAgain
 pub mod Steps
 pub mod Many
+pub mod Compared
 pub mod Imports

@@ -15,10 +15,10 @@ pub use Rattle.filter_match.specs.declared.filter.Place.{Place}
 pub use Rattle.filter_match.specs.declared.filter.SectionFilter.{SectionFilter}
 pub use Rattle.pid_set.specs.Pids.{ArePids, has_pid, with_pid}
 pub use Rattle.report_text.specs.Entries.{entry_text, is_of_client}
-pub use Rattle.report_text.specs.Told.{Told, ToldNode, text_of}
+pub use Rattle.report_text.specs.Told.{Told, ToldNode, text_of, told_node_text}
 pub use Rattle.std.specs.Char.{is_ascii_digit}
 pub use Rattle.std.specs.Cmp.Lexicographic.{pointwise}
-pub use Rattle.std.specs.List.{All, list_any, prefix_len}
+pub use Rattle.std.specs.List.{All, flat_map, list_any, prefix_len}
 pub use Rattle.std.specs.Option.{option_map}
 pub use Rattle.text_forms.specs.Hex.{hex_byte}
 pub use Rattle.text_forms.specs.Numbers.{number_between}

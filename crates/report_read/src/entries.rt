@@ -97,8 +97,8 @@ pub fn read_entries(
     Ok(Some(entries))
 }
 
-/// Whether these bytes are the same.
-pub fn is_same(these: &[u8], those: &[u8]) -> bool
+// Whether these bytes are the same.
+fn is_same(these: &[u8], those: &[u8]) -> bool
     ensures same { result ≡ true → these.now ≡ those.now }
     ensures other { result ≡ false → these.now ≢ those.now }
 {

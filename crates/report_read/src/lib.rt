@@ -1,7 +1,7 @@
 //! Reports that are read: what a report tells, or that a text is none.
 //!
-//! `read_report` reads a whole report, whoever wrote it, and `read_line` a line of a node. What was read is written again by
-//! `report_text`, which writes the program's reports, and compared with the bytes: so nobody needs to believe how the code reads.
+//! `read_report` reads a whole report, whoever wrote it, and `read_line` a line of a node. What was read is written again, line
+//! by line, by `report_text`, and compared with the bytes: so nobody needs to believe how the code reads.
 //!
 //! What a contract sees: the bytes as a list of numbers, and what a report tells as a record of numbers and lists (`told_of`). A
 //! text is a report (`IsReport`, `specs/Report.antt`) where it is the text of something that is in range (`specs/Ranges.antt`)
@@ -14,7 +14,7 @@
 //!
 //! What is only tested: that ample memory is enough (`tests_text`), and texts at the edges of what is a report, by the command
 //! check (`examples/`). Whether a report is right for its session is asked in `report_check`. Limits: the time is linear in the
-//! bytes; memory is taken for what the report tells and for one text of its length. Reports are this project's own.
+//! bytes; memory is taken for what it tells, the text in front of its nodes and a line. Reports are this project's own.
 #![tactic(auto)]
 
 mod acts;
@@ -26,6 +26,7 @@ mod order;
 mod parts;
 mod replies;
 mod sets;
+mod spelled;
 mod stream;
 mod whole;
 

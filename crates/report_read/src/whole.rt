@@ -8,12 +8,11 @@ ghost use Rattle.report_read.specs.Ranges.{IsTallyInRange, ArePartsInRange};
 
 use crate::bytes::Bytes;
 use crate::clients::read_clients;
-use crate::entries::is_same;
 use crate::nodes::read_nodes;
 use crate::order::{are_nodes, are_rows};
+use crate::spelled::is_spelled;
 use crate::stream::{read_rows, read_tally};
 use dmx_calls::{Entry, Outcome};
-use report_text::told_report;
 use std::alloc::{AllocError as NoMemory, Global};
 use ts_packet::Tally;
 use ts_watch::Head;
@@ -95,7 +94,7 @@ fn are_few(outcomes: &[Vec<Outcome>]) -> bool
 ///
 /// # Errors
 ///
-/// `NoMemory` where memory for what it tells, or for its text, was refused.
+/// `NoMemory` where memory for what it tells, or for a line of it, was refused.
 #[tactic(auto, using(crate::proofs::WholeAgain::not_read, crate::proofs::WholeAgain::not_same, crate::proofs::WholeAgain::no_clients, crate::proofs::WholeAgain::no_rows, crate::proofs::WholeAgain::no_nodes))]
 pub fn read_report(alloc: Global, bytes: &[u8]) -> Result<Option<ReadReport>, NoMemory>
     ensures { IfOk result (λ told. MatchOption told (IsNoReport bytes.now) (λ t. IsReport (told_of t) bytes.now)) }
@@ -104,8 +103,7 @@ pub fn read_report(alloc: Global, bytes: &[u8]) -> Result<Option<ReadReport>, No
     let Some(told) = read_told(alloc, &mut rest)? else {
         return Ok(None);
     };
-    let text = told_report(alloc, bytes.len(), &told.head, &told.outcomes, &told.nodes)?;
-    if !is_same(&text, bytes) {
+    if !is_spelled(alloc, &told, bytes)? {
         return Ok(None);
     }
     if !are_few(&told.outcomes) {

@@ -16,7 +16,6 @@ pub use Rattle.report_text.specs.Inside.Turns.{BreaksBefore, Told, tail_text, tu
 pub use Rattle.report_text.specs.Replies.{response_text}
 pub use Rattle.report_text.specs.Report.{client_text, clients_text, end_text, outcome_text, report_of, row_text, tally_text}
 pub use Rattle.report_text.specs.Summary.{bytes_read, data_bytes, is_overflow, overflows, sums_text}
-pub use Rattle.report_text.specs.Told.{told_node_text}
 pub use Rattle.std.proofs.Common.{Bool, List, Some, [], ap, append-nil, append_assoc, ap₂, arith, codes, cond, decimal, drop, false, get_or, if◌then◌else◌, inl, inr, length, length-append, length-drop, map, nat_lt, option_map, refl, rules, slice_get, subst, suc, sum_by, sym, take, take-add, tests, true, zero, ℕ, ◌*◌, ◌++◌, ◌+◌, ◌-◌, ◌<◌, ◌^◌, ◌||◌, ◌∙◌, ◌∷◌, ◌≡◌, ◌≤◌, ◌⊎◌}
 pub use Rattle.std.proofs.KnownBytes.{Appends-nil, Appends-trans}
 pub use Rattle.std.proofs.Math.Seq.{drop-nil, take-append-add}

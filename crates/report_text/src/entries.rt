@@ -81,18 +81,11 @@ pub fn is_called(calls: &[Entry]) -> bool
     calls.iter().any(|entry| entry.who > 0)
 }
 
-/// `node ` and the name of the node.
-pub fn add_node(out: &mut Vec<u8>, node: u32) -> Result<(), NoMemory>
-    ensures { Appended 30 (codes "node " ++ node_text node) out.old out.new result }
-{
-    out.extend_from_slice(b"node ")?;
-    write_node(out, node)
-}
-
 /// The line of a node.
 pub fn add_node_line(out: &mut Vec<u8>, node: u32) -> Result<(), NoMemory>
     ensures { Appended 40 (codes "node " ++ (node_text node ++ codes "\n")) out.old out.new result }
 {
-    add_node(out, node)?;
+    out.extend_from_slice(b"node ")?;
+    write_node(out, node)?;
     out.extend_from_slice(b"\n")
 }

@@ -1,5 +1,5 @@
 // A journal that writes lines.
-ghost use Rattle.std.specs.Prelude.{◌≡◌, ◌++◌, [], true, IsOk, OnOk};
+ghost use Rattle.std.specs.Prelude.{◌≡◌, ◌++◌, [], true, IfOk, IsOk, OnOk};
 ghost use Rattle.serve_top.specs.Imports.{Appends, text_of, told_entry, told_head};
 ghost use Rattle.serve_top.specs.Lines.{call_line, fed_line, HasWritten};
 
@@ -7,7 +7,7 @@ use crate::server::NoReport;
 use dmx_calls::limits::NODES;
 use dmx_calls::{Entry, Fed, Outcome};
 use emu_io::Sink;
-use report_text::{add_entry, told_report, write_all};
+use report_text::{add_end, add_entry, add_head, write_all};
 use seats::{Before, Journal, Made};
 use std::alloc::{AllocError as NoMemory, Global};
 use text_forms::{write_decimal, write_node};
@@ -138,6 +138,16 @@ impl<K: Sink + Drop> Batches for WrittenLines<K> {
     ghost took_both = { λ a b c xs ys p q. written_both K.end fed_line a b c xs ys p q };
 }
 
+// The report that tells this of the stream, and no call.
+fn head_text(alloc: Global, head: &Head) -> Result<Vec<u8>, NoMemory>
+    ensures { IfOk result (λ text. text.items ≡ text_of (record { head = told_head head.now; outcomes = []; nodes = [] })) }
+{
+    let mut text = Vec::new(alloc);
+    add_head(&mut text, head)?;
+    add_end(&mut text, head.read_fault)?;
+    Ok(text)
+}
+
 /// Writes the report that tells this of the stream, and no call.
 ///
 /// # Errors
@@ -146,7 +156,7 @@ impl<K: Sink + Drop> Batches for WrittenLines<K> {
 pub fn write_head<K: Sink>(alloc: Global, sink: &mut K, head: &Head) -> Result<(), NoReport>
     ensures { OnOk result (Appends (K.end sink.old).written (K.end sink.new).written (text_of (record { head = told_head head.now; outcomes = []; nodes = [] }))) }
 {
-    let text = told_report(alloc, 0, head, &[], &[])?;
+    let text = head_text(alloc, head)?;
     match write_all(sink, &text) {
         Ok(()) => Ok(()),
         Err(_) => Err(NoReport::Failed),

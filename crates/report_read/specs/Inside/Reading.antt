@@ -24,6 +24,11 @@ begins_with text bytes = pointwise nat_eq (take (length text) bytes) text
 abbrev pub behind : (text bytes : List ℕ) → Option (List ℕ)
 behind text bytes = if begins_with text bytes then Some (drop (length text) bytes) else None
 
+-- the same of bytes that were left by what stands in front of them, if any were
+unfoldable pub gone : (text : List ℕ) → (left : Option (List ℕ)) → Option (List ℕ)
+gone text None = None
+gone text (Some bytes) = behind text bytes
+
 -- what is read behind this text
 abbrev pub past : {B : Type 0} → (text bytes : List ℕ) → (List ℕ → Reading B) → Reading B
 past text bytes next = elim (behind text bytes) [ Some rest ↦ next rest | None ↦ None ]
