@@ -29,6 +29,9 @@ struct Bell {
     path: String,
     // Its file, from the node's first open on.
     file: OnceLock<File>,
+    // One more than the places of its last open and close. It may hear of a close behind the open of the node's next program.
+    opened: AtomicU64,
+    closed: AtomicU64,
     // The PIDs that the node's filter was asked for: a bit each.
     wanted: Vec<AtomicU64>,
     // 1 where the batch that passes may have packets for it.
@@ -62,6 +65,8 @@ impl Bell {
             rt: *rt,
             path: format!(in rt.alloc(); "{folder}/bell.{node}")?,
             file: OnceLock::new(),
+            opened: AtomicU64::new(0),
+            closed: AtomicU64::new(0),
             wanted,
             passing: AtomicU32::new(0),
             due: AtomicU64::new(0),
@@ -93,8 +98,11 @@ impl Bell {
         }
     }
 
-    // Whether a batch has packets of a PID that the node was asked for.
+    // Whether a batch has packets of a PID that the node was asked for, which is open.
     fn wants(&self, batch: &Batch) -> bool {
+        if self.opened.load(SeqCst) <= self.closed.load(SeqCst) {
+            return false;
+        }
         'words: for at in 0..WORDS {
             let bits = match self.wanted.get(usize::from(at)) {
                 Some(word) => word.load(SeqCst),
@@ -107,10 +115,12 @@ impl Bell {
         false
     }
 
-    // The program has opened the node, or closed it.
-    fn begin(&self) {
+    // A program has opened the node.
+    fn begin(&self, place: u64) {
+        self.make();
         self.clear();
         self.looked.store(NOBODY, SeqCst);
+        self.opened.fetch_max(place.saturating_add(1), SeqCst);
     }
 
     // The filter is asked for a PID. So may be the batch that passes meanwhile; what passed before is found by the next look.
@@ -142,13 +152,12 @@ impl Bell {
     }
 
     // A call on the node was done, and not refused.
-    fn note(&self, act: &Act) {
+    fn note(&self, act: &Act, place: u64) {
         match act {
-            Act::Open => {
-                self.make();
-                self.begin();
+            Act::Open => self.begin(place),
+            Act::Close => {
+                self.closed.fetch_max(place.saturating_add(1), SeqCst);
             }
-            Act::Close => self.begin(),
             Act::SetFilter { params, .. } => {
                 self.clear();
                 self.ask_for(params.pid);
@@ -193,7 +202,7 @@ impl Ears for Bells {
             Act::Read { .. } | Act::Poll { .. } => bell.look(call.place),
             act => {
                 if let Reply::Done { .. } = &call.reply {
-                    bell.note(act);
+                    bell.note(act, call.place);
                 }
             }
         }
