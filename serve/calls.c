@@ -12,6 +12,7 @@
 #include <fcntl.h>
 #include <linux/dvb/dmx.h>
 #include <poll.h>
+#include <signal.h>
 #include <stdio.h>
 #include <stdlib.h>
 #include <string.h>
@@ -157,6 +158,22 @@ static void try_last(void)
 	want(poll(&one, 1, 300) == 0, "nothing comes behind the end");
 }
 
+/* A node that another program has closed just before: what is heard of that close, maybe later, doesn't take the bell from who has it. */
+static void try_turns(int turns)
+{
+	int found = 0;
+	pid_t other = fork();
+	while (!other)
+		close(open(demux, O_RDWR));
+	for (int i = 0; i < turns; i++) {
+		int fd = open_pat(O_NONBLOCK);
+		found += select_one(fd, LATE_MS);
+		close(fd);
+	}
+	want(found == turns, "each wait on a node that another program had finds a section");
+	want(!kill(other, SIGKILL) && waitpid(other, NULL, 0) == other, "the other program ends");
+}
+
 static void try_many(int calls)
 {
 	int fd = open_pat(O_NONBLOCK), done = 0;
@@ -185,6 +202,8 @@ int main(int count, char **words)
 		return wait_for_nothing(atoi(words[2]));
 	if (count == 3 && !strcmp(words[1], "many"))
 		try_many(atoi(words[2]));
+	else if (count == 3 && !strcmp(words[1], "turns"))
+		try_turns(atoi(words[2]));
 	else if (count == 2 && !strcmp(words[1], "last"))
 		try_last();
 	else
