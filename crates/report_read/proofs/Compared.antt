@@ -41,7 +41,7 @@ gone_all a b c d e f left = grind (arith, common_steps, gone_both)
 
 -- ------ the whole
 
-there : (text bytes rest : List ℕ) → behind text bytes ≡ Some rest → text ++ rest ≡ bytes
+pub there : (text bytes rest : List ℕ) → behind text bytes ≡ Some rest → text ++ rest ≡ bytes
 there text bytes rest e = grind (arith, bytes_decides, take-append-drop)
 
 pub same_end : (text bytes rest : List ℕ) → gone text (Some bytes) ≡ Some rest → length rest ≡ 0 → text ≡ bytes

@@ -9,4 +9,5 @@ pub mod WholeAgain
 pub mod Steps
 pub mod Many
 pub mod Compared
+pub mod Decoding
 pub mod Imports

@@ -59,6 +59,21 @@ impl<'a> Bytes<'a> {
         Bytes { rest: text }
     }
 
+    /// All that is left.
+    pub fn all(&self) -> &'a [u8]
+        ensures { result.now ≡ self.now }
+    {
+        self.rest
+    }
+
+    /// What is left of the line, or all where it has no end.
+    pub fn line(&self) -> &'a [u8] {
+        match self.rest.iter().position(|byte| *byte == b'\n') {
+            Some(end) => &self.rest[..end],
+            None => self.rest,
+        }
+    }
+
     /// How many bytes are left.
     pub fn len(&self) -> usize
         ensures { result ≡ length self.now }

@@ -20,6 +20,7 @@
 mod acts;
 mod bytes;
 mod clients;
+mod decoded;
 mod entries;
 mod nodes;
 mod order;

@@ -6,6 +6,7 @@ ghost use Rattle.report_read.specs.Inside.Reading.{Reads, made, bytes_in};
 ghost use Rattle.report_read.specs.Inside.Parts.{tap_in, done_in, data_in, overflow_in, timed_out_in, ready_in, other_response_in, refusal_in, response_in, who_in};
 
 use crate::bytes::Bytes;
+use crate::decoded::read_bytes;
 use crate::parts::{read_flag, read_pending, read_who};
 use crate::sets::read_pids;
 use dmx_calls::limits::LARGEST_READ;
@@ -105,18 +106,6 @@ fn read_ready(bytes: &mut Bytes<'_>) -> Option<LogReply>
         at,
         ended,
     })
-}
-
-// The bytes whose digits stand at the front.
-fn read_bytes(alloc: Global, bytes: &mut Bytes<'_>) -> Result<Vec<u8>, NoMemory>
-    ensures value { IfOk result (λ read. bytes_in bytes.old ≡ (read.items, bytes.new)) }
-    ensures range { IfOk result (λ read. All (λ byte. byte < 256) read.items) }
-{
-    let mut read = Vec::new(alloc);
-    'bytes: while let Some(byte) = bytes.pair() {
-        read.push(byte)?;
-    }
-    Ok(read)
 }
 
 // The buffer of a read that gave these bytes.

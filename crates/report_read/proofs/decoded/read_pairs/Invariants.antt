@@ -1,5 +1,5 @@
 use Rattle.report_read.proofs.Imports.{◌≡◌, ◌<◌, ◌++◌, length, All, bytes_in}
-use Rattle.report_read.proofs.replies.read_bytes.Given as goal
+use Rattle.report_read.proofs.decoded.read_pairs.Given as goal
 
 abbrev pub invariant-bytes : goal.invariant-bytes
 invariant-bytes l = record {
