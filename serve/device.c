@@ -27,10 +27,10 @@ struct device *device_at(struct at at) { return &at.line->table->devices[at.plac
 /* the device behind a descriptor, if there is one */
 int found(int fd, struct at *at)
 {
-	ino_t ino = is_marked(fd) ? pipe_of(fd) : 0;
-	if (!ino)
-		return unmark(fd), 0;
-	for (struct line *line = lines; line < &lines[MOST_LINES]; line++)
+	if (!is_marked(fd))
+		return 0;
+	ino_t ino = pipe_of(fd);
+	for (struct line *line = lines; ino && line < &lines[MOST_LINES]; line++)
 		for (int i = 0; line->table && i < MOST_DEVICES; i++)
 			if (line->table->devices[i].kind && line->table->devices[i].ino == ino) {
 				*at = (struct at){ line, i };
