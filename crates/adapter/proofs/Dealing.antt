@@ -1,14 +1,8 @@
 -- How the lists of the nodes grow, entry by entry.
-use Rattle.adapter.proofs.Imports.{ℕ, zero, suc, ◌<◌, ◌≡◌, ◌≢◌, ◌∙◌, refl, sym, ap, subst, Bool, true, false, cond, List, [], ◌∷◌, ◌++◌, length, filter, reverse, set, get_or, nat_eq, All, arith, append_assoc, append-nil, length-append, nat_tests, flat_map-append, reverse-append, get_or-set_same, get_or-set_other, filter-append, get_or-append_seam, ToldEntry, is_on, all_of}
+use Rattle.adapter.proofs.Imports.{ℕ, ◌<◌, ◌≡◌, ◌≢◌, ◌∙◌, refl, sym, ap, subst, Bool, true, false, cond, List, [], ◌∷◌, ◌++◌, length, filter, reverse, set, get_or, nat_eq, All, arith, append_assoc, length-append, nat_tests, reverse-append, get_or-set_same, get_or-set_other, filter-append, get_or-append_seam, ToldEntry, is_on}
 
 pub all-last : {X : Type 0} (P : X → Type 0) (xs : List X) (x : X) → All P (xs ++ x ∷ []) → P x
 all-last P xs x a = subst P (get_or-append_seam xs x [] x) (a (length xs) x (let l = length-append xs (x ∷ []) in omega (arith, l)))
-
-pub empty-more : (lists : List (List ToldEntry)) → ((n : ℕ) → get_or lists n [] ≡ []) → (n : ℕ) → get_or (lists ++ [] ∷ []) n [] ≡ []
-empty-more [] empty zero = refl
-empty-more [] empty (suc n) = refl
-empty-more (l ∷ lists) empty zero = empty 0
-empty-more (l ∷ lists) empty (suc n) = empty-more lists (λ n. empty (suc n)) n
 
 -- the list of a node, behind it what is still to come, the last one first
 abbrev pub IsDealing : (lists : List (List ToldEntry)) → (left : List ToldEntry) → (whole : ℕ → List ToldEntry) → Type 0
@@ -38,12 +32,6 @@ dealing-more lists longer left rest e whole there last is same so_far node low =
           ∙ ap (λ l. l ++ reverse (filter (is_on node) rest)) (get_or-set_other lists e.node node (get_or lists e.node [] ++ e ∷ []) [] apart)
           ∙ ap (λ b. get_or lists node [] ++ (reverse (cond b (e ∷ []) []) ++ reverse (filter (is_on node) rest))) (sym y) ∙ before
 
--- a log behind others
-pub last-log : (node : ℕ) (rest : List (List ToldEntry)) (log : List ToldEntry) → reverse (filter (is_on node) (all_of (rest ++ log ∷ []))) ≡ reverse (filter (is_on node) log) ++ reverse (filter (is_on node) (all_of rest))
-last-log node rest log =
-    ap (λ l. reverse (filter (is_on node) l)) (flat_map-append (λ log. log) rest (log ∷ []) ∙ ap (λ l. all_of rest ++ l) (append-nil log))
-    ∙ ap reverse (filter-append (is_on node) (all_of rest) log) ∙ reverse-append (filter (is_on node) (all_of rest)) (filter (is_on node) log)
-
 -- one list is replaced
 pub set-each : (P : ℕ → List ToldEntry → Type 0) (lists : List (List ToldEntry)) (i : ℕ) (x : List ToldEntry) → i < length lists → P i x → (n : ℕ) → (n ≢ i → P n (get_or lists n [])) → P n (get_or (set lists i x) n [])
 set-each P lists i x there own n other = by_test (nat_eq n i) refl where
@@ -54,9 +42,3 @@ set-each P lists i x there own n other = by_test (nat_eq n i) refl where
   by_test false y =
       let apart : n ≢ i = grind (arith, nat_tests) in
       subst (λ l. P n l) (sym (get_or-set_other lists i n x [] apart)) (other apart)
-
-pub dealt-more : (lists longer : List (List ToldEntry)) (rest : List (List ToldEntry)) (log : List ToldEntry) (node : ℕ) (whole : List ToldEntry) → get_or longer node [] ≡ get_or lists node [] ++ reverse (filter (is_on node) log)
-    → get_or lists node [] ++ reverse (filter (is_on node) (all_of (rest ++ log ∷ []))) ≡ whole → get_or longer node [] ++ reverse (filter (is_on node) (all_of rest)) ≡ whole
-dealt-more lists longer rest log node whole dealt so_far =
-    let r = reverse (filter (is_on node) (all_of rest)) in
-    ap (λ l. l ++ r) dealt ∙ append_assoc (get_or lists node []) (reverse (filter (is_on node) log)) r ∙ ap (λ l. get_or lists node [] ++ l) (sym (last-log node rest log)) ∙ so_far

@@ -49,6 +49,3 @@ module _ {N : Type 0} where
 
   pub no_rows : {V : Type 0} (items : V → List (TableId × View N)) (callers : ℕ) (rows : List V) → length rows ≡ callers → ((who : ℕ) (r : V) → slice_get rows who ≡ Some r → items r ≡ []) → AreFreshRows items callers [] rows
   no_rows items callers rows long e = (long, λ who r at. (ap length (e who r at), λ i l p a b. absurd (cc a)))
-
-pub empty_more : {P V : Type 0} (items : V → List P) (rows : List V) (r : V) → items r ≡ [] → ((i : ℕ) (x : V) → slice_get rows i ≡ Some x → items x ≡ []) → (i : ℕ) (x : V) → slice_get (rows ++ r ∷ []) i ≡ Some x → items x ≡ []
-empty_more {P = P} items rows r none each i x at = ⊎_elim (λ a. each i x a) (λ a. subst (λ (z : _). items z ≡ []) a.1 none) (at_end rows r x i at)

@@ -18,7 +18,7 @@ pub use Rattle.dmx_calls.specs.Histories.{before_entry, feeder_acts, feeder_entr
 pub use Rattle.dmx_calls.specs.Response.{Response}
 pub use Rattle.dmx_calls.specs.Rules.{Rules}
 pub use Rattle.dmx_calls.specs.Log.{Act}
-pub use Rattle.dmx_calls.specs.declared.log.Act.TheVariants.{End as EndAct}
+pub use Rattle.dmx_calls.specs.declared.call.Call.TheVariants.{End as EndAct}
 pub use Rattle.dmx_calls.specs.declared.log.Entry.{Entry as ToldEntry}
 pub use Rattle.dmx_calls.specs.declared.params.Input.{Input}
 pub use Rattle.dvr_core.specs.Stands.{CoreValue as DvrValue, StandsFor as DvrStandsFor}
@@ -26,11 +26,10 @@ pub use Rattle.lemmas.proofs.Lists.{all_front, has_left, has_right}
 pub use Rattle.lemmas.proofs.Tests.{nat_eq_turned}
 pub use Rattle.node_core.specs.Stands.{CoreValue, StandsFor}
 pub use Rattle.node_lock.proofs.Views.{prefix_trans}
-pub use Rattle.std.proofs.Common.{All, Bool, List, None, Option, Some, [], ap, append-nil, append_assoc, arith, cond, false, filter, get_or, if◌then◌else◌, inl, inr, length, length-append, length-set, map, nat_eq, nat_lt, option_map, refl, reverse, rules, set, slice_get, slice_index, slice_index_or, subst, suc, sym, true, vec_len, zero, ℕ, ⊎_elim, ◌*◌, ◌++◌, ◌+◌, ◌-◌, ◌<◌, ◌^◌, ◌∙◌, ◌∷◌, ◌≡◌, ◌≢◌, ◌≤◌, ◌⊎◌}
+pub use Rattle.std.proofs.Common.{All, Bool, List, None, Option, Some, [], ap, append_assoc, arith, cond, false, filter, get_or, if◌then◌else◌, inl, inr, length, length-append, length-set, map, nat_eq, nat_lt, option_map, refl, reverse, rules, set, slice_get, slice_index, slice_index_or, subst, suc, sym, true, vec_len, zero, ℕ, ⊎_elim, ◌*◌, ◌++◌, ◌+◌, ◌-◌, ◌<◌, ◌^◌, ◌∙◌, ◌∷◌, ◌≡◌, ◌≢◌, ◌≤◌, ◌⊎◌}
 pub use Rattle.std.proofs.Math.Nat.{suc-mul}
 pub use Rattle.std.proofs.Math.Seq.{get_or-append_seam, set-append_seam}
 pub use Rattle.std.proofs.lemmas.Bool.Decides.{nat_tests}
-pub use Rattle.std.proofs.lemmas.Grind.{flat_map-append}
 pub use Rattle.std.proofs.lemmas.List.{get_or-map, get_or-set_other, get_or-set_same, length-map, map-append, map-set, reverse-append, set-append_left}
 pub use Rattle.std.proofs.lemmas.List.Elements.{filter-append}
 pub use Rattle.std.proofs.lemmas.List.Sorted.{All-permutation, IsNonDecreasingBy-from_sort_by_key, IsPermutation-map, IsPermutation-reverse, IsPermutation-trans, length_permutation}

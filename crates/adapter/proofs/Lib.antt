@@ -1,6 +1,5 @@
 pub mod Lists
 pub mod Fitting
-pub mod Joins
 pub mod Pieces
 pub mod ByNumber
 pub mod Mine
@@ -10,7 +9,6 @@ pub mod Looking
 pub mod Passing
 pub mod Deals
 pub mod Tries
-pub mod Growing
 pub mod Everybody
 pub mod Pairs
 pub mod Dealing

@@ -1,5 +1,5 @@
 -- The nodes are looked at one after another.
-use Rattle.adapter.proofs.Imports.{◌≡◌, ℕ, ◌+◌, ◌<◌, ◌≤◌, List, length, slice_get, slice_index, set, Some, ap, sym, ◌∙◌, subst, arith, length-set, get_or-set_same, get_or-set_other, dite, ℕ_discrete, TableId, View, HasJust, Has, prefix_trans, DEMUX_NODES, Entry, Fits, OneLook, OneLooks, column, IsGathered, AreGathered, IsLegalAt, caller_of, IsHistory, AreHistories}
+use Rattle.adapter.proofs.Imports.{◌≡◌, ℕ, ◌+◌, ◌<◌, ◌≤◌, List, length, slice_get, slice_index, set, Some, ap, sym, ◌∙◌, subst, arith, length-set, get_or-set_same, get_or-set_other, dite, ℕ_discrete, TableId, View, HasJust, Has, prefix_trans, DEMUX_NODES, Entry, Fits, OneLook, OneLooks, column, IsGathered, IsLegalAt, caller_of, IsHistory}
 use Rattle.adapter.proofs.Lists.{set_elsewhere}
 use Rattle.adapter.proofs.Fitting.{fits_set}
 
@@ -9,9 +9,6 @@ module _ (locks : List TableId) (rows : List (List (TableId × View Entry))) whe
     pub long : length lengths ≡ DEMUX_NODES + 1
     pub later : (i : ℕ) (p : TableId × View Entry) → node ≤ i → slice_get now i ≡ Some p → IsGathered (column i rows) p
     pub done : (i : ℕ) → i < node → (h : List Entry) × (length h ≡ slice_index lengths i) × IsHistory i (column i rows) h
-
-  pub first_looked : (lengths : List ℕ) (now : List (TableId × View Entry)) → length lengths ≡ DEMUX_NODES + 1 → AreGathered locks rows now → Looked 0 lengths now
-  first_looked lengths now long g = record { own = g.0; long = long; later = λ i p b e. g.1 i p e; done = λ i b. absurd (omega arith) }
 
   history_of : (i r : ℕ) (p q : TableId × View Entry) → IsGathered (column i rows) p → OneLook caller_of (IsLegalAt i) r p q → IsHistory i (column i rows) q.1.seen
   history_of i r p q g o = record {
@@ -33,6 +30,3 @@ module _ (locks : List TableId) (rows : List (List (TableId × View Entry))) whe
             ) in (o.then.1.seen, d.0, d.1))
             (λ more. let d = k.done i (omega arith) in (d.0, d.1 ∙ sym (get_or-set_other lengths node i r 0 more), d.2));
       }
-
-  pub all_looked : (node : ℕ) (lengths : List ℕ) (now : List (TableId × View Entry)) → node ≡ DEMUX_NODES + 1 → Looked node lengths now → AreHistories rows lengths
-  all_looked node lengths now end k i below = k.done i (omega arith)

@@ -59,9 +59,6 @@ module _ (who left : ℕ) where
       more = subst (λ (n : ℕ). OneMore caller_of S (entry n) place o.first o.then) (mine node o.first o.was).0 o.more;
     }
 
-    pub fits_after : (locks : List TableId) → Fits locks ps → OneCalls caller_of S node entry place ps qs → Fits locks qs
-    fits_after locks f o = fits_same locks ps qs f (same_after ps qs node o.first o.then o.was o.is o.more.same)
-
   module _ (S : ℕ → List Entry → Type 0) (among : ℕ → Bool) (entry : ℕ → Entry) (places : List ℕ) (ps qs : List (TableId × View Entry)) where
     pub all_mine : 0 < left → AreMine who left ps → AllCall caller_of S among entry places ps qs → AreMine who (left - 1) qs
     all_mine some mine a i q at = let low = slice_get_within qs i q at in let long = a.long in let p = at_place ps i (omega arith) in by_test p.0 p.1 (among i) refl where

@@ -1,14 +1,8 @@
 -- A row of 33 is a row of 32 and one more.
-use Rattle.adapter.proofs.Imports.{◌≡◌, ℕ, List, [], ◌∷◌, ◌++◌, length, slice_get, set, Some, ap, sym, ◌∙◌, set-append_left, set-append_seam, slice_get_within, TableId, View, Fits, Held, OneMore, OneCalls, OneMiss, OneMisses, OneLook, OneLooks}
+use Rattle.adapter.proofs.Imports.{◌≡◌, ℕ, List, [], ◌∷◌, ◌++◌, length, slice_get, set, Some, ap, sym, ◌∙◌, set-append_left, set-append_seam, slice_get_within, TableId, View, Held, OneMore, OneCalls, OneMiss, OneMisses, OneLook, OneLooks}
 use Rattle.adapter.proofs.Lists.{at_last, at_before}
 
 module _ {N : Type 0} where
-  pub fits_left : (ls : List TableId) (l : TableId) (ps : List (TableId × View N)) (p : TableId × View N) → length ps ≡ length ls → Fits (ls ++ l ∷ []) (ps ++ p ∷ []) → Fits ls ps
-  fits_left ls l ps p long f = (long, λ i m q a b. f.1 i m q (at_before ls (l ∷ []) i m a) (at_before ps (p ∷ []) i q b))
-
-  pub fits_last : (ls : List TableId) (l : TableId) (ps : List (TableId × View N)) (p : TableId × View N) → length ps ≡ length ls → Fits (ls ++ l ∷ []) (ps ++ p ∷ []) → p.0 ≡ l
-  fits_last ls l ps p long f = f.1 (length ls) l p (at_last ls l) (ap (slice_get (ps ++ p ∷ [])) (sym long) ∙ at_last ps p)
-
   module _ (who_of : N → ℕ) (S T : List N → Type 0) (means : (h : List N) → S h → T h) where
     more_means : (e : N) (place : ℕ) (p q : TableId × View N) → OneMore who_of S e place p q → OneMore who_of T e place p q
     more_means e place p q o = record { before = o.before; seen = o.seen; now = o.now; at = o.at; few = o.few; told = o.told; calls = o.calls; same = o.same; left = o.left; miss = o.miss; meant = means q.1.seen o.meant }

@@ -13,16 +13,6 @@ module _ {N : Type 0} (locks : List TableId) (old other : List (TableId × View 
     pub later : (i : ℕ) (p : TableId × View N) → i < length rest → slice_get now i ≡ Some p → slice_get old i ≡ Some p
     pub done : (i : ℕ) (p q r : TableId × View N) → length rest ≤ i → slice_get old i ≡ Some p → slice_get other i ≡ Some q → slice_get now i ≡ Some r → OneJoins p q r
 
-  pub none_joined : Fits locks old → Fits locks other → RowJoined other old
-  none_joined f g = let a = f.0 in let b = g.0 in record {
-    fits = f;
-    theirs = g;
-    begins = λ i q e. e;
-    few = omega arith;
-    later = λ i p b e. e;
-    done = λ i p q r below d e n. let low = slice_get_within other i q e in absurd (omega arith);
-  }
-
   -- the pass that is taken is of the lock in its place
   pub last_theirs : (rest ys now : List (TableId × View N)) (q : TableId × View N) (l : TableId) → RowJoined rest now → rest ≡ ys ++ q ∷ [] → slice_get locks (length ys) ≡ Some l → q.0 ≡ l
   last_theirs rest ys now q l j e at = j.theirs.1 (length ys) l q at (j.begins (length ys) q (ap (λ (z : List (TableId × View N)). slice_get z (length ys)) e ∙ at_last ys q))

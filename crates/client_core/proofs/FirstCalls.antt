@@ -1,10 +1,7 @@
 -- A client makes at most 33 first calls a command, the next call counted too; and a read that is repeated stays on its node.
-use Rattle.client_core.proofs.Imports.{Task, Call, OpenFrom, Play, ◌≡◌, refl, sym, ap, ◌∙◌, ℕ, ◌+◌, ◌-◌, ◌*◌, ◌<◌, ◌≤◌, Bool, true, false, List, [], ◌∷◌, ◌++◌, Option, Some, None, length, arith, nat_lt, if◌then◌else◌, slice_index_or, nat_tests, DEMUX_NODES, KeepTap, AttachTap, DetachTap, Response, Done, Busy, Again, Ready, TapChange, Scripted, Target, Node, Slot, Dvr, Deed, Once, Open, ClientCommand, Ending, Made, Bound, AllBusy, Slots, Doing, stands, through, done, ends_wait, ends_drain, commands_of, Standing, slots_after, progress_from, no_slots, repeats_in, repeats_from, CallsAreFew, none-some, same_some, first_on, first_at, first_by_slot, first, telling, after, doing, Next, Still, Through}
-use Rattle.client_core.specs.Events.{progress}
-use Rattle.client_core.specs.Repeats.{repeats}
-use Rattle.client_core.proofs.GoesOn.{progress_of}
-use Rattle.client_core.proofs.Steps.{by_steps, if_next}
-use Rattle.client_core.proofs.More.{Onward, again, counts, done_on_more, repeats_by, repeats_none, rest_of}
+use Rattle.client_core.proofs.Imports.{ahead, repeats_by, again, first, doing, Task, Call, OpenFrom, Play, ◌≡◌, refl, sym, ap, ◌∙◌, ℕ, ◌+◌, ◌-◌, ◌*◌, ◌<◌, ◌≤◌, Bool, true, false, List, [], ◌∷◌, ◌++◌, Option, Some, length, arith, nat_lt, if◌then◌else◌, nat_tests, DEMUX_NODES, KeepTap, AttachTap, DetachTap, Response, Done, Busy, Again, Ready, TapChange, Scripted, Target, Verb, Once, ClientCommand, Ending, Made, Bound, AllBusy, Slots, Doing, stands, through, done, ends_wait, ends_drain, commands_of, Standing, slots_after, progress_from, no_slots, repeats_from, CallsAreFew, none-some, same_some, first_on, telling, after, Next, Still, Through, progress, repeats}
+use Rattle.client_core.proofs.Steps.{any_first, if_next}
+use Rattle.client_core.proofs.More.{Onward, doing_more, repeats_none, rest_of}
 use Rattle.client_core.specs.declared.task.Task.TheVariants as task
 
 -- the reply after which a read may be repeated
@@ -70,27 +67,15 @@ tight (Still t) step (r ∷ rs) =
     looser (most (after t r) + repeats_by (after t r) rs) (most (Still t) + (again t r + repeats_by (after t r) rs)) 1 rs (r ∷ rs) (doing (after t r) (step + 1) rs) (omega arith) (omega (arith, pays t r))
     (tight (after t r) (step + 1) rs)
 
-on_most : (node : ℕ) (v : Deed) → most (first_on node v) ≤ 33
-on_most node (Once w) = omega arith
-on_most node _ = omega arith
+on_most : (node : ℕ) (v : Verb) (has : Bool) → most (first_on node v has) ≤ 33
+on_most node (Once w) has = omega arith
+on_most node _ has = omega arith
 
-at_most : (o : Option ℕ) (v : Deed) → most (first_at o v) ≤ 33
-at_most None v = omega arith
-at_most (Some node) v = on_most node v
+first_most : (slots : Slots) (t : Target) (v : Verb) (has : Bool) → most (first slots t v has) ≤ 33
+first_most slots t v has = any_first (λ n. most n ≤ 33) slots t v has (λ node le. on_most node v has) (λ slot lt. omega arith) (omega arith)
 
-slot_most : (slot : ℕ) (slots : Slots) (v : Deed) → most (first_by_slot slot slots v) ≤ 33
-slot_most slot slots (Once Open) = omega arith
-slot_most slot slots v = at_most (slice_index_or slots slot None) v
-
-first_most : (slots : Slots) (t : Target) (v : Deed) → most (first slots t v) ≤ 33
-first_most slots (Node node) v = on_most node v
-first_most slots (Slot slot) v = slot_most slot slots v
-first_most slots Dvr v = on_most DEMUX_NODES v
-
-done_tight : (slots : Slots) (t : Target) (v : Deed) (step : ℕ) (rs : List Response) → IsTight (33 + repeats_in slots t v rs) rs (done slots t v step rs)
-done_tight slots t v step rs =
-    by_steps (IsTight (33 + repeats_in slots t v rs) rs) slots t v step rs
-    (looser (most (first slots t v) + repeats_by (first slots t v) rs) (33 + repeats_in slots t v rs) 0 rs rs (doing (first slots t v) step rs) (omega arith) (omega (arith, first_most slots t v, counts slots t v rs)) (tight (first slots t v) step rs))
+done_tight : (n : Next) (step : ℕ) (rs : List Response) → most n ≤ 33 → IsTight (33 + repeats_by n rs) rs (doing n step rs)
+done_tight n step rs le = looser (most n + repeats_by n rs) (33 + repeats_by n rs) 0 rs rs (doing n step rs) (omega arith) (omega (arith, le)) (tight n step rs)
 
 -- ------ all commands
 
@@ -103,12 +88,13 @@ all_tight : (slots : Slots) (step : ℕ) (cs : List ClientCommand) (rs : List Re
     → Tight (length cs) (length rs) (repeats_from slots step cs rs) (repeats_from slots step cs (rs ++ goes ∷ [])) s (progress_from slots step cs (rs ++ goes ∷ [])).standing
 all_tight slots step [] rs s is = absurd (none-some s is)
 all_tight slots step (c ∷ cs) rs s is =
-    go (λ ending next left there. all_tight (slots_after ending slots) next cs left s there) (done slots c.target c.deed step rs) (done slots c.target c.deed step (rs ++ goes ∷ []))
-    (repeats_in slots c.target c.deed rs) (repeats_in slots c.target c.deed (rs ++ goes ∷ [])) (done_tight slots c.target c.deed step rs) (done_on_more slots c.target c.deed step rs goes) is where
+    go (λ ending next left there. all_tight (slots_after ending slots) next cs left s there) (done slots c.target c.verb c.has_batch step rs) (done slots c.target c.verb c.has_batch step (rs ++ goes ∷ []))
+    (repeats_by (first slots c.target c.verb c.has_batch) rs) (repeats_by (first slots c.target c.verb c.has_batch) (rs ++ goes ∷ []))
+    (done_tight (first slots c.target c.verb c.has_batch) step rs (first_most slots c.target c.verb c.has_batch)) (doing_more (first slots c.target c.verb c.has_batch) step rs goes) is where
       go : ((ending : Ending) (next : ℕ) (left : List Response) → (progress_from (slots_after ending slots) next cs left).standing ≡ Some s
           → Tight (length cs) (length left) (repeats_from (slots_after ending slots) next cs left) (repeats_from (slots_after ending slots) next cs (left ++ goes ∷ [])) s (progress_from (slots_after ending slots) next cs (left ++ goes ∷ [])).standing)
-          → (d f : Doing) (m n : ℕ) → IsTight (33 + m) rs d → Onward step goes m n d f → (progress_of slots step c cs d).standing ≡ Some s
-          → Tight (length (c ∷ cs)) (length rs) (m + rest_of slots cs d) (n + rest_of slots cs f) s (progress_of slots step c cs f).standing
+          → (d f : Doing) (m n : ℕ) → IsTight (33 + m) rs d → Onward step goes m n d f → (ahead c.line step slots cs d).standing ≡ Some s
+          → Tight (length (c ∷ cs)) (length rs) (m + rest_of slots cs d) (n + rest_of slots cs f) s (ahead c.line step slots cs f).standing
       go deeper (stands e) (stands f) m n tight on there =
           let same : e ≡ s.event = ap (λ t. t.event) (same_some {A = Standing} (record { line = c.line; from = step; event = e }) s there) in
           record {
@@ -121,7 +107,7 @@ all_tight slots step (c ∷ cs) rs s is =
       go deeper (through ending next left) f m n tight on there =
           let later = deeper ending next left there in
           let kept : rest_of slots cs f ≡ repeats_from (slots_after ending slots) next cs (left ++ goes ∷ []) = ap (λ x. rest_of slots cs x) on.0 in
-          let stood : (progress_of slots step c cs f).standing ≡ (progress_from (slots_after ending slots) next cs (left ++ goes ∷ [])).standing = ap (λ x. (progress_of slots step c cs x).standing) on.0 in
+          let stood : (ahead c.line step slots cs f).standing ≡ (progress_from (slots_after ending slots) next cs (left ++ goes ∷ [])).standing = ap (λ x. (ahead c.line step slots cs x).standing) on.0 in
           record {
             few = omega (arith, tight, later.few);
             stays = λ grows t is. later.stays (omega (arith, grows, on.1, kept)) t (sym stood ∙ is);

@@ -1,6 +1,5 @@
 -- What the clocks of a client have followed, and the outcomes that are by them.
-use Rattle.client_core.proofs.Imports.{◌≡◌, ◌≢◌, ◌<◌, ◌≤◌, ◌⊎◌, nat_eq, inl, inr, refl, sym, ap, subst, ◌∙◌, ℕ, Bool, true, false, List, [], ◌∷◌, ◌++◌, Some, None, length, map, take, replicate, arith, slice_get, slice_set, slice_index_or, if◌then◌else◌, All, option_and_then, append_assoc, append-nil, take-append-le, length-set, get_or-set_same, get_or-set_other, nat_tests, All-nil, All-cons, All-head, All-tail, All-replicate, All-get_or, slice_get-get_or, take-length, Response, bytes_counted, unset, last_pcr, HasFollowed, Scripted, Deed, GetStc, ClientCommand, Ending, Made, Bound, AllBusy, NoNode, Asked, Ended, next_event, Exchange, bytes_after, bytes_read, type_after, with_reply, exchanges_after, exchanges, filter_type, is_counter, stc, Counters, stc_kind, kind_by, outcome_by, counters_after, outcome_of, NodeClock, uncalled, counter_of, counter_in, HasFollowedNode, HaveFollowed, AreFew, IsCallEnding, CanAsk, HasClock, CanBegin, IsLate}
-use Rattle.ts_packet.specs.Cut.{cut, cut_after}
+use Rattle.client_core.proofs.Imports.{◌≡◌, ◌≢◌, ◌<◌, ◌≤◌, ◌⊎◌, nat_eq, inl, inr, refl, sym, ap, subst, ◌∙◌, ℕ, Bool, true, false, List, [], ◌∷◌, ◌++◌, Some, None, length, map, take, replicate, arith, slice_get, slice_set, slice_index_or, if◌then◌else◌, All, option_and_then, append_assoc, append-nil, take-append-le, length-set, get_or-set_same, get_or-set_other, nat_tests, All-nil, All-cons, All-head, All-tail, All-replicate, All-get_or, slice_get-get_or, take-length, Response, bytes_counted, unset, last_pcr, HasFollowed, Scripted, Verb, GetStc, ClientCommand, Ending, Made, Bound, AllBusy, NoNode, Asked, Ended, next_event, Exchange, bytes_after, bytes_read, type_after, with_reply, exchanges_after, exchanges, filter_type, is_counter, stc, Counters, stc_kind, kind_by, outcome_by, counters_after, outcome_of, NodeClock, uncalled, counter_of, counter_in, HasFollowedNode, HaveFollowed, AreFew, IsCallEnding, CanAsk, HasClock, CanBegin, IsLate, cut, cut_after}
 
 -- ------ exchanges
 
@@ -37,13 +36,13 @@ none_taken true = All-replicate (λ c. bytes_counted c.clock.cutting ≤ 0) 33 u
 none_taken false = All-nil (λ c. bytes_counted c.clock.cutting ≤ 0)
 
 -- where clocks are kept, each command can begin
-pub can_ask_all : (v : Deed) → CanAsk 33 v
+pub can_ask_all : (v : Verb) → CanAsk 33 v
 can_ask_all (GetStc num) = omega arith
 can_ask_all _ = tt
 
 all_can_begin : (cs : List ClientCommand) → All (CanBegin 33) cs
 all_can_begin [] = All-nil (CanBegin 33)
-all_can_begin (c ∷ cs) = All-cons (CanBegin 33) c cs (can_ask_all c.deed) (all_can_begin cs)
+all_can_begin (c ∷ cs) = All-cons (CanBegin 33) c cs (can_ask_all c.verb) (all_can_begin cs)
 
 pub can_begin : (asked : Bool) (cs : List ClientCommand) → (asked ≡ false → All (CanBegin 0) cs) → All (CanBegin (length (fresh_clocks asked))) cs
 can_begin true cs none = all_can_begin cs

@@ -1,22 +1,8 @@
 -- What beginning and ending a command leave as it was.
-use Rattle.client_core.proofs.Imports.{◌≡◌, refl, sym, ap, subst, ◌∙◌, ℕ, ◌+◌, List, [], ◌∷◌, ◌++◌, map, length, Some, None, arith, ◌<◌, ◌≤◌, Bool, true, false, Option, nat_lt, option_map, if◌then◌else◌, All, append_assoc, append-nil, map-append, All-append, All-weaker, nat_tests, Response, Again, ClientCommand, Ending, Task, Doing, stands, through, Slots, done, Standing, Ended, Progress, with_ended, slots_after, progress_from, progress, next_event, reading_on, waits_after, standing_at, with_reply, exchanges, outcome_by, outcome_of, counter_in, HaveFollowed, Scripted, IfSome, IfNone, Current, ahead, behind, coming_from, coming, Core, IsLate, IsAfter, HasTaken, next_of, waits_with, none-some, first, event_of, doing, Still, Through}
+use Rattle.client_core.proofs.Imports.{◌≡◌, refl, sym, ap, subst, ◌∙◌, ℕ, ◌+◌, List, [], ◌∷◌, ◌++◌, map, length, Some, None, arith, ◌<◌, ◌≤◌, Bool, true, false, Option, nat_lt, option_map, if◌then◌else◌, All, append_assoc, append-nil, map-append, All-append, All-weaker, nat_tests, Response, Again, ClientCommand, Ending, Task, Slots, Standing, Ended, Progress, with_ended, slots_after, progress_from, progress, next_event, reading_on, waits_after, standing_at, with_reply, exchanges, outcome_by, outcome_of, counter_in, HaveFollowed, Scripted, IfSome, IfNone, Current, ahead, behind, coming_from, coming, Core, IsLate, IsAfter, HasTaken, next_of, waits_with, none-some, first, event_of, doing, Still, Through}
 use Rattle.std.proofs.lemmas.List.{length-append}
-use Rattle.client_core.proofs.Steps.{are_done, step_of}
+use Rattle.client_core.proofs.Steps.{step_of}
 use Rattle.client_core.proofs.Following.{exchanges_more, early_same, told_now}
-
--- how far a client is whose next command does this
-abbrev pub progress_of : (slots : Slots) (step : ℕ) (c : ClientCommand) (cs : List ClientCommand) → Doing → Progress
-progress_of slots step c cs d = elim d [
-  | stands event ↦ record { ended = []; standing = Some (record { line = c.line; from = step; event = event }) }
-  | through ending next left ↦ with_ended (record { line = c.line; from = step; to = next; ending = ending }) (progress_from (slots_after ending slots) next cs left)
-]
-
-pub first_ahead : (slots : Slots) (step : ℕ) (c : ClientCommand) (cs : List ClientCommand) (more : List Response)
-    → progress_from slots step (c ∷ cs) more ≡ ahead c.line step slots cs (done slots c.target c.deed step more)
-first_ahead slots step c cs more = go (done slots c.target c.deed step more) where
-  go : (d : Doing) → progress_of slots step c cs d ≡ ahead c.line step slots cs d
-  go (stands event) = refl
-  go (through ending next left) = refl
 
 pub behind_one : (es : List Ended) (e : Ended) (p : Progress) → behind (es ++ e ∷ []) p ≡ behind es (with_ended e p)
 behind_one es e p = ap (λ xs. record { ended = xs; standing = p.standing }) (append_assoc es (e ∷ []) p.ended)
@@ -24,19 +10,17 @@ behind_one es e p = ap (λ xs. record { ended = xs; standing = p.standing }) (ap
 behind_two : (es fs : List Ended) (p : Progress) → behind (es ++ fs) p ≡ behind es (behind fs p)
 behind_two es fs p = ap (λ xs. record { ended = xs; standing = p.standing }) (append_assoc es fs p.ended)
 
-pub begun_goes_on : (slots : Slots) (step : ℕ) (left : List ClientCommand) (c : ClientCommand) (cs : List ClientCommand) (task : Task) → left ≡ c ∷ cs → Still task ≡ first slots c.target c.deed
+pub begun_goes_on : (slots : Slots) (step : ℕ) (left : List ClientCommand) (c : ClientCommand) (cs : List ClientCommand) (task : Task) → left ≡ c ∷ cs → Still task ≡ first slots c.target c.verb c.has_batch
     → (more : List Response) → progress_from slots step left more ≡ coming_from (Some (record { line = c.line; from = step; task = task })) step slots cs more
 begun_goes_on slots step left c cs task is begins more =
-    ap (λ l. progress_from slots step l more) is ∙ first_ahead slots step c cs more
-    ∙ ap (λ d. ahead c.line step slots cs d) (are_done slots c.target c.deed step more ∙ ap (λ n. doing n step more) (sym begins))
+    ap (λ l. progress_from slots step l more) is ∙ ap (λ n. ahead c.line step slots cs (doing n step more)) (sym begins)
 
-pub passed_goes_on : (slots : Slots) (step : ℕ) (left : List ClientCommand) (c : ClientCommand) (cs : List ClientCommand) (ending : Ending) → left ≡ c ∷ cs → Through ending ≡ first slots c.target c.deed
+pub passed_goes_on : (slots : Slots) (step : ℕ) (left : List ClientCommand) (c : ClientCommand) (cs : List ClientCommand) (ending : Ending) → left ≡ c ∷ cs → Through ending ≡ first slots c.target c.verb c.has_batch
     → (es : List Ended) (more : List Response)
     → behind es (progress_from slots step left more)
     ≡ behind (es ++ record { line = c.line; from = step; to = step; ending = ending } ∷ []) (progress_from (slots_after ending slots) step cs more)
 passed_goes_on slots step left c cs ending is begins es more =
-    ap (λ p. behind es p) (ap (λ l. progress_from slots step l more) is ∙ first_ahead slots step c cs more
-    ∙ ap (λ d. ahead c.line step slots cs d) (are_done slots c.target c.deed step more ∙ ap (λ n. doing n step more) (sym begins)))
+    ap (λ p. behind es p) (ap (λ l. progress_from slots step l more) is ∙ ap (λ n. ahead c.line step slots cs (doing n step more)) (sym begins))
     ∙ sym (behind_one es _ (progress_from (slots_after ending slots) step cs more))
 
 -- ------ a reply is taken

@@ -1,8 +1,7 @@
 -- How the batches of writes come from the bytes of all.
-use Rattle.client_core.proofs.Imports.{◌≡◌, refl, sym, ap, subst, ◌∙◌, ℕ, zero, suc, ◌+◌, ◌-◌, ◌*◌, ◌<◌, ◌≤◌, List, [], ◌∷◌, ◌++◌, Option, Some, length, take, drop, inl, inr, arith, length-append, slice_get, flat_map, IfSome, All-nil, All-cons, All-head, All-tail, cases_lt, flat_map-append, drop-drop, length-drop, length-take-le, take-append-drop, drop-append_seam, drop-append-add, take-append_seam, take-length, Cut, only_rest, join, Cutting, Cuts, IsRest, fresh, IsPacket, Piece, packet, skipped, IsPiece, bytes_of, packets_of, Of188, cut-append, cut-rest, cut_after-is_rest, cut_after-size, has-pieces, Packets, batch_of, plays_from, plays, joined, cut_of, Playing, unplayed, with_write, HasPlayed, most_bytes, AreJoined, AreCounted, AreCompleted, ArePlaced, IsPlayed, StandsAmong, packets_in, whole_by, nil_from_length}
+use Rattle.client_core.proofs.Imports.{◌≡◌, refl, sym, ap, subst, ◌∙◌, ℕ, zero, suc, ◌+◌, ◌-◌, ◌*◌, ◌<◌, ◌≤◌, List, [], ◌∷◌, ◌++◌, Option, Some, length, take, drop, inl, inr, arith, length-append, slice_get, flat_map, IfSome, All-nil, All-cons, All-head, All-tail, cases_lt, flat_map-append, drop-drop, length-drop, length-take-le, take-append-drop, drop-append_seam, drop-append-add, take-append_seam, take-length, Cut, only_rest, join, Cutting, Cuts, IsRest, fresh, IsPacket, Piece, packet, skipped, IsPiece, bytes_of, packets_of, Of188, cut-append, cut-rest, cut_after-is_rest, cut_after-size, has-pieces, Packets, batch_of, plays_from, plays, joined, cut_of, Playing, unplayed, with_write, HasPlayed, most_bytes, AreJoined, AreCounted, AreCompleted, ArePlaced, IsPlayed, StandsAmong, packets_in, whole_by, nil_from_length, cut, cut_after, in_bytes}
 use Rattle.std.proofs.Common.{append_assoc, append-nil}
 use Rattle.std.specs.Prelude.{All}
-use Rattle.ts_packet.specs.Cut.{cut, cut_after, in_bytes}
 use Rattle.client_core.specs.PlayLaws.{AreFew}
 
 -- ------ the cutting
@@ -27,9 +26,6 @@ few_in xs = let h = cut_after-size Of188 0 xs (omega arith) in omega (arith, h)
 
 pub short : (xs : List ℕ) → length (cut Of188 xs).rest < 188
 short xs = short_rest (cut Of188 xs).rest (is_rest xs)
-
-pub few_whole : (xs : List ℕ) → length xs ≤ 12219 → length (cut Of188 xs).packets ≤ 64
-few_whole xs few = omega (arith, few_in xs, few)
 
 -- nothing more was written
 none_more : (rest : List ℕ) → IsRest Of188 rest → cut Of188 (rest ++ []) ≡ only_rest rest

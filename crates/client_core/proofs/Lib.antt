@@ -7,6 +7,5 @@ pub mod Numbering
 pub mod Ended
 pub mod Playing
 pub mod Passing
-pub mod ClockFollowing
 pub mod Joining
 pub mod Imports

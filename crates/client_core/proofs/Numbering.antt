@@ -1,12 +1,8 @@
 -- A client's calls are numbered, and are made on one of the 33 nodes; a command that is through stays through.
-use Rattle.client_core.proofs.Imports.{◌≡◌, refl, sym, ap, subst, ◌∙◌, ℕ, ◌+◌, ◌<◌, ◌≤◌, Bool, true, false, nat_eq, List, [], ◌∷◌, ◌++◌, Option, Some, None, length, replicate, arith, if◌then◌else◌, IfSome, All, All-nil, All-cons, All-head, All-tail, All-set, nat_tests, DEMUX_NODES, Response, IsInRange, Scripted, Line, CommandLine, ClientCommand, Event, Ending, Bound, Slots, Doing, stands, through, done, commands_in, commands_among, commands_of, plays_of, Batches, deed_of, Standing, slots_after, progress_from, no_slots, next_event, standing_at, IsEndingInRange, AreSlots, repeats_in, none-some, same_some, IsDeedInRange, IsDeedOf, IsNextInRange, IsNextOf, first, after, doing, Next, Still, Through, IsVerbInRange, Verb, IsCommandInRange, IsCommandOf, Packets, batch_at, All-append, All-replicate, IsSome}
-use Rattle.client_core.specs.Events.{progress}
-use Rattle.client_script.specs.declared.line.Verb.TheVariants as verb
-use Rattle.std.specs.Prelude.{is_some}
+use Rattle.client_core.proofs.Imports.{command_of, ahead, repeats_by, first, doing, ◌≡◌, refl, sym, ap, subst, ◌∙◌, ℕ, ◌+◌, ◌<◌, ◌≤◌, Bool, true, false, nat_eq, List, [], ◌∷◌, ◌++◌, Option, Some, None, length, replicate, arith, if◌then◌else◌, IfSome, All, All-nil, All-cons, All-head, All-tail, All-set, nat_tests, DEMUX_NODES, Response, IsInRange, Scripted, Line, CommandLine, ClientCommand, Event, Ending, Bound, Slots, Doing, stands, through, done, commands_in, commands_among, commands_of, plays_of, Batches, Standing, slots_after, progress_from, no_slots, next_event, standing_at, IsEndingInRange, AreSlots, none-some, same_some, PlaysOf, plays_batch, Write, IsNextInRange, IsNextOf, after, Next, Still, Through, Verb, IsCommandInRange, IsCommandOf, Packets, batch_at, All-append, All-replicate, IsSome, progress, is_some}
 use Rattle.client_core.proofs.Following.{can_ask_all}
-use Rattle.client_core.proofs.GoesOn.{progress_of}
-use Rattle.client_core.proofs.Steps.{IsAsked, by_steps, event_asked, first_begun, next_kept, step_of}
-use Rattle.client_core.proofs.More.{Onward, done_on_more, some_of}
+use Rattle.client_core.proofs.Steps.{IsAsked, event_asked, first_begun, next_kept, step_of}
+use Rattle.client_core.proofs.More.{Onward, doing_more, some_of}
 
 -- ------ what stands there has the next number, is on one of the nodes, and asks for what there is
 
@@ -29,10 +25,10 @@ module _ (batches : Batches) where
   abbrev Fit : ClientCommand → Type 0
   Fit c = IsCommandInRange c × IsCommandOf batches c
 
-  command_fits : (slots : Slots) (c : ClientCommand) (step : ℕ) (rs : List Response) → Fit c → AreSlots slots → Fits (step + length rs) (done slots c.target c.deed step rs)
+  command_fits : (slots : Slots) (c : ClientCommand) (step : ℕ) (rs : List Response) → Fit c → AreSlots slots → Fits (step + length rs) (done slots c.target c.verb c.has_batch step rs)
   command_fits slots c step rs is bound =
-      let begun = first_begun 33 slots c.target c.deed is.0.0 bound is.0.1 (can_ask_all c.deed) in
-      by_steps (Fits (step + length rs)) slots c.target c.deed step rs (doing_fits (first slots c.target c.deed) step (step + length rs) rs refl (begun.0, begun.2 batches is.1))
+      let begun = first_begun 33 slots c.target c.verb c.has_batch is.0.0 bound is.0.1 (can_ask_all c.verb) in
+      doing_fits (first slots c.target c.verb c.has_batch) step (step + length rs) rs refl (begun.0, begun.2 batches is.1)
 
   bound_after : (ending : Ending) (slots : Slots) → IsEndingInRange ending → AreSlots slots → AreSlots (slots_after ending slots)
   bound_after (Bound slot node) slots is bound = All-set (λ slot. IfSome slot (λ node. node < DEMUX_NODES)) slots slot (Some node) is.1 bound
@@ -42,10 +38,10 @@ module _ (batches : Batches) where
       → (s.event.step ≡ step + length rs) × IsAsked batches s.event
   all_fit slots step [] rs s bound fit is = absurd (none-some s is)
   all_fit slots step (c ∷ cs) rs s bound fit is =
-      go (λ ending next left bound there. all_fit (slots_after ending slots) next cs left s bound (All-tail Fit c cs fit) there) (done slots c.target c.deed step rs) (command_fits slots c step rs (All-head Fit c cs fit) bound) is where
+      go (λ ending next left bound there. all_fit (slots_after ending slots) next cs left s bound (All-tail Fit c cs fit) there) (done slots c.target c.verb c.has_batch step rs) (command_fits slots c step rs (All-head Fit c cs fit) bound) is where
         go : ((ending : Ending) (next : ℕ) (left : List Response) → AreSlots (slots_after ending slots) → (progress_from (slots_after ending slots) next cs left).standing ≡ Some s
             → (s.event.step ≡ next + length left) × IsAsked batches s.event)
-            → (d : Doing) → Fits (step + length rs) d → (progress_of slots step c cs d).standing ≡ Some s → (s.event.step ≡ step + length rs) × IsAsked batches s.event
+            → (d : Doing) → Fits (step + length rs) d → (ahead c.line step slots cs d).standing ≡ Some s → (s.event.step ≡ step + length rs) × IsAsked batches s.event
         go deeper (stands e) fits there =
             let same : e ≡ s.event = ap (λ t. t.event) (same_some {A = Standing} (record { line = c.line; from = step; event = e }) s there) in
             subst (λ x. (x.step ≡ step + length rs) × IsAsked batches x) same fits
@@ -59,17 +55,14 @@ module _ (batches : Batches) where
   some_there None e = absurd (cc e)
   some_there (Some batch) e = refl
 
-  verb_fits : (v : Verb) → IsVerbInRange v → IsDeedInRange (deed_of batches v) × IsDeedOf batches (deed_of batches v)
-  verb_fits (verb.Once want) is = (is, tt)
-  verb_fits (verb.ReadWait count) is = (is, tt)
-  verb_fits (verb.Drain count) is = (is, tt)
-  verb_fits (verb.GetStc num) is = (is, tt)
-  verb_fits (verb.Write write) is = (is, some_there (batch_at batches write))
+  pub verb_plays : (v : Verb) → PlaysOf batches v (plays_batch batches v)
+  verb_plays (Write write) = some_there (batch_at batches write)
+  verb_plays _ = tt
 
   line_fits : (client : ℕ) (line : Line) → IsInRange line → All Fit (commands_in client batches line)
   line_fits client (CommandLine line who target asked) is = go (nat_eq who client) where
-    go : (b : Bool) → All Fit (if b then record { line = line; target = target; deed = deed_of batches asked } ∷ [] else [])
-    go true = let v = verb_fits asked is.4 in All-cons Fit (record { line = line; target = target; deed = deed_of batches asked }) [] ((is.3, v.0), v.1) (All-nil Fit)
+    go : (b : Bool) → All Fit (if b then command_of batches line target asked ∷ [] else [])
+    go true = All-cons Fit (command_of batches line target asked) [] ((is.3, is.4), verb_plays asked) (All-nil Fit)
     go false = All-nil Fit
   line_fits client _ is = All-nil Fit
 
@@ -104,30 +97,30 @@ AreThrough slots step cs rs = (progress_from slots step cs rs).standing ≡ None
 pub through_more : (slots : Slots) (step : ℕ) (cs : List ClientCommand) (rs : List Response) (r : Response) → AreThrough slots step cs rs → AreThrough slots step cs (rs ++ r ∷ [])
 through_more slots step [] rs r is = refl
 through_more slots step (c ∷ cs) rs r is =
-    go (λ ending next left there. through_more (slots_after ending slots) next cs left r there) (done slots c.target c.deed step rs) (done slots c.target c.deed step (rs ++ r ∷ [])) (repeats_in slots c.target c.deed rs) (repeats_in slots c.target c.deed (rs ++ r ∷ []))
-    (done_on_more slots c.target c.deed step rs r) is where
+    go (λ ending next left there. through_more (slots_after ending slots) next cs left r there) (done slots c.target c.verb c.has_batch step rs) (done slots c.target c.verb c.has_batch step (rs ++ r ∷ [])) (repeats_by (first slots c.target c.verb c.has_batch) rs) (repeats_by (first slots c.target c.verb c.has_batch) (rs ++ r ∷ []))
+    (doing_more (first slots c.target c.verb c.has_batch) step rs r) is where
       go : ((ending : Ending) (next : ℕ) (left : List Response) → (progress_from (slots_after ending slots) next cs left).standing ≡ None → (progress_from (slots_after ending slots) next cs (left ++ r ∷ [])).standing ≡ None)
-          → (d f : Doing) (m n : ℕ) → Onward step r m n d f → (progress_of slots step c cs d).standing ≡ None → (progress_of slots step c cs f).standing ≡ None
+          → (d f : Doing) (m n : ℕ) → Onward step r m n d f → (ahead c.line step slots cs d).standing ≡ None → (ahead c.line step slots cs f).standing ≡ None
       go deeper (stands e) f m n on there = absurd (none-some {A = Standing} (record { line = c.line; from = step; event = e }) (sym there))
-      go deeper (through ending next left) f m n on there = subst (λ x. (progress_of slots step c cs x).standing ≡ None) (sym on.0) (deeper ending next left there)
+      go deeper (through ending next left) f m n on there = subst (λ x. (ahead c.line step slots cs x).standing ≡ None) (sym on.0) (deeper ending next left there)
 
 -- where the commands before this one are through, and what stands there is of another line, this one is through too
 pub through_next : (slots : Slots) (step : ℕ) (before : List ClientCommand) (c : ClientCommand) (behind : List ClientCommand) (rs : List Response) → AreThrough slots step before rs
     → standing_at c.line (progress_from slots step (before ++ c ∷ behind) rs).standing ≡ None → AreThrough slots step (before ++ c ∷ []) rs
-through_next slots step [] c behind rs is at = go (done slots c.target c.deed step rs) at where
+through_next slots step [] c behind rs is at = go (done slots c.target c.verb c.has_batch step rs) at where
   itself : (line : ℕ) (e : Event) → (if nat_eq line line then Some e else None) ≡ None → ⊥
   itself line e none =
       let same : nat_eq line line ≡ true = grind (arith, nat_tests) in
       none-some e (sym (rw same at none))
 
-  go : (d : Doing) → standing_at c.line (progress_of slots step c behind d).standing ≡ None → (progress_of slots step c [] d).standing ≡ None
+  go : (d : Doing) → standing_at c.line (ahead c.line step slots behind d).standing ≡ None → (ahead c.line step slots [] d).standing ≡ None
   go (stands e) none = absurd (itself c.line e none)
   go (through ending next left) none = refl
 through_next slots step (p ∷ before) c behind rs is at =
-    go (λ ending next left there later. through_next (slots_after ending slots) next before c behind left there later) (done slots p.target p.deed step rs) is at where
+    go (λ ending next left there later. through_next (slots_after ending slots) next before c behind left there later) (done slots p.target p.verb p.has_batch step rs) is at where
       go : ((ending : Ending) (next : ℕ) (left : List Response) → AreThrough (slots_after ending slots) next before left
           → standing_at c.line (progress_from (slots_after ending slots) next (before ++ c ∷ behind) left).standing ≡ None → AreThrough (slots_after ending slots) next (before ++ c ∷ []) left)
-          → (d : Doing) → (progress_of slots step p before d).standing ≡ None → standing_at c.line (progress_of slots step p (before ++ c ∷ behind) d).standing ≡ None
-          → (progress_of slots step p (before ++ c ∷ []) d).standing ≡ None
+          → (d : Doing) → (ahead p.line step slots before d).standing ≡ None → standing_at c.line (ahead p.line step slots (before ++ c ∷ behind) d).standing ≡ None
+          → (ahead p.line step slots (before ++ c ∷ []) d).standing ≡ None
       go deeper (stands e) there none = absurd (none-some {A = Standing} (record { line = p.line; from = step; event = e }) (sym there))
       go deeper (through ending next left) there none = deeper ending next left there none

@@ -1,11 +1,8 @@
 -- The batches of writes pass each demux node once.
-use Rattle.client_core.proofs.Imports.{Task, Call, OpenFrom, Play, ◌≡◌, ◌⊎◌, inl, inr, refl, sym, ap, ◌∙◌, ℕ, ◌+◌, ◌<◌, ◌≤◌, Bool, true, false, List, [], ◌∷◌, ◌++◌, Option, Some, None, arith, nat_lt, option_map, slice_index_or, if◌then◌else◌, append_assoc, append-nil, nat_tests, none-some, DEMUX_NODES, KeepTap, AttachTap, DetachTap, Response, Done, Busy, Ready, TapChange, Scripted, Target, Node, Slot, Dvr, Open, Deed, Once, ReadWait, Drain, GetStc, Write, ClientCommand, Event, Ending, Made, Bound, AllBusy, Slots, Doing, stands, through, done, ends_wait, ends_drain, commands_of, Standing, Progress, slots_after, progress_from, no_slots, next_event, Exchange, with_reply, exchanges_after, pass_at, passes_on, played_on, played_at, played_in, played_from, WritesPass, first_on, first_at, first_by_slot, first, event_of, telling, after, doing, Next, Still, Through}
+use Rattle.client_core.proofs.Imports.{named_by, ahead, first, doing, Task, Call, OpenFrom, Play, ◌≡◌, ◌⊎◌, inl, inr, refl, sym, ap, ◌∙◌, ℕ, ◌+◌, ◌<◌, ◌≤◌, Bool, true, false, List, [], ◌∷◌, ◌++◌, Option, Some, None, arith, nat_lt, option_map, if◌then◌else◌, append_assoc, append-nil, nat_tests, none-some, DEMUX_NODES, KeepTap, AttachTap, DetachTap, Response, Done, Busy, Ready, TapChange, Scripted, Target, Verb, Once, ReadWait, Drain, GetStc, Write, ClientCommand, Event, Ending, Made, Bound, AllBusy, Slots, Doing, stands, through, done, ends_wait, ends_drain, commands_of, Standing, Progress, slots_after, progress_from, no_slots, next_event, Exchange, with_reply, exchanges_after, pass_at, passes_on, played_by, played_from, WritesPass, first_on, event_of, telling, after, Next, Still, Through, progress, played_writes}
 use Rattle.std.specs.Prelude.{nat_eq}
-use Rattle.client_core.specs.Events.{progress}
-use Rattle.client_core.specs.Passes.{played_writes}
 use Rattle.client_core.specs.declared.task.Task.TheVariants as task
-use Rattle.client_core.proofs.GoesOn.{progress_of}
-use Rattle.client_core.proofs.Steps.{are_done, by_steps, if_next}
+use Rattle.client_core.proofs.Steps.{any_first, if_next}
 
 -- ------ the passes of one command
 
@@ -74,15 +71,11 @@ play_passes node write on step (r ∷ rs) = go (nat_eq on node) refl (nat_lt (on
   go false not false more later = inl (refl, λ le low is. absurd (grind (arith, nat_tests, not, more, le, low)))
 
 -- a command passes nothing or its own batch; where it is through, on a demux node just what is played
-abbrev pub own_write : Deed → List ℕ
-own_write (Write write has) = write ∷ []
-own_write _ = []
-
-abbrev pub Passes : (node : ℕ) → Deed → (played passed : List ℕ) → Doing → Type 0
-Passes node v played ws d = ((ws ≡ []) ⊎ (ws ≡ own_write v)) × (node < DEMUX_NODES → IsThrough d → ws ≡ played)
+abbrev pub Passes : (node : ℕ) → Verb → (played passed : List ℕ) → Doing → Type 0
+Passes node v played ws d = ((ws ≡ []) ⊎ (ws ≡ named_by v)) × (node < DEMUX_NODES → IsThrough d → ws ≡ played)
 
 write_passes : (node on write : ℕ) (has : Bool) (step : ℕ) (rs : List Response)
-    → Passes node (Write write has) (played_on (Write write has) rs) (passed_by node (Still (task.Write on write has)) step rs) (doing (Still (task.Write on write has)) step rs)
+    → Passes node (Write write) (played_by (Still (task.Write on write has)) rs) (passed_by node (Still (task.Write on write has)) step rs) (doing (Still (task.Write on write has)) step rs)
 write_passes node on write false step rs = let none = silent node (Still (task.Write on write false)) step rs tt in (inl none, λ low is. none)
 write_passes node on write true step [] = (inl refl, λ low is. absurd is)
 write_passes node on write true step (Ready readable error at ended ∷ rs) = go (play_passes node write 0 (step + 1) rs) where
@@ -92,42 +85,27 @@ write_passes node on write true step (Ready readable error at ended ∷ rs) = go
   first_none : pass_at node (event_of (task.Write on write true) step) ++ later ≡ later
   first_none = ap (λ ws. ws ++ later) (none_either (nat_eq on node))
 
-  go : PassesFrom node write 0 later (doing (Still (Play write 0)) (step + 1) rs) → Passes node (Write write true) (write ∷ []) (pass_at node (event_of (task.Write on write true) step) ++ later) (doing (Still (Play write 0)) (step + 1) rs)
+  go : PassesFrom node write 0 later (doing (Still (Play write 0)) (step + 1) rs) → Passes node (Write write) (write ∷ []) (pass_at node (event_of (task.Write on write true) step) ++ later) (doing (Still (Play write 0)) (step + 1) rs)
   go (inl none) = (inl (first_none ∙ none.0), λ low is. absurd (none.1 (omega arith) low is))
   go (inr one) = (inr (first_none ∙ one.0), λ low is. first_none ∙ one.0)
 write_passes node on write true step (_ ∷ rs) = let none = ap (λ (ws : List ℕ). ws ++ []) (none_either (nat_eq on node)) in (inl none, λ low is. none)
 
 -- a command that is no write
-free : (node : ℕ) (v : Deed) (n : Next) (step : ℕ) (rs : List Response) (played : List ℕ) → IsSilent n → played ≡ [] → Passes node v played (passed_by node n step rs) (doing n step rs)
+free : (node : ℕ) (v : Verb) (n : Next) (step : ℕ) (rs : List Response) (played : List ℕ) → IsSilent n → played ≡ [] → Passes node v played (passed_by node n step rs) (doing n step rs)
 free node v n step rs played is none = let s = silent node n step rs is in (inl s, λ low ends. s ∙ sym none)
 
-on_passes : (node on : ℕ) (v : Deed) (step : ℕ) (rs : List Response) → Passes node v (played_on v rs) (passed_by node (first_on on v) step rs) (doing (first_on on v) step rs)
-on_passes node on (Once w) step rs = free node (Once w) (Still (Call on w)) step rs [] tt refl
-on_passes node on (ReadWait count) step rs = free node (ReadWait count) (Still (task.ReadWait on count)) step rs [] tt refl
-on_passes node on (Drain count) step rs = free node (Drain count) (Still (task.Drain on count)) step rs [] tt refl
-on_passes node on (GetStc num) step rs = (inl refl, λ low is. refl)
-on_passes node on (Write write has) step rs = write_passes node on write has step rs
+on_passes : (node on : ℕ) (v : Verb) (has : Bool) (step : ℕ) (rs : List Response) → Passes node v (played_by (first_on on v has) rs) (passed_by node (first_on on v has) step rs) (doing (first_on on v has) step rs)
+on_passes node on (Once w) has step rs = free node (Once w) (Still (Call on w)) step rs [] tt refl
+on_passes node on (ReadWait count) has step rs = free node (ReadWait count) (Still (task.ReadWait on count)) step rs [] tt refl
+on_passes node on (Drain count) has step rs = free node (Drain count) (Still (task.Drain on count)) step rs [] tt refl
+on_passes node on (GetStc num) has step rs = (inl refl, λ low is. refl)
+on_passes node on (Write write) has step rs = write_passes node on write has step rs
 
-at_passes : (node : ℕ) (o : Option ℕ) (v : Deed) (step : ℕ) (rs : List Response) → Passes node v (played_at o v rs) (passed_by node (first_at o v) step rs) (doing (first_at o v) step rs)
-at_passes node None v step rs = (inl refl, λ low is. refl)
-at_passes node (Some on) v step rs = on_passes node on v step rs
-
-open_plays : (o : Option ℕ) (rs : List Response) → played_at o (Once Open) rs ≡ []
-open_plays None rs = refl
-open_plays (Some on) rs = refl
-
-slot_passes : (node slot : ℕ) (slots : Slots) (v : Deed) (step : ℕ) (rs : List Response)
-    → Passes node v (played_at (slice_index_or slots slot None) v rs) (passed_by node (first_by_slot slot slots v) step rs) (doing (first_by_slot slot slots v) step rs)
-slot_passes node slot slots (Once Open) step rs = free node (Once Open) (Still (OpenFrom slot 0)) step rs (played_at (slice_index_or slots slot None) (Once Open) rs) tt (open_plays (slice_index_or slots slot None) rs)
-slot_passes node slot slots v step rs = at_passes node (slice_index_or slots slot None) v step rs
-
-first_passes : (node : ℕ) (slots : Slots) (t : Target) (v : Deed) (step : ℕ) (rs : List Response) → Passes node v (played_in slots t v rs) (passed_by node (first slots t v) step rs) (doing (first slots t v) step rs)
-first_passes node slots (Node on) v step rs = on_passes node on v step rs
-first_passes node slots (Slot slot) v step rs = slot_passes node slot slots v step rs
-first_passes node slots Dvr v step rs = on_passes node DEMUX_NODES v step rs
-
-pub done_passes : (node : ℕ) (slots : Slots) (t : Target) (v : Deed) (step : ℕ) (rs : List Response) → Passes node v (played_in slots t v rs) (passed_by node (first slots t v) step rs) (done slots t v step rs)
-done_passes node slots t v step rs = by_steps (Passes node v (played_in slots t v rs) (passed_by node (first slots t v) step rs)) slots t v step rs (first_passes node slots t v step rs)
+pub first_passes : (node : ℕ) (slots : Slots) (t : Target) (v : Verb) (has : Bool) (step : ℕ) (rs : List Response)
+    → Passes node v (played_by (first slots t v has) rs) (passed_by node (first slots t v has) step rs) (doing (first slots t v has) step rs)
+first_passes node slots t v has step rs =
+    any_first (λ n. Passes node v (played_by n rs) (passed_by node n step rs) (doing n step rs)) slots t v has
+    (λ on le. on_passes node on v has step rs) (λ slot lt. free node v (Still (OpenFrom slot 0)) step rs [] tt refl) (inl refl, λ low is. refl)
 
 -- ------ all commands
 
@@ -159,7 +137,7 @@ passes_behind node slots cs (stands e) = []
 passes_behind node slots cs (through ending next left) = passes_by node (λ m. event_in (progress_from (slots_after ending slots) next cs m)) left
 
 one_command : (node : ℕ) (slots : Slots) (step : ℕ) (c : ClientCommand) (cs : List ClientCommand) (n : Next) (at : ℕ) (rs : List Response)
-    → passes_by node (λ m. event_in (progress_of slots step c cs (doing n at m))) rs ≡ passed_by node n at rs ++ passes_behind node slots cs (doing n at rs)
+    → passes_by node (λ m. event_in (ahead c.line step slots cs (doing n at m))) rs ≡ passed_by node n at rs ++ passes_behind node slots cs (doing n at rs)
 one_command node slots step c cs (Through ending) at rs = refl
 one_command node slots step c cs (Still t) at [] = refl
 one_command node slots step c cs (Still t) at (r ∷ rs) =
@@ -168,28 +146,27 @@ one_command node slots step c cs (Still t) at (r ∷ rs) =
 
 -- the passes of a command, and of those behind it
 pub first_and_rest : (node : ℕ) (slots : Slots) (step : ℕ) (c : ClientCommand) (cs : List ClientCommand) (rs : List Response)
-    → passes_by node (λ m. event_in (progress_from slots step (c ∷ cs) m)) rs ≡ passed_by node (first slots c.target c.deed) step rs ++ passes_behind node slots cs (done slots c.target c.deed step rs)
+    → passes_by node (λ m. event_in (progress_from slots step (c ∷ cs) m)) rs ≡ passed_by node (first slots c.target c.verb c.has_batch) step rs ++ passes_behind node slots cs (done slots c.target c.verb c.has_batch step rs)
 first_and_rest node slots step c cs rs =
-    let n : Next = first slots c.target c.deed in
-    same_passes node (λ m. event_in (progress_from slots step (c ∷ cs) m)) (λ m. event_in (progress_of slots step c cs (doing n step m)))
-    (λ m. ap (λ d. event_in (progress_of slots step c cs d)) (are_done slots c.target c.deed step m)) rs
+    let n : Next = first slots c.target c.verb c.has_batch in
+    same_passes node (λ m. event_in (progress_from slots step (c ∷ cs) m)) (λ m. event_in (ahead c.line step slots cs (doing n step m)))
+    (λ m. refl) rs
     ∙ one_command node slots step c cs n step rs
-    ∙ ap (λ d. passed_by node n step rs ++ passes_behind node slots cs d) (sym (are_done slots c.target c.deed step rs))
 
 all_pass : (node : ℕ) (slots : Slots) (step : ℕ) (cs : List ClientCommand) (rs : List Response) → node < 32 → (progress_from slots step cs rs).standing ≡ None
     → passes_by node (λ m. event_in (progress_from slots step cs m)) rs ≡ played_from slots step cs rs
 all_pass node slots step [] rs low none = no_passes node rs
 all_pass node slots step (c ∷ cs) rs low none =
     first_and_rest node slots step c cs rs
-    ∙ go (λ ending next left there. all_pass node (slots_after ending slots) next cs left low there) (done slots c.target c.deed step rs) ((done_passes node slots c.target c.deed step rs).1 low) none where
+    ∙ go (λ ending next left there. all_pass node (slots_after ending slots) next cs left low there) (done slots c.target c.verb c.has_batch step rs) ((first_passes node slots c.target c.verb c.has_batch step rs).1 low) none where
       go : ((ending : Ending) (next : ℕ) (left : List Response) → (progress_from (slots_after ending slots) next cs left).standing ≡ None
           → passes_by node (λ m. event_in (progress_from (slots_after ending slots) next cs m)) left ≡ played_from (slots_after ending slots) next cs left)
-          → (d : Doing) → (IsThrough d → passed_by node (first slots c.target c.deed) step rs ≡ played_in slots c.target c.deed rs) → (progress_of slots step c cs d).standing ≡ None
-          → passed_by node (first slots c.target c.deed) step rs ++ passes_behind node slots cs d
-          ≡ played_in slots c.target c.deed rs ++ (elim d [ stands event ↦ [] | through ending next left ↦ played_from (slots_after ending slots) next cs left ])
+          → (d : Doing) → (IsThrough d → passed_by node (first slots c.target c.verb c.has_batch) step rs ≡ played_by (first slots c.target c.verb c.has_batch) rs) → (ahead c.line step slots cs d).standing ≡ None
+          → passed_by node (first slots c.target c.verb c.has_batch) step rs ++ passes_behind node slots cs d
+          ≡ played_by (first slots c.target c.verb c.has_batch) rs ++ (elim d [ stands event ↦ [] | through ending next left ↦ played_from (slots_after ending slots) next cs left ])
       go deeper (stands e) passes there = absurd (none-some {A = Standing} (record { line = c.line; from = step; event = e }) (sym there))
       go deeper (through ending next left) passes there =
-          ap (λ ws. ws ++ passes_behind node slots cs (through ending next left)) (passes tt) ∙ ap (λ ws. played_in slots c.target c.deed rs ++ ws) (deeper ending next left there)
+          ap (λ ws. ws ++ passes_behind node slots cs (through ending next left)) (passes tt) ∙ ap (λ ws. played_by (first slots c.target c.verb c.has_batch) rs ++ ws) (deeper ending next left there)
 
 -- ------ all calls
 

@@ -1,77 +1,7 @@
--- What a command does by small steps: that it is `done`, what each task goes on with, and that a reply more is one step more.
-use Rattle.client_core.proofs.Imports.{◌≡◌, refl, sym, subst, ℕ, zero, suc, ◌+◌, ◌<◌, ◌≤◌, Bool, true, false, List, [], ◌∷◌, Option, Some, None, arith, nat_lt, if◌then◌else◌, slice_index_or, IfSome, All-head, All-tail, nat_tests, DEMUX_NODES, KeepTap, AttachTap, DetachTap, Response, Done, Busy, Ready, TapChange, IsTargetInRange, Target, Node, Slot, Dvr, Want, Open, Read, Deed, Once, ReadWait, Drain, GetStc, Write, Event, Own, Ending, Made, Bound, AllBusy, Task, Call, OpenFrom, Play, Slots, Doing, stands, through, once, told, called, opened, passed, written, read_until, done_on, done_at, done_by_slot, done, ends_wait, ends_drain, Batches, IsEndingInRange, IsCallEnding, IsTaskInRange, IsTaskOf, AreSlots, CanAsk, IsWantInRange, IsDeedInRange, IsDeedOf, IsRequestInRange, IsRequestOf, IsNextInRange, IsNextCalling, IsNextOf, HasNextClock, Next, Still, Through, first_on, first_at, first_by_slot, first, event_of, telling, after, doing, StepsAreDone}
+-- What a command does by small steps: what each task goes on with, and that a reply more is one step more.
+use Rattle.client_core.proofs.Imports.{NoNode, ◌≡◌, refl, ℕ, zero, suc, ◌+◌, ◌<◌, ◌≤◌, Bool, true, false, List, [], ◌∷◌, Option, Some, None, arith, nat_lt, if◌then◌else◌, slice_index_or, IfSome, All-head, All-tail, nat_tests, DEMUX_NODES, KeepTap, AttachTap, DetachTap, Response, Done, Busy, Ready, TapChange, IsTargetInRange, Target, Node, Slot, Dvr, Want, Open, Read, Verb, Once, ReadWait, Drain, GetStc, Write, Event, Own, Ending, Made, Bound, AllBusy, Task, Call, OpenFrom, Play, Slots, Doing, stands, through, ends_wait, ends_drain, Batches, IsEndingInRange, IsCallEnding, IsTaskInRange, IsTaskOf, AreSlots, CanAsk, IsWantInRange, IsRequestInRange, IsRequestOf, IsNextInRange, IsNextCalling, IsNextOf, HasNextClock, Next, Still, Through, first_on, first_at, first, event_of, telling, after, doing, IsVerbInRange, PlaysOf}
 use Rattle.client_core.specs.declared.task.Task.TheVariants as task
 use Rattle.client_core.specs.declared.event.ClientRequest.TheVariants as ask
-
--- ------ both forms are the same
-
--- the whole of what is left of a task
-abbrev whole : Task → (step : ℕ) → List Response → Doing
-whole (Call node want) step rs = called node want step rs
-whole (task.ReadWait node count) step rs = read_until ends_wait node count step rs
-whole (task.Drain node count) step rs = read_until ends_drain node count step rs
-whole (OpenFrom slot node) step rs = opened slot node step rs
-whole (task.Attach ending node pids) step rs = once ending DEMUX_NODES (ask.Attach node pids) step rs
-whole (task.Detach ending node) step rs = once ending DEMUX_NODES (ask.Detach node) step rs
-whole (task.Write node write has) step rs = written node write has step rs
-whole (Play write node) step rs = passed write node step rs
-
-if_same : (b : Bool) (n m : Next) (step : ℕ) (rs : List Response) (d f : Doing) → d ≡ doing n step rs → f ≡ doing m step rs → (if b then d else f) ≡ doing (if b then n else m) step rs
-if_same true n m step rs d f x y = x
-if_same false n m step rs d f x y = y
-
-told_same : (ending : Ending) (node : ℕ) (tap : TapChange) (step : ℕ) (rs : List Response) → told ending node tap step rs ≡ doing (telling ending node tap) step rs
-told_same ending node KeepTap step rs = refl
-told_same ending node (AttachTap pids) step [] = refl
-told_same ending node (AttachTap pids) step (r ∷ rs) = refl
-told_same ending node DetachTap step [] = refl
-told_same ending node DetachTap step (r ∷ rs) = refl
-
-task_same : (t : Task) (step : ℕ) (rs : List Response) → whole t step rs ≡ doing (Still t) step rs
-task_same (Call node want) step [] = refl
-task_same (Call node want) step (Done from to tap ∷ rs) = if_same (nat_lt node DEMUX_NODES) (telling Made node tap) (Through Made) (step + 1) rs _ _ (told_same Made node tap (step + 1) rs) refl
-task_same (Call node want) step (_ ∷ rs) = refl
-task_same (task.ReadWait node count) step [] = refl
-task_same (task.ReadWait node count) step (r ∷ rs) = if_same (ends_wait r) (Through Made) (Still (task.ReadWait node count)) (step + 1) rs _ _ refl (task_same (task.ReadWait node count) (step + 1) rs)
-task_same (task.Drain node count) step [] = refl
-task_same (task.Drain node count) step (r ∷ rs) = if_same (ends_drain r) (Through Made) (Still (task.Drain node count)) (step + 1) rs _ _ refl (task_same (task.Drain node count) (step + 1) rs)
-task_same (OpenFrom slot node) step [] = refl
-task_same (OpenFrom slot node) step (Busy owner ∷ rs) = if_same (nat_lt (node + 1) DEMUX_NODES) (Still (OpenFrom slot (node + 1))) (Through AllBusy) (step + 1) rs _ _ (task_same (OpenFrom slot (node + 1)) (step + 1) rs) refl
-task_same (OpenFrom slot node) step (Done from to tap ∷ rs) = told_same (Bound slot node) node tap (step + 1) rs
-task_same (OpenFrom slot node) step (_ ∷ rs) = refl
-task_same (task.Attach ending node pids) step [] = refl
-task_same (task.Attach ending node pids) step (r ∷ rs) = refl
-task_same (task.Detach ending node) step [] = refl
-task_same (task.Detach ending node) step (r ∷ rs) = refl
-task_same (task.Write node write has) step [] = refl
-task_same (task.Write node write has) step (Ready readable error at ended ∷ rs) = if_same has (Still (Play write 0)) (Through Made) (step + 1) rs _ _ (task_same (Play write 0) (step + 1) rs) refl
-task_same (task.Write node write has) step (_ ∷ rs) = refl
-task_same (Play write node) step [] = refl
-task_same (Play write node) step (r ∷ rs) = if_same (nat_lt (node + 1) DEMUX_NODES) (Still (Play write (node + 1))) (Through Made) (step + 1) rs _ _ (task_same (Play write (node + 1)) (step + 1) rs) refl
-
-on_same : (node : ℕ) (v : Deed) (step : ℕ) (rs : List Response) → done_on node v step rs ≡ doing (first_on node v) step rs
-on_same node (Once want) step rs = task_same (Call node want) step rs
-on_same node (ReadWait count) step rs = task_same (task.ReadWait node count) step rs
-on_same node (Drain count) step rs = task_same (task.Drain node count) step rs
-on_same node (GetStc num) step rs = refl
-on_same node (Write write has) step rs = task_same (task.Write node write has) step rs
-
-at_same : (o : Option ℕ) (v : Deed) (step : ℕ) (rs : List Response) → done_at o v step rs ≡ doing (first_at o v) step rs
-at_same None v step rs = refl
-at_same (Some node) v step rs = on_same node v step rs
-
-slot_same : (slot : ℕ) (slots : Slots) (v : Deed) (step : ℕ) (rs : List Response) → done_by_slot slot slots v step rs ≡ doing (first_by_slot slot slots v) step rs
-slot_same slot slots (Once Open) step rs = task_same (OpenFrom slot 0) step rs
-slot_same slot slots v step rs = at_same (slice_index_or slots slot None) v step rs
-
-pub are_done : StepsAreDone
-are_done slots (Node node) v step rs = on_same node v step rs
-are_done slots (Slot slot) v step rs = slot_same slot slots v step rs
-are_done slots Dvr v step rs = on_same DEMUX_NODES v step rs
-
--- what holds by small steps holds of the whole
-pub by_steps : (P : Doing → Type 0) (slots : Slots) (t : Target) (v : Deed) (step : ℕ) (rs : List Response) → P (doing (first slots t v) step rs) → P (done slots t v step rs)
-by_steps P slots t v step rs is = subst P (sym (are_done slots t v step rs)) is
 
 -- ------ along the steps
 
@@ -96,6 +26,25 @@ step_of (task.Attach ending node pids) step = refl
 step_of (task.Detach ending node) step = refl
 step_of (task.Write node write has) step = refl
 step_of (Play write node) step = refl
+
+-- ------ with what a command begins
+
+slot_bound : (slots : Slots) (slot : ℕ) → AreSlots slots → IfSome (slice_index_or slots slot None) (λ node. node < DEMUX_NODES)
+slot_bound [] slot bound = tt
+slot_bound (s ∷ slots) zero bound = All-head (λ slot. IfSome slot (λ node. node < DEMUX_NODES)) s slots bound
+slot_bound (s ∷ slots) (suc slot) bound = slot_bound slots slot (All-tail (λ slot. IfSome slot (λ node. node < DEMUX_NODES)) s slots bound)
+
+-- What holds of the first task on a node, of an open of a slot and where a slot is unbound, holds of what a command begins with.
+pub any_first : (P : Next → Type 0) (slots : Slots) (t : Target) (v : Verb) (has : Bool)
+    → ((node : ℕ) → (IsTargetInRange t → AreSlots slots → node ≤ DEMUX_NODES) → P (first_on node v has))
+    → ((slot : ℕ) → (IsTargetInRange t → slot < DEMUX_NODES) → P (Still (OpenFrom slot 0))) → P (Through NoNode) → P (first slots t v has)
+any_first P slots (Node node) v has on opens none = on node (λ is bound. omega (arith, is))
+any_first P slots Dvr v has on opens none = on DEMUX_NODES (λ is bound. omega arith)
+any_first P slots (Slot slot) (Once Open) has on opens none = opens slot (λ is. omega (arith, is))
+any_first P slots (Slot slot) v has on opens none = at (slice_index_or slots slot None) (slot_bound slots slot) where
+  at : (o : Option ℕ) → (AreSlots slots → IfSome o (λ node. node < DEMUX_NODES)) → P (first_at o v has)
+  at None bound = none
+  at (Some node) bound = on node (λ is all. let lt = bound all in omega (arith, lt))
 
 -- ------ ranges
 
@@ -126,34 +75,20 @@ next_kept batches (task.Write node write has) _ fits of = (tt, tt, tt)
 next_kept batches (Play write node) r fits of =
     if_next (IsKept batches) (nat_lt (node + 1) DEMUX_NODES) (Still (Play write (node + 1))) (Through Made) (λ yes. (grind (arith, nat_tests, yes), tt, of)) (tt, tt, tt)
 
--- before a call: it keeps to its range, and to the clocks and batches of its deed
-abbrev pub IsBegun : (kept : ℕ) → Deed → Next → Type 0
-IsBegun kept v n = IsNextInRange n × HasNextClock kept n × ((batches : Batches) → IsDeedOf batches v → IsNextOf batches n)
+-- before a call: it keeps to its range, and to the clocks and batches of its command
+abbrev pub IsBegun : (kept : ℕ) → Verb → (has : Bool) → Next → Type 0
+IsBegun kept v has n = IsNextInRange n × HasNextClock kept n × ((batches : Batches) → PlaysOf batches v has → IsNextOf batches n)
 
-on_begun : (kept node : ℕ) (v : Deed) → node ≤ DEMUX_NODES → IsDeedInRange v → CanAsk kept v → IsBegun kept v (first_on node v)
-on_begun kept node (Once want) le fits can = ((le, fits), tt, λ batches of. tt)
-on_begun kept node (ReadWait count) le fits can = ((le, fits), tt, λ batches of. tt)
-on_begun kept node (Drain count) le fits can = ((le, fits), tt, λ batches of. tt)
-on_begun kept node (GetStc num) le fits can = (tt, omega (arith, le, can), λ batches of. tt)
-on_begun kept node (Write write has) le fits can = (le, tt, λ batches of. of)
+on_begun : (kept node : ℕ) (v : Verb) (has : Bool) → node ≤ DEMUX_NODES → IsVerbInRange v → CanAsk kept v → IsBegun kept v has (first_on node v has)
+on_begun kept node (Once want) has le fits can = ((le, fits), tt, λ batches of. tt)
+on_begun kept node (ReadWait count) has le fits can = ((le, fits), tt, λ batches of. tt)
+on_begun kept node (Drain count) has le fits can = ((le, fits), tt, λ batches of. tt)
+on_begun kept node (GetStc num) has le fits can = (tt, omega (arith, le, can), λ batches of. tt)
+on_begun kept node (Write write) has le fits can = (le, tt, λ batches of. of)
 
-at_begun : (kept : ℕ) (o : Option ℕ) (v : Deed) → IfSome o (λ node. node < DEMUX_NODES) → IsDeedInRange v → CanAsk kept v → IsBegun kept v (first_at o v)
-at_begun kept None v lt fits can = (tt, tt, λ batches of. tt)
-at_begun kept (Some node) v lt fits can = on_begun kept node v (omega (arith, lt)) fits can
-
-slot_bound : (slots : Slots) (slot : ℕ) → AreSlots slots → IfSome (slice_index_or slots slot None) (λ node. node < DEMUX_NODES)
-slot_bound [] slot bound = tt
-slot_bound (s ∷ slots) zero bound = All-head (λ slot. IfSome slot (λ node. node < DEMUX_NODES)) s slots bound
-slot_bound (s ∷ slots) (suc slot) bound = slot_bound slots slot (All-tail (λ slot. IfSome slot (λ node. node < DEMUX_NODES)) s slots bound)
-
-slot_begun : (kept slot : ℕ) (slots : Slots) (v : Deed) → slot < DEMUX_NODES → AreSlots slots → IsDeedInRange v → CanAsk kept v → IsBegun kept v (first_by_slot slot slots v)
-slot_begun kept slot slots (Once Open) lt bound fits can = ((lt, omega arith), tt, λ batches of. tt)
-slot_begun kept slot slots v lt bound fits can = at_begun kept (slice_index_or slots slot None) v (slot_bound slots slot bound) fits can
-
-pub first_begun : (kept : ℕ) (slots : Slots) (t : Target) (v : Deed) → IsTargetInRange t → AreSlots slots → IsDeedInRange v → CanAsk kept v → IsBegun kept v (first slots t v)
-first_begun kept slots (Node node) v is bound fits can = on_begun kept node v (omega (arith, is)) fits can
-first_begun kept slots (Slot slot) v is bound fits can = slot_begun kept slot slots v (omega (arith, is)) bound fits can
-first_begun kept slots Dvr v is bound fits can = on_begun kept DEMUX_NODES v (omega arith) fits can
+pub first_begun : (kept : ℕ) (slots : Slots) (t : Target) (v : Verb) (has : Bool) → IsTargetInRange t → AreSlots slots → IsVerbInRange v → CanAsk kept v → IsBegun kept v has (first slots t v has)
+first_begun kept slots t v has is bound fits can =
+    any_first (IsBegun kept v has) slots t v has (λ node le. on_begun kept node v has (le is bound) fits can) (λ slot lt. ((lt is, omega arith), tt, λ batches of. tt)) (tt, tt, λ batches of. tt)
 
 -- where it stands, it asks for what there is
 abbrev pub IsAsked : Batches → Event → Type 0

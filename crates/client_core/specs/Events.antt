@@ -7,7 +7,8 @@ use Rattle.client_core.specs.declared.event.ClientRequest.{ClientRequest}
 use Rattle.client_core.specs.declared.event.ClientRequest.TheVariants.{Own}
 use Rattle.client_core.specs.declared.task.Ending.{Ending}
 use Rattle.client_core.specs.declared.task.Ending.TheVariants.{Bound}
-use Rattle.client_core.specs.Commands.{commands_of, stands, through, Slots, done}
+use Rattle.client_core.specs.Commands.{commands_of, stands, through, Slots}
+use Rattle.client_core.specs.Steps.{done}
 
 -- an open of a slot that succeeds binds it
 abbrev pub slots_after : Ending → Slots → Slots
@@ -40,7 +41,7 @@ with_ended command p = record { ended = command ∷ p.ended; standing = p.standi
 -- replies and leaves the rest to the next.
 abbrev pub progress_from : Slots → (step : ℕ) → List ClientCommand → List Response → Progress
 progress_from slots step [] replies = record { ended = []; standing = None }
-progress_from slots step (c ∷ cs) replies = elim (done slots c.target c.deed step replies) [
+progress_from slots step (c ∷ cs) replies = elim (done slots c.target c.verb c.has_batch step replies) [
   | stands event ↦ record { ended = []; standing = Some (record { line = c.line; from = step; event = event }) }
   | through ending next left ↦
       with_ended (record { line = c.line; from = step; to = next; ending = ending })

@@ -10,10 +10,9 @@ pub use Rattle.client_script.specs.declared.line.Verb.{Verb}
 pub use Rattle.client_script.specs.declared.line.Verb.TheVariants.{Drain, GetStc, Once, ReadWait, Write}
 pub use Rattle.client_script.specs.declared.line.Want.{Want}
 pub use Rattle.client_script.specs.declared.line.Want.TheVariants.{Add, Close, Open, Pes, Poll, Read, Remove, Section, Size, Start, Stop}
-pub use Rattle.dmx_calls.specs.Calls.{invocation_of, response_of}
+pub use Rattle.dmx_calls.specs.Calls.{Call, invocation_of, response_of}
 pub use Rattle.dmx_calls.specs.Invocation.{Invocation}
 pub use Rattle.dmx_calls.specs.Response.{Again, Busy, Data, Done, Overflow, Passed, Ready, Refused, Response, TapChange, TimedOut}
-pub use Rattle.dmx_calls.specs.declared.call.Call.{Call}
 pub use Rattle.dmx_calls.specs.declared.limits.TheConstants.{DEMUX_NODES, LARGEST_READ}
 pub use Rattle.dmx_calls.specs.declared.outcome.Outcome.{Outcome}
 pub use Rattle.dmx_calls.specs.declared.outcome.OutcomeKind.{OutcomeKind}

@@ -1,13 +1,15 @@
 -- The packets that a client plays, on each demux node (this project's own).
-use Rattle.std.specs.Prelude.{ℕ, ◌≡◌, ◌<◌, true, List, [], ◌∷◌, ◌++◌, Option, Some, None, nat_eq, slice_index_or, if◌then◌else◌}
-use Rattle.client_core.specs.Imports.{DEMUX_NODES, Ready, Response, Scripted, Slot, Target}
-use Rattle.client_core.specs.declared.deed.Deed.{Deed}
-use Rattle.client_core.specs.declared.deed.Deed.TheVariants.{Write}
+use Rattle.std.specs.Prelude.{ℕ, ◌≡◌, ◌<◌, true, List, [], ◌∷◌, ◌++◌, None, nat_eq, if◌then◌else◌}
+use Rattle.client_core.specs.Imports.{DEMUX_NODES, Ready, Response, Scripted}
+use Rattle.client_core.specs.declared.task.Task.TheVariants.{Write}
+use Rattle.client_core.specs.declared.task.Next.{Next}
+use Rattle.client_core.specs.declared.task.Next.TheVariants.{Still}
 use Rattle.client_core.specs.declared.command.ClientCommand.{ClientCommand}
 use Rattle.client_core.specs.declared.event.Event.{Event}
 use Rattle.client_core.specs.declared.event.ClientRequest.{ClientRequest}
 use Rattle.client_core.specs.declared.event.ClientRequest.TheVariants.{Pass}
-use Rattle.client_core.specs.Commands.{Slots, stands, through, done, commands_of}
+use Rattle.client_core.specs.Commands.{Slots, stands, through, commands_of}
+use Rattle.client_core.specs.Steps.{first, done}
 use Rattle.client_core.specs.Events.{slots_after, no_slots, next_event}
 use Rattle.client_core.specs.Stc.{Exchange, exchanges}
 
@@ -30,24 +32,15 @@ passes_on node (x ∷ older) = passes_on node older ++ pass_at node x.event
 -- ------ the writes that are played
 
 -- a write that completes a packet, where the first of its replies, that to its poll, is Ready
-abbrev pub played_on : Deed → List Response → List ℕ
-played_on (Write write true) (Ready readable error at ended ∷ replies) = write ∷ []
-played_on _ replies = []
-
--- a command on an unbound slot makes no call
-abbrev pub played_at : Option ℕ → Deed → List Response → List ℕ
-played_at None deed replies = []
-played_at (Some node) deed replies = played_on deed replies
-
-abbrev pub played_in : Slots → Target → Deed → List Response → List ℕ
-played_in slots (Slot slot) deed replies = played_at (slice_index_or slots slot None) deed replies
-played_in slots _ deed replies = played_on deed replies
+abbrev pub played_by : Next → List Response → List ℕ
+played_by (Still (Write node write true)) (Ready readable error at ended ∷ replies) = write ∷ []
+played_by next replies = []
 
 -- the writes of these commands that are played, in the order of their lines
 abbrev pub played_from : Slots → (step : ℕ) → List ClientCommand → List Response → List ℕ
 played_from slots step [] replies = []
 played_from slots step (c ∷ cs) replies =
-    played_in slots c.target c.deed replies ++ (elim (done slots c.target c.deed step replies) [
+    played_by (first slots c.target c.verb c.has_batch) replies ++ (elim (done slots c.target c.verb c.has_batch step replies) [
       | stands event ↦ []
       | through ending next left ↦ played_from (slots_after ending slots) next cs left
     ])

@@ -1,9 +1,8 @@
 -- What a command does, by small steps, as the code does it: it begins with a task, which stands before a call; after the
--- reply it goes on with the next task, or is through (this project's own). It is the same as `done`.
-use Rattle.std.specs.Prelude.{ℕ, ◌≡◌, ◌+◌, List, [], ◌∷◌, Option, Some, None, nat_lt, slice_index_or, if◌then◌else◌}
-use Rattle.client_core.specs.Imports.{Attach as AttachTap, Busy, DEMUX_NODES, Detach as DetachTap, Done, Dvr, Keep as KeepTap, Node, Open, Poll, Read, Ready, Response, Slot, TapChange, Target}
-use Rattle.client_core.specs.declared.deed.Deed.{Deed}
-use Rattle.client_core.specs.declared.deed.Deed.TheVariants as deed
+-- reply it goes on with the next task, or is through (this project's own).
+use Rattle.std.specs.Prelude.{Bool, ℕ, ◌+◌, List, [], ◌∷◌, Option, Some, None, nat_lt, slice_index_or, if◌then◌else◌}
+use Rattle.client_core.specs.Imports.{Verb, Attach as AttachTap, Busy, DEMUX_NODES, Detach as DetachTap, Done, Dvr, Keep as KeepTap, Node, Open, Poll, Read, Ready, Response, Slot, TapChange, Target}
+use Rattle.client_script.specs.declared.line.Verb.TheVariants as verb
 use Rattle.client_core.specs.declared.event.Event.{Event}
 use Rattle.client_core.specs.declared.event.ClientRequest.TheVariants as ask
 use Rattle.client_core.specs.declared.task.Ending.{Ending}
@@ -12,31 +11,31 @@ use Rattle.client_core.specs.declared.task.Task.{Task}
 use Rattle.client_core.specs.declared.task.Task.TheVariants.{Call, ReadWait, Drain, OpenFrom, Attach, Detach, Write, Play}
 use Rattle.client_core.specs.declared.task.Next.{Next}
 use Rattle.client_core.specs.declared.task.Next.TheVariants.{Still, Through}
-use Rattle.client_core.specs.Commands.{Doing, stands, through, ends_wait, ends_drain, Slots, done}
+use Rattle.client_core.specs.Commands.{Doing, stands, through, ends_wait, ends_drain, Slots}
 
 -- ------ with what it begins
 
--- on this node
-abbrev pub first_on : (node : ℕ) → Deed → Next
-first_on node (deed.Once want) = Still (Call node want)
-first_on node (deed.ReadWait count) = Still (ReadWait node count)
-first_on node (deed.Drain count) = Still (Drain node count)
-first_on node (deed.GetStc num) = Through (Asked node num)
-first_on node (deed.Write write has_batch) = Still (Write node write has_batch)
+-- on this node; a question for a system time counter is no call, and is answered by what the client has read before
+abbrev pub first_on : (node : ℕ) → Verb → (has_batch : Bool) → Next
+first_on node (verb.Once want) has_batch = Still (Call node want)
+first_on node (verb.ReadWait count) has_batch = Still (ReadWait node count)
+first_on node (verb.Drain count) has_batch = Still (Drain node count)
+first_on node (verb.GetStc num) has_batch = Through (Asked node num)
+first_on node (verb.Write write) has_batch = Still (Write node write has_batch)
 
 -- on the node of a slot
-abbrev pub first_at : Option ℕ → Deed → Next
-first_at None v = Through NoNode
-first_at (Some node) v = first_on node v
+abbrev pub first_at : Option ℕ → Verb → (has_batch : Bool) → Next
+first_at None v has_batch = Through NoNode
+first_at (Some node) v has_batch = first_on node v has_batch
 
-abbrev pub first_by_slot : (slot : ℕ) → Slots → Deed → Next
-first_by_slot slot slots (deed.Once Open) = Still (OpenFrom slot 0)
-first_by_slot slot slots v = first_at (slice_index_or slots slot None) v
+abbrev pub first_by_slot : (slot : ℕ) → Slots → Verb → (has_batch : Bool) → Next
+first_by_slot slot slots (verb.Once Open) has_batch = Still (OpenFrom slot 0)
+first_by_slot slot slots v has_batch = first_at (slice_index_or slots slot None) v has_batch
 
-abbrev pub first : Slots → Target → Deed → Next
-first slots (Node node) v = first_on node v
-first slots (Slot slot) v = first_by_slot slot slots v
-first slots Dvr v = first_on DEMUX_NODES v
+abbrev pub first : Slots → Target → Verb → (has_batch : Bool) → Next
+first slots (Node node) v has_batch = first_on node v has_batch
+first slots (Slot slot) v has_batch = first_by_slot slot slots v has_batch
+first slots Dvr v has_batch = first_on DEMUX_NODES v has_batch
 
 -- ------ before which call a task stands
 
@@ -81,7 +80,6 @@ doing (Through ending) step replies = through ending step replies
 doing (Still task) step [] = stands (event_of task step)
 doing (Still task) step (reply ∷ replies) = doing (after task reply) (step + 1) replies
 
--- What a command does, told as a whole (`done`) and by small steps, is the same.
-abbrev pub StepsAreDone : Type 0
-StepsAreDone = (slots : Slots) (target : Target) (v : Deed) (step : ℕ) (replies : List Response)
-    → done slots target v step replies ≡ doing (first slots target v) step replies
+-- What a command does from this step on, with these slots, by these replies.
+abbrev pub done : Slots → Target → Verb → (has_batch : Bool) → (step : ℕ) → List Response → Doing
+done slots target v has_batch step replies = doing (first slots target v has_batch) step replies

@@ -33,7 +33,7 @@ pub fn call_of_want(alloc: Global, want: Want, now: u64) -> Result<Call, NoMemor
         Want::Size(size) => Call::SetSize(size),
         Want::Read(count) => Call::Read {
             now,
-            buf: ByteBuf::new(alloc, count)?,
+            room: ByteBuf::new(alloc, count)?,
         },
         Want::Poll => Call::Poll { now },
     })

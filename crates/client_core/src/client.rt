@@ -1,8 +1,7 @@
 // The client machine.
-ghost use Rattle.std.specs.Prelude.{◌≡◌, ℕ, ◌+◌, ◌*◌, ◌<◌, ◌≤◌, ◌^◌, List, [], ◌∷◌, ◌++◌, length, true, false, Some, None, IsSome, IsNone, IfSome, IfOk, All, ◌↔◌, MatchOption, vec_capacity};
-ghost use Rattle.client_core.specs.Imports.{DEMUX_NODES as nodes, IsInRange, Response, Scripted, option_map, response_of, writes_of};
-ghost use Rattle.client_core.specs.Plays.{HasPlayed};
-ghost use Rattle.client_core.specs.Deeds.{batch_at};
+ghost use Rattle.std.specs.Prelude.{◌≡◌, ℕ, ◌+◌, ◌*◌, ◌<◌, ◌≤◌, List, [], ◌∷◌, ◌++◌, length, true, false, Some, None, IsSome, IfSome, IfOk, All, ◌^◌, ◌↔◌, vec_capacity};
+ghost use Rattle.client_core.specs.Imports.{HasVerb, DEMUX_NODES as nodes, IsInRange, Response, Scripted, option_map, response_of, writes_of};
+ghost use Rattle.client_core.specs.Plays.{HasPlayed, PlaysOf, batch_at, plays_batch};
 ghost use Rattle.client_core.specs.Commands.{commands_among, commands_of, IsRequestInRange, IsRequestOf};
 ghost use Rattle.client_core.specs.Events.{next_event, reading_on, waits_on, next_of_line};
 ghost use Rattle.client_core.specs.Stc.{Exchange, with_reply};
@@ -10,16 +9,15 @@ ghost use Rattle.client_core.specs.Outcomes.{outcomes as outcomes_of};
 ghost use Rattle.client_core.specs.Inside.Clocks.{HaveFollowed, AreFew};
 ghost use Rattle.client_core.specs.Steps.{event_of as stands_at};
 ghost use Rattle.client_core.specs.Inside.Tasks.{IsTaskInRange};
-ghost use Rattle.client_core.specs.Inside.Core.{coming, one_if_some, IsCommandInRange, IsCommandOf, IsMade, CanBegin, IsSound, IsAfter, HasTaken, next_of, waits_with};
+ghost use Rattle.client_core.specs.Inside.Core.{one_if_some, IsCommandInRange, IsCommandOf, IsMade, CanBegin, IsSound, IsAfter, HasTaken, next_of, waits_with};
 
 use crate::clocks::Clocks;
 use crate::command::{ClientCommand, Commands};
 use crate::current::{Current, add, begin, bind, kind_of};
-use crate::deed::{Deed, deed_of};
 use crate::dvr_play::Plays;
 use crate::event::Event;
 use crate::task::{Next, Task, after, event_of, reading_of};
-use client_script::{Line, Script};
+use client_script::{Line, Script, Verb};
 use dmx_calls::{LogReply, Outcome, Reply};
 use std::alloc::{AllocError as NoMemory, Global};
 use std::marker::Model;
@@ -62,6 +60,18 @@ fn plays_of(alloc: Global, script: &Script, client: u32) -> Result<Plays, NoMemo
     Ok(plays)
 }
 
+// Whether a command with this verb is a write that has a batch.
+fn has_batch(plays: &Plays, verb: Verb) -> bool
+    requires made { HasVerb (length plays.now.batches) verb }
+    ensures value { result ≡ plays_batch plays.now.batches verb }
+    ensures played { PlaysOf plays.now.batches verb result }
+{
+    match verb {
+        Verb::Write(write) => plays.batch(write).is_some(),
+        _ => false,
+    }
+}
+
 // The client's commands among these lines, in their order.
 fn commands(
     alloc: Global,
@@ -85,8 +95,12 @@ fn commands(
         } = *line
         {
             if who == client {
-                let deed = deed_of(plays, verb);
-                commands.push(ClientCommand { line, target, deed })?;
+                commands.push(ClientCommand {
+                    line,
+                    target,
+                    verb,
+                    has_batch: has_batch(plays, verb),
+                })?;
             }
         }
     }
@@ -98,7 +112,7 @@ fn asks(command: &ClientCommand) -> bool
     ensures none { result ≡ false → CanBegin 0 command.now }
     ensures some { result ≡ true → CanBegin 0 command.now → ⊥ }
 {
-    matches!(command.deed, Deed::GetStc(_))
+    matches!(command.verb, Verb::GetStc(_))
 }
 
 // Whether one of these commands asks for a counter.

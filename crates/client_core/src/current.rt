@@ -1,12 +1,11 @@
 // A client's commands, done by the replies that come.
-ghost use Rattle.std.specs.Prelude.{◌≡◌, ◌≢◌, ℕ, ◌+◌, ◌<◌, ◌≤◌, ◌^◌, List, [], ◌∷◌, ◌++◌, drop, length, Some, None, IsSome, IfSome, IfNone, All, vec_capacity};
-ghost use Rattle.client_core.specs.Imports.{Response, response_of};
+ghost use Rattle.std.specs.Prelude.{◌≡◌, ◌+◌, ◌<◌, ◌≤◌, [], ◌∷◌, ◌++◌, length, Some, None, IfSome, IfNone, All, vec_capacity};
 ghost use Rattle.client_core.specs.Events.{slots_after};
 ghost use Rattle.client_core.specs.Outcomes.{stc_kind as stc_kind_of, kind_by};
 ghost use Rattle.client_core.specs.Inside.Clocks.{counter_in};
 ghost use Rattle.client_core.specs.Inside.Tasks.{IsEndingInRange, IsTaskInRange, IsTaskOf, AreSlots};
 ghost use Rattle.client_core.specs.Inside.Core.{HasBegun, one_if_some, IsCommandInRange, IsCommandOf, CanBegin};
-ghost use Rattle.client_core.specs.Deeds.{Batches};
+ghost use Rattle.client_core.specs.Plays.{Batches};
 
 use crate::clocks::Clocks;
 use crate::command::Commands;
@@ -92,7 +91,7 @@ pub fn begin(
     ensures played { (batches : Batches) → All (IsCommandOf batches) left.old → All (IsCommandOf batches) left.new × IfSome result (λ c. IsTaskOf batches c.task) }
 {
     'commands: while let Some(command) = left.take() {
-        match first(slots, command.target, command.deed) {
+        match first(slots, command.target, command.verb, command.has_batch) {
             Next::Still(task) => {
                 return Some(Current {
                     line: command.line,

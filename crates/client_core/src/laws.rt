@@ -1,6 +1,5 @@
 // Laws of the definitions.
 ghost use Rattle.client_core.specs.Repeats.{CallsAreFew};
-ghost use Rattle.client_core.specs.Steps.{StepsAreDone};
 ghost use Rattle.client_core.specs.Passes.{WritesPass};
 ghost use Rattle.client_core.specs.Inside.More.{OneReplyMore};
 
@@ -18,9 +17,4 @@ pub fn one_reply_repeats_once()
 /// its writes whose poll was Ready and which complete a packet.
 pub fn writes_pass_their_batches()
     ensures { WritesPass }
-{}
-
-/// What a command does, told as a whole and by small steps, is the same.
-pub fn small_steps_are_the_whole()
-    ensures { StepsAreDone }
 {}

@@ -1,6 +1,5 @@
 -- What the words that are still to come make of a filter.
-use Rattle.client_script.proofs.Imports.{◌≡◌, refl, ℕ, suc, ◌+◌, List, [], ◌∷◌, fold, Some, None, Ok, Err, SectionFilter, Place, with_place, Reading, and_then, mapped, place_named, Bytes, Byte}
-use Rattle.client_script.specs.Places.{places_in}
+use Rattle.client_script.proofs.Imports.{◌≡◌, refl, ℕ, suc, ◌+◌, List, [], ◌∷◌, fold, Some, None, Ok, Err, SectionFilter, Place, with_place, Reading, and_then, mapped, place_named, Bytes, Byte, places_in}
 
 -- the filter with the places that at most `left` words at the front spell, with numbers from `least` on
 unfoldable pub filter_by : SectionFilter → (left least : ℕ) → List (List ℕ) → Reading SectionFilter

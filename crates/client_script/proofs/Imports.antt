@@ -1,15 +1,22 @@
 -- The words of others that the proofs of this crate use.
 pub use Rattle.byteorder.specs.Endian.{little_bytes}
 pub use Rattle.byteorder.specs.Numbers.{little_number-reads_back}
-pub use Rattle.client_script.specs.Grammar.{IsInRange, IsPlain, IsPlainVerb, IsTargetInRange, IsVerbInRange, alone, command_in, count_in, dvr_named, in_line, is_passed_over, meaning, name_of, number_in, pes_in, pid_in, section_in, some_said, target_of, whole_in}
-pub use Rattle.client_script.specs.Imports.{All, GetStc as StcRequest, IsFilter, LARGEST_READ, Place, Request, SectionFilter, argument_of, big_bytes, client_named, client_text, count_by, decimal, flat_map, hex_bytes, hex_text, input_text, is_word, number_of, option_map, output_text, place_named, position, range_with_len, slice_split}
+pub use Rattle.client_script.specs.Grammar.{IsInRange, IsPlain, IsPlainVerb, IsTargetInRange, IsVerbInRange, alone, count_in, in_line, is_passed_over, pid_in, some_said, whole_in}
+unfoldable pub use Rattle.client_script.specs.Grammar.{command_in, dvr_named, meaning, name_of, number_in, pes_in, section_in, target_of, asked_in, line_in, line_of, numbered_target, verb_in, write_in}
+pub use Rattle.client_script.specs.Imports.{All, GetStc as StcRequest, IsFilter, LARGEST_READ, Place, Request, SectionFilter, argument_of, big_bytes, client_named, client_text, count_by, decimal, flat_map, hex_text, input_text, is_word, number_of, option_map, output_text, place_named, position, range_with_len, slice_split}
+unfoldable pub use Rattle.text_forms.specs.Hex.{hex_bytes, hex_byte, hex_digit}
 pub use Rattle.client_script.specs.Inside.Part.{FallsInto, HasNoFeed, IsSearched, Passes}
-pub use Rattle.client_script.specs.Places.{filter_in}
-pub use Rattle.client_script.specs.Requests.{request_in, request_number_in, verb_of, want_of}
-pub use Rattle.client_script.specs.Script.{AreNumbered, AreWritten, HasWrite, IsOnDvr, IsScript, Parsed, Scripted, clients_among, grammar, is_stream, most_bytes, named_among, named_in, no_writes, parted, plain, script_len, whole_lines, with_said, with_write, without_last, writes_of, written_by}
+unfoldable pub use Rattle.client_script.specs.Places.{filter_in, places_in}
+pub use Rattle.client_script.specs.Requests.{verb_of, want_of}
+unfoldable pub use Rattle.client_script.specs.Requests.{request_in, request_number_in, argument_named, ioctl_in, request_number}
+pub use Rattle.client_script.specs.Script.{AreNumbered, AreWritten, HasWrite, IsOnDvr, IsScript, Parsed, Scripted, clients_among, is_stream, most_bytes, named_among, named_in, no_writes, parted, plain, script_len, whole_lines, with_said, with_write, without_last, writes_of, written_by}
+unfoldable pub use Rattle.client_script.specs.Script.{grammar, lines_from, split}
 pub use Rattle.client_script.specs.Spelling.{number_text, said_again, spelling, with_all}
-pub use Rattle.client_script.specs.Words.{Reading, and_then, mapped, next_as, or_fault, word_in, words_of}
-pub use Rattle.client_script.specs.Writes.{IsWritten, written_named}
+unfoldable pub use Rattle.client_script.specs.Spelling.{arguments_text, bytes_text, command_text, line_text, name_text, pes_text, request_text, section_text, target_text, want_arguments_text, want_text}
+pub use Rattle.client_script.specs.Words.{Reading, and_then, mapped, next_as, or_fault, words_of}
+unfoldable pub use Rattle.client_script.specs.Words.{word_in}
+pub use Rattle.client_script.specs.Writes.{IsWritten}
+unfoldable pub use Rattle.client_script.specs.Writes.{written_named}
 pub use Rattle.client_script.specs.declared.fault.FaultKind.TheVariants.{Bytes, Client, Command as NoCommand, Name, NoStream, Target as NoTarget}
 pub use Rattle.client_script.specs.declared.fault.ScriptFault.{ScriptFault}
 pub use Rattle.client_script.specs.declared.line.Line.{Line}
@@ -28,7 +35,8 @@ pub use Rattle.client_script.specs.declared.wanted.NumberName.{NumberName}
 pub use Rattle.client_script.specs.declared.wanted.NumberName.TheVariants.{Flags, N, PesType, Pid, Timeout}
 pub use Rattle.client_script.specs.declared.wanted.WantedWord.TheVariants.{Byte}
 pub use Rattle.dmx_abi.specs.declared.numbers.TheConstants.{GET_STC}
-pub use Rattle.filter_match.specs.Places.{place_at, with_place}
+pub use Rattle.filter_match.specs.Places.{place_at}
+unfoldable pub use Rattle.filter_match.specs.Places.{with_place}
 pub use Rattle.std.proofs.Common.{Bool, List, [], add-one, ap, append-nil, append_assoc, arith, codes, cond, drop, false, fold, get_or, inl, inr, length, length-append, map, nat_eq, refl, rules, subst, suc, sym, take, take-add, true, zero, ℕ, ◌%◌, ◌*◌, ◌++◌, ◌+◌, ◌-◌, ◌/◌, ◌<◌, ◌^◌, ◌∙◌, ◌∷◌, ◌≡◌, ◌≢◌, ◌≤◌, ◌⊎◌}
 pub use Rattle.std.proofs.Math.Nat.{mod-lt}
 pub use Rattle.std.proofs.Math.Seq.{drop-append-add, drop-cons, take-append-add, take-append_seam}
@@ -54,3 +62,7 @@ pub use Rattle.text_forms.proofs.Visible.{AreVisible, IsVisible, behind-visible,
 pub use Rattle.text_forms.proofs.WordsRead.{input_named-input_text, output_named-output_text}
 pub use Rattle.text_forms.specs.Hex.{digit_text}
 pub use Rattle.text_forms.specs.Places.{filter_places, filter_words}
+unfoldable pub use Rattle.text_forms.specs.Places.{places_named}
+unfoldable pub use Rattle.text_forms.specs.Names.{numbered}
+unfoldable pub use Rattle.text_forms.specs.Numbers.{value_after}
+unfoldable pub use Rattle.text_forms.specs.Words.{input_named, output_named}

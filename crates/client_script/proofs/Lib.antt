@@ -4,8 +4,6 @@ pub mod Lengthening
 pub mod LineWords
 pub mod Numbering
 pub mod Parting
-pub mod ReadAgain
-pub mod RequestsAgain
 pub mod Scripts
 pub mod Searching
 pub mod Spelled

@@ -1,6 +1,5 @@
 -- The words of a line's spelling.
-use Rattle.client_script.proofs.Imports.{◌≡◌, ◌<◌, ◌≤◌, refl, ap, ◌∙◌, ℕ, List, [], ◌∷◌, ◌++◌, false, codes, arith, append-nil, nat_tests, All-nil, All-cons, All-head, All-tail, All-append, All-weaker, slice_split_none, slice_split_at, ◌==◌, All, flat_map, decimal, big_bytes, number_of, argument_of, StcRequest, input_text, output_text, hex_text, client_text, place_at, filter_words, filter_text-words, filter_words-each, IsVisible, AreVisible, decimal-visible, behind-visible, place_text-visible, hex_text-visible, visible_by_test, input_text-visible, output_text-visible, words_of, written_by, IsTargetInRange, IsVerbInRange, IsInRange, number_text, Verb, Once, ReadWait, Drain, GetStc, Write, Open, Close, Section, Pes, Add, Remove, Start, Stop, Size, Read, Poll, Target, Node, Slot, Dvr, Line, Feed, Tick, Command}
-use Rattle.client_script.specs.Spelling.{want_text, name_text, target_text, section_text, pes_text, want_arguments_text, request_text, bytes_text, arguments_text, command_text, line_text}
+use Rattle.client_script.proofs.Imports.{◌≡◌, ◌<◌, ◌≤◌, refl, ap, ◌∙◌, ℕ, List, [], ◌∷◌, ◌++◌, false, codes, arith, append-nil, nat_tests, All-nil, All-cons, All-head, All-tail, All-append, All-weaker, slice_split_none, slice_split_at, ◌==◌, All, flat_map, decimal, big_bytes, number_of, argument_of, StcRequest, input_text, output_text, hex_text, client_text, place_at, filter_words, filter_text-words, filter_words-each, IsVisible, AreVisible, decimal-visible, behind-visible, place_text-visible, hex_text-visible, visible_by_test, input_text-visible, output_text-visible, words_of, written_by, IsTargetInRange, IsVerbInRange, IsInRange, number_text, Verb, Once, ReadWait, Drain, GetStc, Write, Open, Section, Pes, Add, Remove, Size, Read, Target, Node, Slot, Dvr, Line, Feed, Tick, Command, want_text, name_text, target_text, section_text, pes_text, want_arguments_text, request_text, bytes_text, arguments_text, command_text, line_text}
 
 -- words behind a first one, each behind a space
 abbrev pub behind : List (List ℕ) → List ℕ
@@ -96,20 +95,7 @@ line_text-words writes (Command line client target verb) = rw (arguments_text-be
 name-visible : (verb : Verb) → AreVisible (name_text verb)
 unfolding name_text want_text
 name-visible (Once Open) = visible_by_test (codes "open") refl
-name-visible (Once Close) = visible_by_test (codes "close") refl
-name-visible (Once (Section p)) = visible_by_test (codes "section") refl
-name-visible (Once (Pes p)) = visible_by_test (codes "pes") refl
-name-visible (Once (Add pid)) = visible_by_test (codes "add") refl
-name-visible (Once (Remove pid)) = visible_by_test (codes "remove") refl
-name-visible (Once Start) = visible_by_test (codes "start") refl
-name-visible (Once Stop) = visible_by_test (codes "stop") refl
-name-visible (Once (Size n)) = visible_by_test (codes "size") refl
-name-visible (Once (Read n)) = visible_by_test (codes "read") refl
-name-visible (ReadWait n) = visible_by_test (codes "readw") refl
-name-visible (Drain n) = visible_by_test (codes "drain") refl
-name-visible (GetStc num) = visible_by_test (codes "ioctl") refl
-name-visible (Write write) = visible_by_test (codes "write") refl
-name-visible (Once Poll) = visible_by_test (codes "poll") refl
+name-visible verb = visible_by_test (name_text verb) refl
 
 target-visible : (target : Target) → IsTargetInRange target → AreVisible (target_text target)
 unfolding target_text

@@ -1,10 +1,7 @@
 -- The lines of a client name its writes in their order, each once.
-use Rattle.client_script.proofs.Imports.{◌≡◌, ◌≢◌, ◌<◌, ◌≤◌, ◌+◌, ◌⊎◌, inl, inr, refl, sym, ap, subst, ◌∙◌, ℕ, Bool, true, false, nat_eq, List, [], ◌∷◌, ◌++◌, length, codes, arith, length-append, append-nil, cases_eq, cases_lt, eq-eqb, nat_tests, flat_map-append, map-id, length-set, get_or-set_same, get_or-set_other, get_or_past, get_or-replicate, map-range_with_len_more, Option, Some, None, Result, Ok, Err, if◌then◌else◌, slice_set, range_with_len, option_map, LARGEST_READ, Request, is_word, client_named, Reading, and_then, mapped, or_fault, next_as, word_in, words_of, want_of, verb_of, request_number_in, request_in, written_named, number_in, pid_in, count_in, target_of, name_of, section_in, pes_in, dvr_named, alone, is_passed_over, some_said, IsPlainVerb, IsPlain, AreNumbered, Parsed, Scripted, plain, no_writes, with_said, with_write, writes_of, named_in, named_among, whole_lines, is_stream, Client, NoCommand, NoTarget, Name, Bytes, ScriptFault, CommandName, OpenName, CloseName, SectionName, PesName, AddName, RemoveName, StartName, StopName, SizeName, ReadName, ReadWaitName, DrainName, PollName, IoctlName, Said, Asks, Writes, Verb, Once, ReadWait, Drain, GetStc, Write, Want, Add, Remove, Size, Read, Target, Dvr, Line, Feed, Tick, Command, in_line, whole_in, N, ◌==◌}
+use Rattle.client_script.proofs.Imports.{◌≡◌, ◌≢◌, ◌<◌, ◌≤◌, ◌+◌, ◌⊎◌, inl, inr, refl, sym, ap, subst, ◌∙◌, ℕ, Bool, true, false, nat_eq, List, [], ◌∷◌, ◌++◌, length, codes, arith, length-append, append-nil, cases_eq, cases_lt, eq-eqb, nat_tests, flat_map-append, map-id, length-set, get_or-set_same, get_or-set_other, get_or_past, get_or-replicate, map-range_with_len_more, Option, Some, None, Result, Ok, Err, if◌then◌else◌, slice_set, range_with_len, option_map, LARGEST_READ, Request, is_word, client_named, Reading, and_then, mapped, or_fault, next_as, word_in, words_of, want_of, verb_of, request_number_in, request_in, written_named, number_in, pid_in, count_in, target_of, name_of, section_in, pes_in, dvr_named, alone, is_passed_over, some_said, IsPlainVerb, IsPlain, AreNumbered, Parsed, Scripted, plain, no_writes, with_said, with_write, writes_of, named_in, named_among, whole_lines, is_stream, Client, NoCommand, NoTarget, Name, Bytes, ScriptFault, CommandName, SectionName, PesName, AddName, RemoveName, SizeName, ReadName, ReadWaitName, DrainName, IoctlName, Said, Asks, Writes, Verb, Once, ReadWait, Drain, Write, Want, Add, Remove, Size, Read, Target, Dvr, Line, Feed, Tick, Command, in_line, whole_in, N, ◌==◌, ioctl_in, verb_in, command_in, write_in, asked_in, line_in, line_of, meaning, lines_from, grammar}
 use Rattle.dmx_abi.specs.declared.request.Request.TheVariants as request
 use Rattle.client_script.specs.declared.wanted.WantedWord.TheVariants as wanted
-use Rattle.client_script.specs.Requests.{ioctl_in}
-use Rattle.client_script.specs.Grammar.{verb_in, command_in, write_in, asked_in, line_in, line_of, meaning}
-use Rattle.client_script.specs.Script.{lines_from, grammar}
 
 -- ------ another line than `write` has another verb
 
@@ -36,14 +33,8 @@ once_plain number (Some want) words = tt
 once_plain number None words = tt
 
 asked_plain : (number : ℕ) (r : Request) (words : List (List ℕ)) → Gives IsPlainVerb (or_fault Name (wanted.Argument number) (verb_of r) words)
-asked_plain number (request.GetStc num) words = tt
-asked_plain number (request.SetFilter pid filter mask mode timeout flags) words = tt
 asked_plain number (request.SetPes pid input output pes_type flags) words = once_plain number (want_of (request.SetPes pid input output pes_type flags)) words
-asked_plain number (request.SetSize size) words = tt
-asked_plain number request.Start words = tt
-asked_plain number request.Stop words = tt
-asked_plain number (request.AddPid pid) words = tt
-asked_plain number (request.RemovePid pid) words = tt
+asked_plain number _ words = tt
 
 ioctl_plain : (words : List (List ℕ)) → Gives IsPlainVerb (ioctl_in words)
 unfolding ioctl_in
@@ -53,20 +44,16 @@ ioctl_plain words =
 
 verb_plain : (name : CommandName) (words : List (List ℕ)) → Gives IsPlainVerb (verb_in name words)
 unfolding verb_in
-verb_plain OpenName words = tt
-verb_plain CloseName words = tt
 verb_plain SectionName words = under_a_name {A = Want} IsPlainVerb Once (section_in words) (λ x. tt)
 verb_plain PesName words = under_a_name {A = Want} IsPlainVerb Once (pes_in words) (λ x. tt)
 verb_plain AddName words = under_a_name {A = ℕ} IsPlainVerb (λ pid. Once (Add pid)) (pid_in words) (λ x. tt)
 verb_plain RemoveName words = under_a_name {A = ℕ} IsPlainVerb (λ pid. Once (Remove pid)) (pid_in words) (λ x. tt)
-verb_plain StartName words = tt
-verb_plain StopName words = tt
 verb_plain SizeName words = under_a_name {A = ℕ} IsPlainVerb (λ n. Once (Size n)) (count_in N words) (λ x. tt)
 verb_plain ReadName words = under_a_name {A = ℕ} IsPlainVerb (λ n. Once (Read n)) (number_in N 0 LARGEST_READ words) (λ x. tt)
 verb_plain ReadWaitName words = under_a_name {A = ℕ} IsPlainVerb ReadWait (number_in N 0 LARGEST_READ words) (λ x. tt)
 verb_plain DrainName words = under_a_name {A = ℕ} IsPlainVerb Drain (number_in N 0 LARGEST_READ words) (λ x. tt)
-verb_plain PollName words = tt
 verb_plain IoctlName words = ioctl_plain words
+verb_plain _ words = tt
 
 module _ (line client : ℕ) where
   abbrev with_verb : CommandName → Target → List (List ℕ) → Reading Line
@@ -100,45 +87,71 @@ asked_in-plain line client words =
     if_gives IsPlainSaid (is_word word (codes "write")) (write_in line client words) (mapped Asks (command_in line client (name_of word) words)) (write_plain line client words)
     (then_gives {A = Line} IsPlain IsPlainSaid (command_in line client (name_of word) words) (λ asked words. Ok (Asks asked, words)) (command_plain line client (name_of word) words) (λ asked words is. is)))
 
-module _ (line : ℕ) where
-  abbrev by_a_client : List ℕ → List (List ℕ) → Reading Said
-  by_a_client first words = and_then (or_fault Client wanted.First (client_named first) words) (λ client words. asked_in line client words)
+-- ------ what lines mean
 
-  abbrev by_the_clock : List ℕ → List (List ℕ) → Reading Said
-  by_the_clock first words = if is_word first (codes "tick") then mapped (λ n. Asks (Tick n)) (count_in N words) else by_a_client first words
+-- what the words of a line say, where it is of this kind what a client's words say, and what `feed` and `tick` say
+module _ (P : Said → Type 0) (feeds : (n : ℕ) → P (Asks (Feed n))) (ticks : (n : ℕ) → P (Asks (Tick n))) (line : ℕ) where
+  by_client : (o : Option ℕ) (words : List (List ℕ)) → ((client : ℕ) → Gives P (asked_in line client words)) → Gives P (and_then (or_fault Client wanted.First o words) (λ client words. asked_in line client words))
+  by_client None words each = tt
+  by_client (Some client) words each = each client
 
-  line_in-plain : (words : List (List ℕ)) → Gives IsPlainSaid (line_in line words)
-  unfolding line_in
-  line_in-plain words =
-      any_gives {A = List ℕ} IsPlainSaid (word_in wanted.First words) (λ first words. if is_word first (codes "feed") then mapped (λ n. Asks (Feed n)) (number_in N 1 4294967295 words) else by_the_clock first words) (λ first words.
-      if_gives IsPlainSaid (is_word first (codes "feed")) (mapped (λ n. Asks (Feed n)) (number_in N 1 4294967295 words)) (by_the_clock first words)
-      (under_a_name {A = ℕ} IsPlainSaid (λ n. Asks (Feed n)) (number_in N 1 4294967295 words) (λ n. tt))
-      (if_gives IsPlainSaid (is_word first (codes "tick")) (mapped (λ n. Asks (Tick n)) (count_in N words)) (by_a_client first words)
-      (under_a_name {A = ℕ} IsPlainSaid (λ n. Asks (Tick n)) (count_in N words) (λ n. tt))
-      (any_gives {A = ℕ} IsPlainSaid (or_fault Client wanted.First (client_named first) words) (λ client words. asked_in line client words) (λ client words. asked_in-plain line client words))))
+  pub line_gives : (words : List (List ℕ)) → ((first : List ℕ) (more : List (List ℕ)) (client : ℕ) → words ≡ first ∷ more → Gives P (asked_in line client more)) → Gives P (line_in line words)
+  unfolding line_in word_in
+  line_gives [] each = tt
+  line_gives (first ∷ more) each =
+      if_gives P (is_word first (codes "feed")) (mapped (λ n. Asks (Feed n)) (number_in N 1 4294967295 more))
+      (if is_word first (codes "tick") then mapped (λ n. Asks (Tick n)) (count_in N more) else and_then (or_fault Client wanted.First (client_named first) more) (λ client words. asked_in line client words))
+      (under_a_name {A = ℕ} P (λ n. Asks (Feed n)) (number_in N 1 4294967295 more) feeds)
+      (if_gives P (is_word first (codes "tick")) (mapped (λ n. Asks (Tick n)) (count_in N more)) (and_then (or_fault Client wanted.First (client_named first) more) (λ client words. asked_in line client words))
+      (under_a_name {A = ℕ} P (λ n. Asks (Tick n)) (count_in N more) ticks)
+      (by_client (client_named first) more (λ client. each first more client refl)))
 
--- what a line means asks for a write by no other way
-abbrev IsPlainMeaning : Result (Option Said) ScriptFault → Type 0
-IsPlainMeaning (Ok (Some said)) = IsPlainSaid said
-IsPlainMeaning _ = Unit {0}
+-- what a line means is of this kind
+abbrev pub Means : (Said → Type 0) → Result (Option Said) ScriptFault → Type 0
+Means P (Ok (Some said)) = P said
+Means P _ = Unit {0}
 
 -- what was read, where no word is left behind it
-pub whole_gives : (P : Said → Type 0) (line : ℕ) (words : List (List ℕ)) → Gives P (line_in line words) → Gives P (whole_in line words)
+whole_gives : (P : Said → Type 0) (line : ℕ) (words : List (List ℕ)) → Gives P (line_in line words) → Gives P (whole_in line words)
 whole_gives P line words is = then_gives {A = Said} P P (line_in line words) alone is (λ said words is. if_gives P (length words == 0) (Ok (said, words)) _ is tt)
 
-said_plain : (line count : ℕ) (r : Reading Said) → Gives IsPlainSaid r → IsPlainMeaning (some_said (in_line line count r))
-said_plain line count (Ok r) is = is
-said_plain line count (Err fault) is = tt
+said_means : (P : Said → Type 0) (line count : ℕ) (r : Reading Said) → Gives P r → Means P (some_said (in_line line count r))
+said_means P line count (Ok r) is = is
+said_means P line count (Err fault) is = tt
 
-meaning_plain : (line : ℕ) (bytes : List ℕ) → IsPlainMeaning (meaning line bytes)
+pub line_means : (P : Said → Type 0) (line : ℕ) (bytes : List ℕ) → Gives P (line_in line (words_of bytes)) → Means P (meaning line bytes)
 unfolding meaning line_of
-meaning_plain line bytes = go (is_passed_over bytes) where
+line_means P line bytes is = go (is_passed_over bytes) where
   all : List (List ℕ)
   all = words_of bytes
 
-  go : (b : Bool) → IsPlainMeaning (if b then Ok None else some_said (in_line line (length all) (whole_in line all)))
+  go : (b : Bool) → Means P (if b then Ok None else some_said (in_line line (length all) (whole_in line all)))
   go true = tt
-  go false = said_plain line (length all) (whole_in line all) (whole_gives IsPlainSaid line all (line_in-plain line all))
+  go false = said_means P line (length all) (whole_in line all) (whole_gives P line all is)
+
+-- a line asks for a write by no other way
+meaning_plain : (line : ℕ) (bytes : List ℕ) → Means IsPlainSaid (meaning line bytes)
+meaning_plain line bytes =
+    line_means IsPlainSaid line bytes (line_gives IsPlainSaid (λ n. tt) (λ n. tt) line (words_of bytes) (λ first more client is. asked_in-plain line client more))
+
+-- What holds of a script with the lines behind it, and goes on with each of them, holds of the whole script, with the lines that
+-- are left behind its line `stream`.
+module _ (Holds : Scripted → List (List ℕ) → Type 0) (missing : ScriptFault)
+    (each : (line : ℕ) (bytes : List ℕ) (more : List (List ℕ)) (said : Option Said) (s : Scripted) → meaning line bytes ≡ Ok said → Holds s (bytes ∷ more) → Holds (with_said said s) more) where
+  by_line : (line : ℕ) (s t : Scripted) (bytes : List ℕ) (more : List (List ℕ)) (b : Bool) (m : Result (Option Said) ScriptFault) → meaning line bytes ≡ m → Holds s (bytes ∷ more)
+      → ((u : Scripted) → Holds u more → lines_from missing (line + 1) u more ≡ Ok t → (left : List (List ℕ)) × Holds t left)
+      → ◌≡◌ {A = Parsed} (if b then Ok s else (elim m [ Err fault ↦ Err fault | Ok said ↦ lines_from missing (line + 1) (with_said said s) more ])) (Ok t) → (left : List (List ℕ)) × Holds t left
+  by_line line s t bytes more true m means is later e =
+      let same : s ≡ t = cc in
+      (bytes ∷ more, subst (λ (u : Scripted). Holds u (bytes ∷ more)) same is)
+  by_line line s t bytes more false (Err fault) means is later e = absurd (cc)
+  by_line line s t bytes more false (Ok said) means is later e = later (with_said said s) (each line bytes more said s means is) e
+
+  pub holds_at_end : (line : ℕ) (s t : Scripted) (lines : List (List ℕ)) → Holds s lines → lines_from missing line s lines ≡ Ok t → (left : List (List ℕ)) × Holds t left
+  unfolding lines_from
+  holds_at_end line s t [] is e = absurd (cc)
+  holds_at_end line s t (bytes ∷ more) is e =
+      by_line line s t bytes more (is_stream bytes) (meaning line bytes) refl is (λ u goes rest. holds_at_end (line + 1) u t more goes rest) e
 
 -- ------ one line more
 
@@ -147,13 +160,9 @@ either_way true ns = refl
 either_way false ns = refl
 
 names_none : (client : ℕ) (line : Line) → IsPlain line → named_in client line ≡ []
-names_none client (Feed n) is = refl
-names_none client (Tick n) is = refl
-names_none client (Command line who target (Once want)) is = either_way (nat_eq who client) []
-names_none client (Command line who target (ReadWait n)) is = either_way (nat_eq who client) []
-names_none client (Command line who target (Drain n)) is = either_way (nat_eq who client) []
-names_none client (Command line who target (GetStc num)) is = either_way (nat_eq who client) []
 names_none client (Command line who target (Write write)) is = absurd is
+names_none client (Command line who target verb) is = either_way (nat_eq who client) []
+names_none client _ is = refl
 
 named_more : (client : ℕ) (lines : List Line) (line : Line) → named_among client (lines ++ line ∷ []) ≡ named_among client lines ++ named_in client line
 named_more client lines line = flat_map-append (named_in client) lines (line ∷ []) ∙ ap (λ ns. named_among client lines ++ ns) (append-nil (named_in client line))
@@ -215,7 +224,7 @@ record InOrder (s : Scripted) : Type 0 where
   eight : length s.writes ≡ 8
   order : (client : ℕ) → client ≤ 7 → IsNumbered s client
 
-in_order_more : (said : Option Said) (s : Scripted) → IsPlainMeaning (Ok said) → InOrder s → InOrder (with_said said s)
+in_order_more : (said : Option Said) (s : Scripted) → Means IsPlainSaid (Ok said) → InOrder s → InOrder (with_said said s)
 in_order_more None s only is = is
 in_order_more (Some (Asks line)) s only is = record { eight = is.eight; order = λ client few. plain_more s line client only (is.order client few) }
 in_order_more (Some (Writes line who bytes)) s only is = record {
@@ -223,30 +232,11 @@ in_order_more (Some (Writes line who bytes)) s only is = record {
   order = λ client few. write_more s line who bytes client (λ same. omega (arith, is.eight, same, few)) (is.order client few);
 }
 
--- ------ whole scripts
-
-on_line : (missing : ScriptFault) (line : ℕ) (s t : Scripted) (more : List (List ℕ)) (m : Result (Option Said) ScriptFault) → IsPlainMeaning m → InOrder s
-    → ((u : Scripted) → InOrder u → lines_from missing (line + 1) u more ≡ Ok t → InOrder t)
-    → ◌≡◌ {A = Parsed} (elim m [ Err fault ↦ Err fault | Ok said ↦ lines_from missing (line + 1) (with_said said s) more ]) (Ok t) → InOrder t
-on_line missing line s t more (Err fault) only is later e = absurd (cc)
-on_line missing line s t more (Ok said) only is later e = later (with_said said s) (in_order_more said s only is) e
-
-by_line : (missing : ScriptFault) (line : ℕ) (s t : Scripted) (more : List (List ℕ)) (m : Result (Option Said) ScriptFault) (b : Bool) → IsPlainMeaning m → InOrder s
-    → ((u : Scripted) → InOrder u → lines_from missing (line + 1) u more ≡ Ok t → InOrder t)
-    → ◌≡◌ {A = Parsed} (if b then Ok s else (elim m [ Err fault ↦ Err fault | Ok said ↦ lines_from missing (line + 1) (with_said said s) more ])) (Ok t) → InOrder t
-by_line missing line s t more m true only is later e =
-    let same : s ≡ t = cc in
-    subst InOrder same is
-by_line missing line s t more m false only is later e = on_line missing line s t more m only is later e
-
-in_order_from : (missing : ScriptFault) (line : ℕ) (s t : Scripted) (lines : List (List ℕ)) → InOrder s → lines_from missing line s lines ≡ Ok t → InOrder t
-unfolding lines_from
-in_order_from missing line s t [] is e = absurd (cc)
-in_order_from missing line s t (bytes ∷ more) is e =
-    by_line missing line s t more (meaning line bytes) (is_stream bytes) (meaning_plain line bytes) is (λ u order rest. in_order_from missing (line + 1) u t more order rest) e
-
 pub named_in_order : (bytes : List ℕ) (s : Scripted) (client : ℕ) → client ≤ 7 → grammar bytes ≡ Ok s → named_among client s.lines ≡ range_with_len 0 (length (writes_of client s.writes))
 unfolding grammar
-named_in_order bytes s client few e = (in_order_from _ 1 (plain []) s (whole_lines bytes) start e).order client few where
+named_in_order bytes s client few e = (holds_at_end (λ u lines. InOrder u) _ each 1 (plain []) s (whole_lines bytes) start e).1.order client few where
   start : InOrder (plain [])
   start = record { eight = refl; order = λ client few. numbered_none client }
+
+  each : (line : ℕ) (bytes : List ℕ) (more : List (List ℕ)) (said : Option Said) (u : Scripted) → meaning line bytes ≡ Ok said → InOrder u → InOrder (with_said said u)
+  each line bytes more said u means is = in_order_more said u (subst (Means IsPlainSaid) means (meaning_plain line bytes)) is

@@ -1,7 +1,6 @@
 -- What stands behind a script's line `stream` is never examined.
-use Rattle.client_script.proofs.Imports.{◌≡◌, ◌<◌, ◌≤◌, ◌+◌, refl, sym, ap, ◌∙◌, ℕ, suc, Bool, true, false, List, [], ◌∷◌, ◌++◌, length, take, drop, get_or, arith, add-one, length-append, nat_tests, take-append-drop, get_or-take, length-take, length-take-le, take-take, All-from_get_or, position-Some, slice_split_at, drop-cons, take-append-add, option_map, ◌==◌, Result, Ok, Err, if◌then◌else◌, All, slice_split, position, without_last, whole_lines, is_stream, Parsed, Scripted, plain, with_said, script_len, parted, most_bytes, meaning, ScriptFault, Said}
+use Rattle.client_script.proofs.Imports.{◌≡◌, ◌<◌, ◌≤◌, ◌+◌, refl, sym, ap, ◌∙◌, ℕ, suc, Bool, true, false, List, [], ◌∷◌, ◌++◌, length, take, drop, get_or, arith, add-one, length-append, nat_tests, take-append-drop, get_or-take, length-take, length-take-le, take-take, All-from_get_or, position-Some, slice_split_at, drop-cons, take-append-add, option_map, ◌==◌, Result, Ok, Err, if◌then◌else◌, All, slice_split, position, without_last, whole_lines, is_stream, Parsed, Scripted, plain, with_said, script_len, parted, most_bytes, meaning, ScriptFault, Said, lines_from, grammar, split}
 use Rattle.std.proofs.Common.{Option, Some, None}
-use Rattle.client_script.specs.Script.{lines_from, grammar, split}
 use Rattle.client_script.proofs.Cuts.{cut-some, cut-none, first-line}
 
 -- bytes with a first whole line: that line, its line feed, and the bytes behind it

@@ -1,6 +1,5 @@
 -- What the lines that were read and the bytes behind them make of a script.
-use Rattle.client_script.proofs.Imports.{◌≡◌, refl, true, false, ℕ, List, [], ◌∷◌, ◌+◌, count_by, ◌==◌, Option, Ok, Err, meaning, Parsed, Scripted, plain, with_said, whole_lines, is_stream, ScriptFault, NoStream, None, Said}
-use Rattle.client_script.specs.Script.{lines_from, grammar}
+use Rattle.client_script.proofs.Imports.{◌≡◌, refl, true, false, ℕ, List, [], ◌∷◌, ◌+◌, count_by, ◌==◌, Option, Ok, Err, meaning, Parsed, Scripted, plain, with_said, whole_lines, is_stream, ScriptFault, NoStream, None, Said, lines_from, grammar}
 
 -- a script of which this was read; the next line has this number
 unfoldable pub script_by : ScriptFault → Scripted → (number : ℕ) → List ℕ → Parsed

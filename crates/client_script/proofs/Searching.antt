@@ -1,5 +1,5 @@
 -- A search for the line `stream`, line by line.
-use Rattle.client_script.proofs.Imports.{◌≡◌, ◌<◌, ◌≤◌, ◌+◌, ◌-◌, refl, sym, ap, ◌∙◌, ℕ, suc, true, false, List, [], ◌∷◌, ◌++◌, length, take, drop, get_or, append_assoc, append-nil, arith, length-append, take-add, take-append-drop, get_or-drop, length-drop, drop-drop, drop-append-le, All-nil, All-append, position-Some, slice_split_at, slice_split_none, drop-append-add, take-append_seam, ◌==◌, Option, Some, None, IfSome, is_none, option_map, position, without_last, whole_lines, is_stream, script_len, FallsInto, HasNoFeed, IsSearched, Passes}
+use Rattle.client_script.proofs.Imports.{◌≡◌, ◌<◌, ◌≤◌, ◌+◌, ◌-◌, refl, sym, ap, ◌∙◌, ℕ, suc, true, false, List, [], ◌∷◌, ◌++◌, length, take, drop, get_or, append_assoc, append-nil, arith, length-append, take-add, take-append-drop, get_or-drop, length-drop, drop-drop, drop-append-le, All-append, position-Some, slice_split_at, slice_split_none, drop-append-add, ◌==◌, Option, Some, None, IfSome, is_none, option_map, position, without_last, whole_lines, is_stream, script_len, FallsInto, HasNoFeed, IsSearched, Passes}
 use Rattle.client_script.proofs.Parting.{lacks, parts}
 use Rattle.client_script.proofs.Splitting.{script_len-more, script_len-within}
 use Rattle.client_script.proofs.Cuts.{first-line, position-None}
@@ -10,16 +10,9 @@ whole_lines-line line more none = first-line (line ++ 10 ∷ more) line more (sl
 pub whole_lines-none : (line : List ℕ) → HasNoFeed line → whole_lines line ≡ []
 whole_lines-none line none = ap without_last (slice_split_none (λ (byte : ℕ). byte == 10) line none)
 
-onto_zero : (r : Option ℕ) → r ≡ option_map (λ n. 0 + n) r
-onto_zero None = refl
-onto_zero (Some n) = ap Some (omega arith)
-
 onto_sum : (a b : ℕ) (r : Option ℕ) → option_map (λ n. a + n) (option_map (λ n. b + n) r) ≡ option_map (λ n. a + b + n) r
 onto_sum a b None = refl
 onto_sum a b (Some n) = ap Some (omega arith)
-
-pub passes-start : (bytes : List ℕ) → Passes 0 bytes
-passes-start bytes more = onto_zero (script_len (whole_lines (bytes ++ more)))
 
 -- one more line was passed
 pub passes-line : (count : ℕ) (bytes line behind : List ℕ) → Passes count bytes → drop count bytes ≡ line ++ 10 ∷ behind → HasNoFeed line → is_stream line ≡ false
@@ -61,13 +54,6 @@ pub passes-on : (count next : ℕ) (bytes : List ℕ) → Passes count bytes →
 passes-on count next bytes passed then more =
     let behind : drop (count + next) bytes ≡ drop next (drop count bytes) = sym (drop-drop next count bytes) in
     rw behind (passed more ∙ (ap (option_map (λ n. count + n)) (then more) ∙ onto_sum count next (script_len (whole_lines (drop next (drop count bytes) ++ more)))))
-
--- and the line `stream` behind them is found
-pub script_len-behind : (count n : ℕ) (bytes : List ℕ) → Passes count bytes → script_len (whole_lines (drop count bytes)) ≡ Some n → script_len (whole_lines bytes) ≡ Some (count + n)
-script_len-behind count n bytes passed found =
-    let same : script_len (whole_lines (bytes ++ [])) ≡ option_map (λ n. count + n) (script_len (whole_lines (drop count bytes ++ []))) = passed [] in
-    let plain : script_len (whole_lines bytes) ≡ option_map (λ n. count + n) (script_len (whole_lines (drop count bytes))) = rw (append-nil bytes, append-nil (drop count bytes)) at same in
-    plain ∙ rw found refl
 
 -- ------ where the next line feed stands
 
@@ -113,30 +99,6 @@ passed-line passed bytes rest line behind here passes falls other =
     passes-line passed bytes line behind passes (sym here ∙ falls.1) falls.0 other (sym (behind-line passed bytes rest line behind here falls))
 
 -- ------ bytes that were searched
-
-pub searched-none : IsSearched [] 0 None
-searched-none = record { found = refl; front = omega arith; passed = λ e. passes-start []; line = λ e. All-nil (λ (byte : ℕ). (byte == 10) ≡ false) }
-
--- as many bytes as there were before have no line feed behind the place where the line begins
-pub searched-known : (bytes piece new : List ℕ) (begun : ℕ) (end : Option ℕ) → IsSearched bytes begun end → end ≡ None → new ≡ bytes ++ piece → HasNoFeed (take (length bytes - begun) (drop begun new))
-searched-known bytes piece new begun end s none is =
-    let behind : drop begun new ≡ drop begun bytes ++ piece = ap (drop begun) is ∙ drop-append-le begun bytes piece s.front in
-    let long : length bytes - begun ≡ length (drop begun bytes) = sym (length-drop begun bytes) in
-    let front : take (length bytes - begun) (drop begun new) ≡ drop begun bytes = rw (behind, long) (take-append_seam (drop begun bytes) piece) in
-    rw front (s.line none)
-
-pub searched-found : (bytes piece new : List ℕ) (begun passed : ℕ) (end : Option ℕ) → IsSearched bytes begun end → end ≡ None → new ≡ bytes ++ piece
-    → script_len (whole_lines (drop begun new)) ≡ Some passed → passed ≤ length (drop begun new) → IsSearched new (begun + passed) (Some (begun + passed))
-searched-found bytes piece new begun passed end s none is found fits =
-    let more : Passes begun new = rw is (passes-more begun bytes piece s.front (s.passed none)) in
-    let long : length new ≡ length bytes + length piece = ap length is ∙ length-append bytes piece in
-    let front : begun ≤ length bytes = s.front in
-    record {
-      found = sym (script_len-behind begun passed new more found);
-      front = omega (arith, length-drop begun new);
-      passed = λ e. absurd (cc);
-      line = λ e. absurd (cc);
-    }
 
 pub searched-on : (bytes piece new : List ℕ) (begun passed : ℕ) (end : Option ℕ) → IsSearched bytes begun end → end ≡ None → new ≡ bytes ++ piece
     → Passes passed (drop begun new) → HasNoFeed (drop passed (drop begun new)) → passed ≤ length (drop begun new) → IsSearched new (begun + passed) end

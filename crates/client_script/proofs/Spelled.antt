@@ -1,10 +1,7 @@
 -- All writes of a script have no more bytes than the script.
-use Rattle.client_script.proofs.Imports.{◌≡◌, ◌≤◌, ◌+◌, refl, ap, subst, ℕ, zero, suc, Bool, true, false, List, [], ◌∷◌, ◌++◌, length, map, codes, arith, slice_split-cons_yes, slice_split-cons_no, sum_by-cons, ◌==◌, Option, Some, None, Result, Ok, Err, if◌then◌else◌, slice_index_or, slice_set, sum, slice_split, onto_first, is_word, client_named, Reading, and_then, mapped, or_fault, next_as, words_of, written_named, number_in, count_in, name_of, command_in, dvr_named, is_passed_over, some_said, Parsed, Scripted, plain, with_said, writes_of, whole_lines, without_last, is_stream, Client, NoTarget, Bytes, ScriptFault, Said, Asks, Writes, Target, Line, Feed, Tick, in_line, whole_in, N}
-use Rattle.client_script.specs.Words.{word_in}
-use Rattle.client_script.specs.Grammar.{write_in, asked_in, line_in, line_of, meaning}
-use Rattle.client_script.specs.Script.{lines_from, grammar}
+use Rattle.client_script.proofs.Imports.{◌≡◌, ◌≤◌, ◌+◌, refl, ap, subst, ℕ, zero, suc, Bool, true, false, List, [], ◌∷◌, ◌++◌, length, map, codes, arith, slice_split-cons_yes, slice_split-cons_no, sum_by-cons, ◌==◌, Option, Some, None, Ok, slice_index_or, slice_set, sum, slice_split, onto_first, is_word, and_then, mapped, or_fault, next_as, words_of, written_named, name_of, command_in, dvr_named, Scripted, plain, with_said, writes_of, whole_lines, without_last, NoTarget, Bytes, Said, Asks, Writes, Target, Line, write_in, asked_in, line_in, meaning, grammar, word_in}
 use Rattle.client_script.specs.declared.wanted.WantedWord.TheVariants as wanted
-use Rattle.client_script.proofs.Numbering.{Gives, if_gives, under_a_name, whole_gives}
+use Rattle.client_script.proofs.Numbering.{Gives, if_gives, under_a_name, line_gives, Means, line_means, holds_at_end}
 use Rattle.client_script.proofs.Writing.{named_short}
 
 -- ------ the pieces of a list
@@ -67,41 +64,11 @@ module _ (most : ℕ) where
       if_gives (IsShort most) (is_word word (codes "write")) (write_in line client words) (mapped Asks (command_in line client (name_of word) words)) (write_short line client words (omega (arith, few)))
       (under_a_name {A = Line} (IsShort most) Asks (command_in line client (name_of word) words) (λ x. tt))
 
-  client_short : (line : ℕ) (o : Option ℕ) (words : List (List ℕ)) → lens words ≤ most → Gives (IsShort most) (and_then (or_fault Client wanted.First o words) (λ client words. asked_in line client words))
-  client_short line None words few = tt
-  client_short line (Some client) words few = asked_short line client words few
+line_short : (most line : ℕ) (words : List (List ℕ)) → lens words ≤ most → Gives (IsShort most) (line_in line words)
+line_short most line words few = line_gives (IsShort most) (λ n. tt) (λ n. tt) line words (λ first more client is. asked_short most line client more (omega (arith, few, ap lens is)))
 
-  line_short : (line : ℕ) (words : List (List ℕ)) → lens words ≤ most → Gives (IsShort most) (line_in line words)
-  unfolding line_in word_in
-  line_short line [] few = tt
-  line_short line (word ∷ words) few =
-      if_gives (IsShort most) (is_word word (codes "feed")) (mapped (λ n. Asks (Feed n)) (number_in N 1 4294967295 words))
-      (if is_word word (codes "tick") then mapped (λ n. Asks (Tick n)) (count_in N words) else and_then (or_fault Client wanted.First (client_named word) words) (λ client words. asked_in line client words))
-      (under_a_name {A = ℕ} (IsShort most) (λ n. Asks (Feed n)) (number_in N 1 4294967295 words) (λ n. tt))
-      (if_gives (IsShort most) (is_word word (codes "tick")) (mapped (λ n. Asks (Tick n)) (count_in N words)) (and_then (or_fault Client wanted.First (client_named word) words) (λ client words. asked_in line client words))
-      (under_a_name {A = ℕ} (IsShort most) (λ n. Asks (Tick n)) (count_in N words) (λ n. tt))
-      (client_short line (client_named word) words (omega (arith, few))))
-
-  -- what a line means
-  abbrev IsShortMeaning : Result (Option Said) ScriptFault → Type 0
-  IsShortMeaning (Ok (Some said)) = IsShort most said
-  IsShortMeaning _ = Unit {0}
-
-  said_short : (line count : ℕ) (r : Reading Said) → Gives (IsShort most) r → IsShortMeaning (some_said (in_line line count r))
-  said_short line count (Ok r) is = is
-  said_short line count (Err fault) is = tt
-
-meaning_short : (line : ℕ) (bytes : List ℕ) → IsShortMeaning (length bytes) (meaning line bytes)
-unfolding meaning line_of
-meaning_short line bytes = go (is_passed_over bytes) where
-  all : List (List ℕ)
-  all = words_of bytes
-
-  go : (b : Bool) → IsShortMeaning (length bytes) (if b then Ok None else some_said (in_line line (length all) (whole_in line all)))
-  go true = tt
-  go false =
-      said_short (length bytes) line (length all) (whole_in line all)
-      (whole_gives (IsShort (length bytes)) line all (line_short (length bytes) line all (pieces_long (λ byte. byte == 32) bytes)))
+meaning_short : (line : ℕ) (bytes : List ℕ) → Means (IsShort (length bytes)) (meaning line bytes)
+meaning_short line bytes = line_means (IsShort (length bytes)) line bytes (line_short (length bytes) line (words_of bytes) (pieces_long (λ byte. byte == 32) bytes))
 
 -- ------ how many bytes are written
 
@@ -134,37 +101,21 @@ set_more (w ∷ writes) (suc client) more n le =
       set_more writes client more n le,
     )
 
-said_more : (most : ℕ) (said : Option Said) (s : Scripted) → IsShortMeaning most (Ok said) → written_in (with_said said s) ≤ written_in s + most
+said_more : (most : ℕ) (said : Option Said) (s : Scripted) → Means (IsShort most) (Ok said) → written_in (with_said said s) ≤ written_in s + most
 said_more most None s is = omega arith
 said_more most (Some (Asks line)) s is = omega arith
 said_more most (Some (Writes line client bytes)) s is =
     omega (arith, is, set_more s.writes client (writes_of client s.writes ++ bytes ∷ []) (length bytes) (omega (arith, one_more (writes_of client s.writes) bytes)))
 
--- ------ whole scripts
-
-on_line : (missing : ScriptFault) (line : ℕ) (s t : Scripted) (more : List (List ℕ)) (most : ℕ) (m : Result (Option Said) ScriptFault) → IsShortMeaning most m
-    → ((u : Scripted) → lines_from missing (line + 1) u more ≡ Ok t → written_in t ≤ written_in u + lens more)
-    → ◌≡◌ {A = Parsed} (elim m [ Err fault ↦ Err fault | Ok said ↦ lines_from missing (line + 1) (with_said said s) more ]) (Ok t) → written_in t ≤ written_in s + (most + lens more)
-on_line missing line s t more most (Err fault) is later e = absurd (cc)
-on_line missing line s t more most (Ok said) is later e = omega (arith, said_more most said s is, later (with_said said s) e)
-
-by_line : (missing : ScriptFault) (line : ℕ) (s t : Scripted) (more : List (List ℕ)) (most : ℕ) (m : Result (Option Said) ScriptFault) (b : Bool) → IsShortMeaning most m
-    → ((u : Scripted) → lines_from missing (line + 1) u more ≡ Ok t → written_in t ≤ written_in u + lens more)
-    → ◌≡◌ {A = Parsed} (if b then Ok s else (elim m [ Err fault ↦ Err fault | Ok said ↦ lines_from missing (line + 1) (with_said said s) more ])) (Ok t)
-    → written_in t ≤ written_in s + (most + lens more)
-by_line missing line s t more most m true is later e =
-    let same : s ≡ t = cc in
-    subst (λ (u : Scripted). written_in u ≤ written_in s + (most + lens more)) same (omega arith)
-by_line missing line s t more most m false is later e = on_line missing line s t more most m is later e
-
-written_from : (missing : ScriptFault) (line : ℕ) (s t : Scripted) (lines : List (List ℕ)) → lines_from missing line s lines ≡ Ok t → written_in t ≤ written_in s + lens lines
-unfolding lines_from
-written_from missing line s t [] e = absurd (cc)
-written_from missing line s t (bytes ∷ more) e =
-    by_line missing line s t more (length bytes) (meaning line bytes) (is_stream bytes) (meaning_short line bytes) (λ u rest. written_from missing (line + 1) u t more rest) e
+-- with the lines to come no more bytes are written than this
+abbrev HasFew : ℕ → Scripted → List (List ℕ) → Type 0
+HasFew most s lines = written_in s + lens lines ≤ most
 
 pub are_spelled : (bytes : List ℕ) (s : Scripted) → grammar bytes ≡ Ok s → written_in s ≤ length bytes
 unfolding grammar
-are_spelled bytes s e =
-    let none : written_in (plain []) ≡ 0 = refl in
-    omega (arith, none, written_from _ 1 (plain []) s (whole_lines bytes) e, lines_long bytes)
+are_spelled bytes s e = omega (arith, (holds_at_end (HasFew (length bytes)) _ each 1 (plain []) s (whole_lines bytes) start e).1) where
+  start : HasFew (length bytes) (plain []) (whole_lines bytes)
+  start = let none : written_in (plain []) ≡ 0 = refl in omega (arith, none, lines_long bytes)
+
+  each : (line : ℕ) (first : List ℕ) (more : List (List ℕ)) (said : Option Said) (u : Scripted) → meaning line first ≡ Ok said → HasFew (length bytes) u (first ∷ more) → HasFew (length bytes) (with_said said u) more
+  each line first more said u means few = omega (arith, few, said_more (length first) said u (subst (Means (IsShort (length first))) means (meaning_short line first)))

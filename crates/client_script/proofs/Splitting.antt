@@ -1,7 +1,6 @@
 -- How an input falls into its parts, by its first bytes.
-use Rattle.client_script.proofs.Imports.{◌≡◌, ◌≤◌, ◌+◌, ◌-◌, refl, sym, ap, ◌∙◌, ℕ, Bool, true, false, List, [], ◌∷◌, ◌++◌, length, take, drop, append_assoc, append-nil, arith, inl, inr, take-append-le, drop-append-le, take_all, take-append_seam, take-append-add, Option, Some, None, if◌then◌else◌, option_map, whole_lines, is_stream, script_len, most_bytes}
+use Rattle.client_script.proofs.Imports.{◌≡◌, ◌≤◌, ◌+◌, ◌-◌, refl, sym, ap, ◌∙◌, ℕ, Bool, true, false, List, [], ◌∷◌, ◌++◌, length, take, drop, append_assoc, append-nil, arith, inl, inr, take-append-le, drop-append-le, take_all, take-append_seam, take-append-add, Option, Some, None, if◌then◌else◌, option_map, whole_lines, is_stream, script_len, most_bytes, split}
 use Rattle.std.specs.Prelude.{◌⊎◌}
-use Rattle.client_script.specs.Script.{split}
 use Rattle.client_script.proofs.Parting.{First, first, front_of}
 
 -- ------ the script ends in the same place, whatever follows

@@ -1,5 +1,5 @@
 -- How many lines and writes a script has with what one line more says.
-use Rattle.client_script.proofs.Imports.{◌≡◌, ◌≢◌, ◌<◌, ◌≤◌, ◌+◌, ◌⊎◌, inl, inr, refl, sym, subst, ap, ◌∙◌, ℕ, List, [], ◌∷◌, ◌++◌, length, arith, length-append, Option, Some, None, slice_index_or, slice_set, replicate, All, cases_eq, cases_lt, All-nil, All-push, All-weaker, length-set, get_or-set_same, get_or-set_other, get_or_past, get_or-replicate, IsInRange, IsPlain, IsWritten, Scripted, plain, no_writes, most_bytes, writes_of, with_said, with_write, IsScript, AreWritten, HasWrite, IsOnDvr, Dvr, Line, Feed, Tick, Command, Once, ReadWait, Drain, GetStc, Write, Said, Asks, Writes}
+use Rattle.client_script.proofs.Imports.{◌≡◌, ◌≢◌, ◌<◌, ◌≤◌, ◌+◌, ◌⊎◌, inl, inr, refl, sym, subst, ap, ◌∙◌, ℕ, List, [], ◌∷◌, ◌++◌, length, arith, length-append, Option, Some, None, slice_index_or, slice_set, replicate, All, cases_eq, cases_lt, All-nil, All-push, All-weaker, length-set, get_or-set_same, get_or-set_other, get_or_past, get_or-replicate, IsInRange, IsPlain, IsWritten, Scripted, plain, no_writes, most_bytes, writes_of, with_said, with_write, IsScript, AreWritten, HasWrite, IsOnDvr, Dvr, Line, Command, Write, Said, Asks, Writes}
 use Rattle.client_script.proofs.Numbering.{numbered_line, numbered_none, numbered_write}
 
 -- so many writes of each client are fewer than this number
@@ -22,9 +22,6 @@ set_all P xs i x all here k d lt = go (cases_eq k i) where
   go : (k ≡ i) ⊎ (k ≢ i) → P (slice_index_or (slice_set xs i x) k d)
   go (inl same) = let long : i < length xs = omega (arith, lt, length-set xs i x, same) in subst (λ j. P (slice_index_or (slice_set xs i x) j d)) (sym same) (subst P (sym (get_or-set_same xs i x d long)) (here long))
   go (inr other) = subst P (sym (get_or-set_other xs i k x d other)) (all k d (omega (arith, lt, length-set xs i x)))
-
-pub writes_below : (number most : ℕ) (writes : List (List (List ℕ))) → number ≤ most → Below number writes → All (λ writes. length writes < most) writes
-writes_below number most writes le all k d lt = let h = all k d lt in omega (arith, h, le)
 
 pub writes_more : (said : Option Said) (s : Scripted) (number : ℕ) → Below number s.writes → Below (number + 1) (with_said said s).writes
 writes_more None s number all = λ k d lt. let h = all k d lt in omega (arith, h)
@@ -59,22 +56,12 @@ script_none = record {
 
 -- another line than `write`
 plain_on_dvr : (line : Line) → IsPlain line → IsOnDvr line
-plain_on_dvr (Feed n) is = tt
-plain_on_dvr (Tick n) is = tt
-plain_on_dvr (Command line who target (Once want)) is = tt
-plain_on_dvr (Command line who target (ReadWait n)) is = tt
-plain_on_dvr (Command line who target (Drain n)) is = tt
-plain_on_dvr (Command line who target (GetStc num)) is = tt
 plain_on_dvr (Command line who target (Write write)) is = absurd is
+plain_on_dvr _ is = tt
 
 plain_has : (writes : List (List (List ℕ))) (line : Line) → IsPlain line → HasWrite writes line
-plain_has writes (Feed n) is = tt
-plain_has writes (Tick n) is = tt
-plain_has writes (Command line who target (Once want)) is = tt
-plain_has writes (Command line who target (ReadWait n)) is = tt
-plain_has writes (Command line who target (Drain n)) is = tt
-plain_has writes (Command line who target (GetStc num)) is = tt
 plain_has writes (Command line who target (Write write)) is = absurd is
+plain_has writes _ is = tt
 
 -- such a line more
 pub script_line : (s : Scripted) (line : Line) → IsScript s → length s.lines < most_bytes → IsInRange line → IsPlain line → IsScript (record s { lines = s.lines ++ line ∷ [] })
@@ -90,12 +77,6 @@ script_line s line is few range only = record {
 
 -- what a line names is there also with a write more
 still_has : (writes : List (List (List ℕ))) (client : ℕ) (bytes : List ℕ) (line : Line) → HasWrite writes line → HasWrite (slice_set writes client (writes_of client writes ++ bytes ∷ [])) line
-still_has writes client bytes (Feed n) has = tt
-still_has writes client bytes (Tick n) has = tt
-still_has writes client bytes (Command line who target (Once want)) has = tt
-still_has writes client bytes (Command line who target (ReadWait n)) has = tt
-still_has writes client bytes (Command line who target (Drain n)) has = tt
-still_has writes client bytes (Command line who target (GetStc num)) has = tt
 still_has writes client bytes (Command line who target (Write write)) has = go (cases_eq who client) where
   more : List (List ℕ)
   more = writes_of client writes ++ bytes ∷ []
@@ -109,6 +90,7 @@ still_has writes client bytes (Command line who target (Write write)) has = go (
         (let long = length-append (writes_of client writes) (bytes ∷ []) in let mine : write < length (writes_of client writes) = subst (λ c. write < length (writes_of c writes)) same has in omega (arith, long, mine))
     own (inr past) = absurd (let none : writes_of client writes ≡ [] = get_or_past writes client [] past in let n = ap length none in
         let mine : write < length (writes_of client writes) = subst (λ c. write < length (writes_of c writes)) same has in omega (arith, n, mine))
+still_has writes client bytes _ has = tt
 
 -- a write more
 pub script_write : (s : Scripted) (line client : ℕ) (bytes : List ℕ) → IsScript s → length s.lines < most_bytes → length (writes_of client s.writes) < most_bytes

@@ -1,7 +1,6 @@
 -- The bytes that a word spells are those of a write.
-use Rattle.client_script.proofs.Imports.{◌≡◌, ◌<◌, ◌≤◌, ◌+◌, ◌*◌, refl, ap, ◌∙◌, ℕ, zero, suc, Bool, false, List, [], ◌∷◌, length, arith, nat_tests, All-nil, All-cons, ◌==◌, Option, Some, None, IsSome, if◌then◌else◌, All, option_map, option_and_then, IsWritten}
+use Rattle.client_script.proofs.Imports.{◌≡◌, ◌<◌, ◌≤◌, ◌+◌, ◌*◌, refl, ap, ◌∙◌, ℕ, zero, suc, Bool, false, List, [], ◌∷◌, length, arith, nat_tests, All-nil, All-cons, ◌==◌, Option, Some, None, IsSome, if◌then◌else◌, All, option_map, option_and_then, IsWritten, written_named}
 use Rattle.text_forms.specs.Hex.{hex_digit, hex_byte, hex_bytes}
-use Rattle.client_script.specs.Writes.{written_named}
 
 digit_small : (byte digit : ℕ) → hex_digit byte ≡ Some digit → digit < 16
 unfolding hex_digit

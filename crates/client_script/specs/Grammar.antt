@@ -190,11 +190,7 @@ IsWantInRange (Add pid) = pid ≤ 65535
 IsWantInRange (Remove pid) = pid ≤ 65535
 IsWantInRange (Size n) = n ≤ 4294967295
 IsWantInRange (Read n) = n ≤ LARGEST_READ
-IsWantInRange Open = Unit {0}
-IsWantInRange Close = Unit {0}
-IsWantInRange Start = Unit {0}
-IsWantInRange Stop = Unit {0}
-IsWantInRange Poll = Unit {0}
+IsWantInRange _ = Unit {0}
 
 -- the ranges of a verb's numbers
 abbrev pub IsVerbInRange : Verb → Type 0

@@ -62,17 +62,13 @@ pes_text p =
 
 -- what one call wants behind the target
 unfoldable pub want_arguments_text : Want → List ℕ
-want_arguments_text Open = []
-want_arguments_text Close = []
 want_arguments_text (Section p) = section_text p
 want_arguments_text (Pes p) = pes_text p
 want_arguments_text (Add pid) = number_text pid
 want_arguments_text (Remove pid) = number_text pid
-want_arguments_text Start = []
-want_arguments_text Stop = []
 want_arguments_text (Size n) = number_text n
 want_arguments_text (Read n) = number_text n
-want_arguments_text Poll = []
+want_arguments_text _ = []
 
 -- ` REQ ARG`: the number of a request and its argument, in hexadecimal digits
 unfoldable pub request_text : Request → List ℕ

@@ -1,8 +1,6 @@
 -- Histories that packets fill: how they grow, what a legal one allows in the midst of it, and that the same packets fill the same.
-use Rattle.dmx_calls.proofs.Imports.{◌≡◌, ◌∙◌, ℕ, List, [], ◌∷◌, ◌++◌, drop, map, take, reverse, refl, sym, ap, append_assoc, reverse-append, Input, Act, Entry, History, Pass, Rules, IsLegalFor, May, LogEntry, filled_act}
-use Rattle.std.proofs.lemmas.List.{map-append}
-use Rattle.dmx_calls.specs.Log.{Sources, filled, filled_entry}
-use Rattle.dmx_calls.specs.declared.log.Act.TheVariants.{Pass as PassAct}
+use Rattle.dmx_calls.proofs.Imports.{◌≡◌, ◌∙◌, ℕ, List, [], ◌∷◌, ◌++◌, drop, map, take, reverse, refl, sym, ap, append_assoc, reverse-append, Input, Act, Entry, History, Pass, Rules, IsLegalFor, May, LogEntry, filled_act, map-append, Sources, filled, filled_entry}
+use Rattle.dmx_calls.specs.declared.call.Call.TheVariants.{Pass as PassAct}
 
 -- ------ one behind another
 
@@ -24,7 +22,7 @@ may_at node packets xs e ys legal =
 -- ------ the same packets fill the same history
 
 same_act : (f g : Input → List (List ℕ)) → ((input : Input) → f input ≡ g input) → (a : Act) → filled_act f a ≡ filled_act g a
-same_act f g same (PassAct input first count now) = ap (λ (ps : List (List ℕ)). Pass input first (take count (drop first ps)) now) (same input)
+same_act f g same (PassAct input batch now) = ap (λ (ps : List (List ℕ)). Pass input batch.first (take batch.count (drop batch.first ps)) now) (same input)
 same_act f g same _ = refl
 
 same_entries : (f g : Sources) → ((who : ℕ) (input : Input) → f who input ≡ g who input) → (es : List LogEntry) → map (filled_entry f) es ≡ map (filled_entry g) es

@@ -1,7 +1,5 @@
 -- What a history says, one entry later: tenure, what was set, the capture.
-use Rattle.dmx_calls.proofs.Imports.{ℕ, ◌≡◌, refl, sym, ◌∙◌, ap, true, false, not, ◌||◌, List, [], ◌∷◌, Option, Some, None, nat_eq, unwrap_or, option_or, eqb-true, not-false, or_from, DEMUX_SIZE, Invocation, Open, Close, SetFilter, SetPes, AddPid, RemovePid, Start, Stop, SetSize, Read, Poll, Pass, End, Attach, Detach, is_accepted, Entry, Event, History, event, Since, also, after_of, newest, opens, closes, size_in, params_in, params_of, sets, first_pids, pids_with, pids_after, is_end, resizes, begins}
-use Rattle.dmx_calls.specs.Tenure.{tenure, owner, size_or, size, setting, params, pids, has_ended}
-use Rattle.dmx_calls.specs.Capture.{capture}
+use Rattle.dmx_calls.proofs.Imports.{ℕ, ◌≡◌, refl, sym, ◌∙◌, ap, true, false, not, ◌||◌, List, [], ◌∷◌, Option, Some, None, nat_eq, unwrap_or, option_or, eqb-true, not-false, or_from, DEMUX_SIZE, Invocation, Open, Close, SetFilter, SetPes, AddPid, RemovePid, Start, Stop, SetSize, Read, Poll, Pass, End, Attach, Detach, is_accepted, Entry, Event, History, event, Since, also, after_of, newest, opens, closes, size_in, params_in, params_of, sets, first_pids, pids_with, pids_after, is_end, resizes, begins, tenure, owner, size_or, size, setting, params, pids, has_ended, capture}
 
 -- with one event more
 abbrev pub more : Event → Since → Since

@@ -1,11 +1,8 @@
 -- A capture of a demux node's filter, one entry later: what is live, the expiry, the items.
-use Rattle.dmx_calls.proofs.Imports.{ℕ, ◌+◌, ◌≡◌, refl, sym, ◌∙◌, ap, Bool, true, false, ◌||◌, List, [], ◌∷◌, ◌++◌, Option, Some, None, length, take, arith, if◌then◌else◌, nat_eq, nat_le, filter, option_map, option_or, list_any, append-nil, filter-append, or_parts, nat_tests, stay, Input, Frontend, SectionParams, Entry, Event, History, is_empty, event, Since, also, Params, Empty, Section, Pes, tenure, params, pids, capture, stops, unstopped, packets_in, packets_of, selects, is_oneshot, picked, selected, timeout_of, clock_of, Expiry, expiry_at, offered_of, tells_timeout}
+use Rattle.dmx_calls.proofs.Imports.{ℕ, ◌+◌, ◌≡◌, refl, sym, ◌∙◌, ap, Bool, true, false, ◌||◌, List, [], ◌∷◌, ◌++◌, Option, Some, None, length, take, arith, if◌then◌else◌, nat_eq, nat_le, filter, option_map, option_or, list_any, append-nil, filter-append, or_parts, nat_tests, stay, Input, Frontend, SectionParams, Entry, Event, History, is_empty, event, Since, also, Params, Empty, Section, Pes, tenure, params, pids, capture, stops, unstopped, packets_in, packets_of, selects, is_oneshot, picked, selected, timeout_of, clock_of, Expiry, expiry_at, offered_of, tells_timeout, live, started, is_stopped, section_items, expiry, offered, items, is_told, expired}
 use Rattle.ts_packet.specs.Clean.{clean, without_repeats_after}
 use Rattle.section_parse.specs.Segments.{runs}
 use Rattle.section_parse.specs.Sections.{sections}
-use Rattle.dmx_calls.specs.Capture.{live, started, is_stopped}
-use Rattle.dmx_calls.specs.Items.{section_items, expiry, offered, items}
-use Rattle.dmx_calls.specs.Rules.{is_told, expired}
 use Rattle.dmx_calls.proofs.Going.{more, Stays, params_stays, capture_stays}
 
 -- ------ the expiry with one event more

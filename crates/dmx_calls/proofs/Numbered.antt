@@ -1,6 +1,5 @@
 -- The rules of a node, by its number.
-use Rattle.dmx_calls.proofs.Imports.{◌≡◌, ℕ, ◌<◌, ap, refl, if◌then◌else◌, lt-ltb, DEMUX_NODES, demux, dvr}
-use Rattle.dmx_calls.specs.Rules.{rules_at}
+use Rattle.dmx_calls.proofs.Imports.{◌≡◌, ℕ, ◌<◌, ap, refl, if◌then◌else◌, lt-ltb, DEMUX_NODES, demux, dvr, rules_at}
 
 pub demux_rules : (node : ℕ) → node < DEMUX_NODES → rules_at node ≡ demux
 unfolding rules_at

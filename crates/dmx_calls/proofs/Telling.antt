@@ -1,6 +1,5 @@
 -- What the feeder's calls are answered, and what a report keeps of a call.
-use Rattle.dmx_calls.proofs.Imports.{◌≡◌, ℕ, List, ap, sym, refl, ⊎_elim, Input, Invocation, Open, Close, SetFilter, SetPes, AddPid, RemovePid, Start, Stop, SetSize, Read, Poll, Pass, End, Attach, Detach, Response, Passed, History, Rules, May, IsFrom, filled_act, act_of, PassesGoBy}
-use Rattle.dmx_calls.specs.Answer.{answer}
+use Rattle.dmx_calls.proofs.Imports.{◌≡◌, ℕ, List, ap, sym, refl, ⊎_elim, Input, Invocation, Open, Close, SetFilter, SetPes, AddPid, RemovePid, Start, Stop, SetSize, Read, Poll, Pass, End, Attach, Detach, Response, Passed, History, Rules, May, IsFrom, filled_act, act_of, PassesGoBy, answer}
 
 passes : (node : Rules) (h : History) (who : ℕ) (input : Input) (first : ℕ) (packets : List (List ℕ)) (now : ℕ) (r : Response) → May node h who (Pass input first packets now) r → r ≡ Passed
 unfolding answer

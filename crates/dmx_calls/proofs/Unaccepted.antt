@@ -1,13 +1,6 @@
 -- An entry that isn't accepted changes nothing: what was set, the capture, its items and its ledger are read from the accepted
 -- entries.
-use Rattle.dmx_calls.proofs.Imports.{◌≡◌, refl, false, ◌∷◌, Option, Some, None, is_accepted, Entry, History, Since, demux, dvr, ledger_of, UnacceptedChangesNothing}
-use Rattle.dmx_calls.specs.Tenure.{tenure, owner, size_or, size, dvr_size, setting, params, pids, has_ended}
-use Rattle.dmx_calls.specs.Capture.{capture, dvr_capture, started, is_stopped, live}
-use Rattle.dmx_calls.specs.Items.{expiry, offered, items}
-use Rattle.dmx_calls.specs.Taps.{tap_of, dvr_items}
-use Rattle.dmx_calls.specs.Rules.{is_told, expired}
-use Rattle.dmx_calls.specs.Ledger.{joined, total, answered, over, edge}
-use Rattle.dmx_calls.specs.Facts.{facts}
+use Rattle.dmx_calls.proofs.Imports.{◌≡◌, refl, false, ◌∷◌, Option, Some, None, is_accepted, Entry, History, Since, demux, dvr, ledger_of, UnacceptedChangesNothing, tenure, owner, size_or, size, dvr_size, setting, params, pids, has_ended, capture, dvr_capture, started, is_stopped, live, facts, joined, total, answered, over, edge, expiry, offered, items, is_told, expired, tap_of, dvr_items}
 
 -- the ledger, where there is a capture
 demux_ledger : (e : Entry) (h : History) → is_accepted e.response ≡ false → (o : Option Since) → ledger_of demux (e ∷ h) o ≡ ledger_of demux h o

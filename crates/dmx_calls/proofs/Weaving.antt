@@ -152,14 +152,3 @@ woven_nodes-at node acts (d ∷ calls) zero c at =
     let same : d ≡ c = cc at in let e : node ≡ node + 0 = omega arith in ap (λ d. Some (woven node acts d)) same ∙ ap (λ n. Some (woven n acts c)) e
 woven_nodes-at node acts (d ∷ calls) (suc i) c at =
     woven_nodes-at (suc node) acts calls i c at ∙ (let e : suc node + i ≡ node + suc i = omega arith in ap (λ n. Some (woven n acts c)) e)
-
--- histories that are woven node by node
-pub woven_nodes-is : (node : ℕ) (acts : List Act) (calls histories : List (List LogEntry)) → length histories ≡ length calls
-    → ((i : ℕ) (c h : List LogEntry) → slice_get calls i ≡ Some c → slice_get histories i ≡ Some h → h ≡ woven (node + i) acts c) → histories ≡ woven_nodes node acts calls
-woven_nodes-is node acts [] [] long each = refl
-woven_nodes-is node acts [] (h ∷ histories) long each = absurd (omega (arith, long))
-woven_nodes-is node acts (c ∷ calls) [] long each = absurd (omega (arith, long))
-woven_nodes-is node acts (c ∷ calls) (h ∷ histories) long each =
-    ap (λ l. l ∷ histories) (each 0 c h refl refl ∙ (let e : node + 0 ≡ node = omega arith in ap (λ n. woven n acts c) e))
-    ∙ ap (λ l. woven node acts c ∷ l) (woven_nodes-is (suc node) acts calls histories (omega (arith, long))
-    (λ i d g at is. each (suc i) d g at is ∙ (let e : node + suc i ≡ suc node + i = omega arith in ap (λ n. woven n acts d) e)))

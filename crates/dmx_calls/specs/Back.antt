@@ -1,7 +1,7 @@
 -- What an answer hands back of its call.
 use Rattle.std.specs.Prelude.{◌≡◌, Option, Some, None, option_map}
 use Rattle.ts_batch.specs.Batch.{Packets}
-use Rattle.dmx_calls.specs.declared.call.Call.{Call}
+use Rattle.dmx_calls.specs.Calls.{Call}
 use Rattle.dmx_calls.specs.declared.call.Call.TheVariants.{Pass}
 use Rattle.dmx_calls.specs.declared.reply.Answer.{Answer}
 

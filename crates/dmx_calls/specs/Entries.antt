@@ -1,10 +1,9 @@
 -- The entries that calls of a node make.
 use Rattle.std.specs.Prelude.{ℕ}
-use Rattle.dmx_calls.specs.declared.call.Call.{Call}
 use Rattle.dmx_calls.specs.declared.reply.Answer.{Answer}
 use Rattle.dmx_calls.specs.Invocation.{packets_of_call}
 use Rattle.dmx_calls.specs.History.{Entry, entry_of}
-use Rattle.dmx_calls.specs.Calls.{invocation_of, response_of}
+use Rattle.dmx_calls.specs.Calls.{Call, invocation_of, response_of}
 
 -- the entry that a caller's number, a call and its answer make
 abbrev pub told : (who : ℕ) → Call → Answer → Entry

@@ -5,15 +5,15 @@ use Rattle.dmx_calls.specs.declared.histories.Fed.{Fed}
 use Rattle.dmx_calls.specs.declared.log.Entry.{Entry as ToldEntry}
 use Rattle.dmx_calls.specs.declared.params.Input.TheVariants.{Frontend}
 use Rattle.dmx_calls.specs.Calls.{told_entry}
-use Rattle.dmx_calls.specs.declared.log.Act.TheVariants.{Pass as PassAct, End as EndAct}
-use Rattle.dmx_calls.specs.Log.{Act, LogEntry}
+use Rattle.dmx_calls.specs.declared.call.Call.TheVariants.{End as EndAct}
+use Rattle.dmx_calls.specs.Log.{Act, LogEntry, passing}
 use Rattle.dmx_calls.specs.Response.{Passed}
 
 -- ------ the feeder
 
 -- a batch passes
 abbrev pub pass_act : Fed → Act
-pass_act fed = PassAct Frontend fed.first fed.count fed.now
+pass_act fed = passing Frontend fed.first fed.count fed.now
 
 -- what the feeder does on each node: each batch passes, and then the stream has ended
 abbrev pub feeder_acts : List Fed → List Act

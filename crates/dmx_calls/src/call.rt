@@ -6,9 +6,10 @@ use pid_set::Pids;
 use std::sync::Arc;
 use ts_batch::Batch;
 
-/// A call on a node. `now` is the moment at which it is made, in milliseconds.
-#[derive(Drop)]
-pub enum Call {
+/// A call on a node. `now` is the moment at which it is made, in milliseconds. A report tells it as an `Act`, and a log keeps
+/// that as a `KeptAct`: these have less in place of what is large.
+#[derive(Clone, Debug, PartialEq, Eq, Drop)]
+pub enum Call<Room = ByteBuf, Passed = Arc<Batch>, Section = SectionParams, Tapped = Pids> {
     /// Takes the node.
     Open,
     /// Gives the node back.
@@ -16,7 +17,7 @@ pub enum Call {
     /// Sets a section filter.
     SetFilter {
         /// The filter.
-        params: SectionParams,
+        params: Section,
         now: u64,
     },
     /// Sets a PES filter.
@@ -40,8 +41,8 @@ pub enum Call {
     /// Reads into a buffer, at most as many bytes as its count.
     Read {
         now: u64,
-        /// An empty buffer.
-        buf: ByteBuf,
+        /// An empty buffer; of an `Act` its count, in bytes.
+        room: Room,
     },
     /// Asks whether a read would give something, and what is pending.
     Poll {
@@ -51,8 +52,8 @@ pub enum Call {
     Pass {
         /// Where the packets come from.
         input: Input,
-        /// The packets.
-        batch: Arc<Batch>,
+        /// The batch; of an `Act` where its packets stand.
+        batch: Passed,
         now: u64,
     },
     /// The stream has ended.
@@ -62,7 +63,7 @@ pub enum Call {
         /// The demux node, 0 to 31.
         node: u32,
         /// The PIDs of the packets that it records; 0x2000 among them names every packet.
-        pids: Pids,
+        pids: Tapped,
     },
     /// Detaches a demux node's tap from the dvr node, where the same client attached it.
     Detach {

@@ -50,19 +50,9 @@ impl KeptAct {
             Act::Start { now } => Act::Start { now },
             Act::Stop => Act::Stop,
             Act::SetSize(size) => Act::SetSize(size),
-            Act::Read { now, count } => Act::Read { now, count },
+            Act::Read { now, room } => Act::Read { now, room },
             Act::Poll { now } => Act::Poll { now },
-            Act::Pass {
-                input,
-                first,
-                count,
-                now,
-            } => Act::Pass {
-                input,
-                first,
-                count,
-                now,
-            },
+            Act::Pass { input, batch, now } => Act::Pass { input, batch, now },
             Act::End => Act::End,
             Act::Attach { node, pids } => Act::Attach {
                 node,
@@ -92,20 +82,14 @@ impl KeptAct {
             Act::Start { now } => Act::Start { now: *now },
             Act::Stop => Act::Stop,
             Act::SetSize(size) => Act::SetSize(*size),
-            Act::Read { now, count } => Act::Read {
+            Act::Read { now, room } => Act::Read {
                 now: *now,
-                count: *count,
+                room: *room,
             },
             Act::Poll { now } => Act::Poll { now: *now },
-            Act::Pass {
-                input,
-                first,
-                count,
-                now,
-            } => Act::Pass {
+            Act::Pass { input, batch, now } => Act::Pass {
                 input: *input,
-                first: *first,
-                count: *count,
+                batch: *batch,
                 now: *now,
             },
             Act::End => Act::End,

@@ -13,7 +13,7 @@
 //! keeps its call (`KeptAct`) and the same response (`SharedReply`), whatever that is shared with; that `refusal` is the refusal
 //! that the answer of a history names. `node_laws` has laws of the definitions, `node_examples` worked examples.
 //!
-//! Limits: only `ByteBuf::new`, `ByteBuf::fitted`, `KeptAct::of`, `SharedReply::of` and `SharedReply::unshared` take memory.
+//! Limits: only `ByteBuf::new`, `ByteBuf::fitted`, `KeptAct::keep`, `SharedReply::of` and `SharedReply::unshared` take memory.
 //! Sources: the Linux media API, Digital TV demux, for calls, filters, states and errors; ISO/IEC 13818-1 for packets and
 //! sections. What these leave open is this project's rule, as are the numbers of `limits` but the flags other than KEEP, the PIDs
 //! and the PES types.
@@ -36,7 +36,7 @@ pub use byte_buf::ByteBuf;
 pub use call::Call;
 pub use histories::{Fed, Histories};
 pub use kept::{KeptAct, KeptSection, LogReply, LogTap, SharedReply};
-pub use log::{Act, Entry};
+pub use log::{Act, BatchRange, Entry};
 pub use node::{NodeKind, State};
 pub use outcome::{Outcome, OutcomeKind};
 pub use params::{Input, Output, Params, PesParams, SectionParams};

@@ -6,83 +6,28 @@ ghost use Rattle.dmx_calls.specs.Log.{act_of};
 
 use crate::call::Call;
 use crate::kept::{KeptAct, SharedReply};
-use crate::params::{Input, PesParams, SectionParams};
+use crate::params::SectionParams;
 use pid_set::Pids;
 
-/// A call as a report tells it: a Read by its count, and a Pass by the number of its first packet and how many there are.
-/// `now` is the moment at which the call was made, in milliseconds. A log keeps it as a `KeptAct`.
-#[derive(Clone, Debug, PartialEq, Eq, Drop)]
-pub enum Act<S = SectionParams, P = Pids> {
-    /// Takes the node.
-    Open,
-    /// Gives the node back.
-    Close,
-    /// Sets a section filter.
-    SetFilter {
-        /// The filter.
-        params: S,
-        now: u64,
-    },
-    /// Sets a PES filter.
-    SetPes {
-        /// The filter.
-        params: PesParams,
-        now: u64,
-    },
-    /// Adds a PID to a PES filter.
-    AddPid(u16),
-    /// Removes a PID from a PES filter.
-    RemovePid(u16),
-    /// Starts the filter.
-    Start {
-        now: u64,
-    },
-    /// Stops the filter.
-    Stop,
-    /// Sets the size of the buffer, in bytes.
-    SetSize(u32),
-    /// Reads at most `count` bytes.
-    Read {
-        now: u64,
-        /// The count of the buffer, in bytes.
-        count: u32,
-    },
-    /// Asks whether a read would give something, and what is pending.
-    Poll {
-        now: u64,
-    },
-    /// The packets of a batch pass the node.
-    Pass {
-        /// Where the packets come from.
-        input: Input,
-        /// The number of the first packet in the stream, or among all that its client writes, counted from 0.
-        first: u64,
-        /// How many packets there are.
-        count: u32,
-        now: u64,
-    },
-    /// The stream has ended.
-    End,
-    /// Attaches a demux node's tap to the dvr node.
-    Attach {
-        /// The demux node, 0 to 31.
-        node: u32,
-        /// The PIDs of the packets that it records.
-        pids: P,
-    },
-    /// Detaches a demux node's tap from the dvr node.
-    Detach {
-        /// The demux node, 0 to 31.
-        node: u32,
-    },
+/// Where the packets of a batch stand.
+#[derive(Clone, Copy, Debug, PartialEq, Eq, Drop)]
+pub struct BatchRange {
+    /// The number of the first packet in the stream, or among all that its client writes, counted from 0.
+    pub first: u64,
+    /// How many packets there are.
+    pub count: u32,
 }
 
-impl Act {
+/// A call as a report tells it: a Read by its count, in bytes, and a Pass by where its packets stand. A log keeps it as a
+/// `KeptAct`.
+pub type Act<Section = SectionParams, Tapped = Pids> = Call<u32, BatchRange, Section, Tapped>;
+
+impl Call {
     /// The call as a report tells it.
-    pub fn of(call: &Call) -> Act
-        ensures { result ≡ act_of (invocation_of call.now) }
+    pub fn act(&self) -> Act
+        ensures { result ≡ act_of (invocation_of self.now) }
     {
-        match call {
+        match self {
             Call::Open => Act::Open,
             Call::Close => Act::Close,
             Call::SetFilter { params, now } => Act::SetFilter {
@@ -98,15 +43,17 @@ impl Act {
             Call::Start { now } => Act::Start { now: *now },
             Call::Stop => Act::Stop,
             Call::SetSize(size) => Act::SetSize(*size),
-            Call::Read { now, buf } => Act::Read {
+            Call::Read { now, room } => Act::Read {
                 now: *now,
-                count: buf.count(),
+                room: room.count(),
             },
             Call::Poll { now } => Act::Poll { now: *now },
             Call::Pass { input, batch, now } => Act::Pass {
                 input: *input,
-                first: batch.first(),
-                count: batch.count(),
+                batch: BatchRange {
+                    first: batch.first(),
+                    count: batch.count(),
+                },
                 now: *now,
             },
             Call::End => Act::End,

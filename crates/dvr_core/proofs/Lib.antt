@@ -1,12 +1,7 @@
 pub mod Places
-pub mod Recorded
-pub mod ByValues
 pub mod Tapping
 pub mod Going
 pub mod Ledgers
 pub mod Moves
-pub mod Reading
-pub mod Cases
 pub mod Standing
-pub mod Causing
 pub mod Imports

@@ -1,6 +1,5 @@
 -- What is known of the history with one entry more, as the step of what was known before.
-use Rattle.dvr_core.proofs.Imports.{ℕ, ◌≡◌, refl, ◌∙◌, ap, Bool, true, false, ◌||◌, List, [], ◌∷◌, Option, Some, map, nat_eq, range_with_len, option_map_id, eqb-true, Input, Frontend, DEMUX_NODES, Invocation, Open, Close, SetSize, Poll, Pass, End, Attach, Detach, Response, Passed, is_accepted, Entry, History, entry_of, event, accepted, Since, tenure, dvr_size, is_end, has_ended, dvr_capture, packets_in, Tap, tap_after, dvr, answered_in, is_overflow, Facts, ledger_at, dvr_same, Coherent, CoherentIn, Silent, accepted_of, quiet_of, nothing_of, taps_of, Knows, moved}
-use Rattle.dmx_calls.specs.Taps.{tap_of}
+use Rattle.dvr_core.proofs.Imports.{ℕ, ◌≡◌, refl, ◌∙◌, ap, Bool, true, false, ◌||◌, List, [], ◌∷◌, Option, Some, nat_eq, option_map_id, eqb-true, Input, Frontend, Invocation, Open, Close, SetSize, Poll, Pass, End, Attach, Detach, Response, Passed, is_accepted, Entry, History, entry_of, event, accepted, Since, tenure, dvr_size, is_end, has_ended, dvr_capture, packets_in, Tap, tap_after, dvr, answered_in, is_overflow, Facts, ledger_at, dvr_same, Coherent, CoherentIn, Silent, accepted_of, quiet_of, nothing_of, taps_of, Knows, moved, tap_of}
 use Rattle.dmx_calls.specs.Facts.{facts}
 use Rattle.dvr_core.proofs.Tapping.{taps_same, taps_refused, taps_attached, taps_detached}
 use Rattle.dvr_core.proofs.Going.{facts_opened, facts_closed, facts_resized, Stays, facts_goes}
@@ -10,15 +9,20 @@ use Rattle.dvr_core.proofs.Ledgers.{ledger_recorded}
 abbrev pub known : History → Knows
 known h = record { facts = facts dvr h; taps = taps_of h }
 
+-- it stands for this history
+abbrev pub Stands : History → Knows → Type 0
+Stands h k = known h ≡ k
+
 -- By the step of an accepted call a node knows what the history with its entry says.
 abbrev pub Moves : History → (who : ℕ) → Invocation → Response → Type 0
-Moves h who call r = known (entry_of who call r ∷ h) ≡ moved (known h) who call r
+Moves h who call r = Stands (entry_of who call r ∷ h) (moved (known h) who call r)
 
 pub known_by : (h : History) (f : Facts) (taps : List (Option Tap)) → facts dvr h ≡ f → taps_of h ≡ taps → known h ≡ record { facts = f; taps = taps }
 known_by h f taps e1 e2 = rw (e1, e2) refl
 
-pub known_refused : (e : Entry) (h : History) → is_accepted e.response ≡ false → known (e ∷ h) ≡ known h
-known_refused e h nay = known_by (e ∷ h) (facts dvr h) (taps_of h) (dvr_same e h nay).facts (taps_refused e h nay)
+-- an entry that isn't accepted changes nothing
+pub unaccepted : (e : Entry) (h : History) (k : Knows) → is_accepted e.response ≡ false → Stands h k → Stands (e ∷ h) k
+unaccepted e h k nay is = known_by (e ∷ h) (facts dvr h) (taps_of h) (dvr_same e h nay).facts (taps_refused e h nay) ∙ is
 
 -- an accepted call that is neither Attach nor Detach
 pub taps_stay : (e : Entry) (h : History) → is_accepted e.response ≡ true → ((node : ℕ) → tap_after node (event e h ∷ accepted h) ≡ tap_after node (accepted h)) → taps_of (e ∷ h) ≡ taps_of h

@@ -1,8 +1,5 @@
 -- The taps that a history says, one entry later, and the packets that they name.
-use Rattle.dvr_core.proofs.Imports.{ℕ, zero, suc, ◌+◌, ◌<◌, ◌≡◌, refl, sym, ap, Bool, true, false, List, [], ◌∷◌, Some, map, arith, zero-add, if◌then◌else◌, filter, nat_eq, list_any, range_with_len, nat_tests, any_of_map, DEMUX_NODES, Attach, Detach, Response, is_accepted, Entry, History, entry_of, detached_by, tap_names, dvr_same, changed_at, attached, detached, some_names}
-use Rattle.std.specs.Prelude.{◌||◌}
-use Rattle.dmx_calls.specs.Taps.{tap_of, is_tapped}
-use Rattle.dvr_core.specs.Tapped.{taps_of}
+use Rattle.dvr_core.proofs.Imports.{ℕ, zero, suc, ◌+◌, ◌<◌, ◌≡◌, refl, sym, true, false, List, [], ◌∷◌, Some, map, arith, zero-add, if◌then◌else◌, filter, nat_eq, range_with_len, nat_tests, any_of_map, DEMUX_NODES, Attach, Detach, Response, is_accepted, Entry, History, entry_of, detached_by, tap_names, dvr_same, changed_at, attached, detached, some_names, tap_of, is_tapped, taps_of}
 
 -- ------ a function's values at the places of a list, with another value at one place
 

@@ -4,4 +4,3 @@ pub mod CoreView
 pub mod KeptView
 pub mod Gives
 pub mod Step
-pub mod Counts

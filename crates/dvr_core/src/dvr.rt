@@ -138,11 +138,11 @@ impl DvrCore {
 
 /// A history of the machine has its oldest entry first, and one of the node its newest.
 impl Machine for DvrCore {
-    ghost use Rattle.std.specs.Prelude.{refl, reverse};
+    ghost use Rattle.std.proofs.Common.{refl, reverse, ◌∙◌};
+    ghost use Rattle.std.proofs.lemmas.List.{length-reverse};
     ghost use Rattle.dmx_calls.specs.Back.{GivesBack};
     ghost use Rattle.dmx_calls.specs.Entries.{told, caller_of, packets_of};
     ghost use Rattle.dvr_core.specs.Stands.{StandsFor};
-    ghost use Rattle.dvr_core.specs.Inside.Counts.{counted};
 
     type Call = Call;
 
@@ -168,5 +168,5 @@ impl Machine for DvrCore {
 
     ghost names = { λ who call answer. refl };
 
-    ghost counts = { counted };
+    ghost counts = { λ m h is. is.count ∙ length-reverse h };
 }

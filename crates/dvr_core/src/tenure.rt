@@ -78,7 +78,7 @@ impl DvrTenure {
     {
         match call {
             Call::SetSize(size) => plain(self.set_size(alloc, size)),
-            Call::Read { buf, .. } => plain(self.read(ended, buf)),
+            Call::Read { room, .. } => plain(self.read(ended, room)),
             Call::Poll { .. } => plain(self.poll(ended)),
             Call::Open
             | Call::Close

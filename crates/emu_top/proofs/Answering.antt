@@ -234,16 +234,6 @@ serves words c may before after status is o reads writes = record {
   writes_once = writes;
 }
 
--- words that are refused
-pub serves_none : (words : List (List ℕ)) (may : ℕ → Bool) (at : Outside) (status : Status) → meant words ≡ None → (status ≡ Usage) ⊎ (status ≡ NoMemory) → Serves words may at at status
-serves_none words may at status is one = record {
-  usage = λ e. is;
-  refused = λ none. (one, (keeps at.source.left, refl), (keeps at.sink.written, refl));
-  obeys = λ c e. absurd (let x : None ≡ Some c = sym is ∙ e in cc);
-  reads_once = omega arith;
-  writes_once = omega arith;
-}
-
 -- want of memory while the words are read
 says_if : (left : Option (List ℕ)) (P : List ℕ → Type 0) → ((input : List ℕ) → P input) → IfSome left P
 says_if None P each = tt
@@ -261,12 +251,3 @@ unread (Run batch packet) may at = undone (IsThreadOutput batch packet may) at
 unread (Make number) may at = unmade (λ text. text ≡ made number) at
 unread (SelfTest number batch) may at = unmade (IsSums number batch) at
 unread (Check packet) may at = record { says = (tt, (keeps at.sink.written, refl)); settled = λ nr nw. says_if at.source.left _ (λ input. inl refl) }
-
-pub serves_unread : (words : List (List ℕ)) (may : ℕ → Bool) (at : Outside) → Serves words may at at NoMemory
-serves_unread words may at = record {
-  usage = λ e. absurd (cc);
-  refused = λ none. (inr refl, (keeps at.source.left, refl), (keeps at.sink.written, refl));
-  obeys = λ c e. unread c may at;
-  reads_once = omega arith;
-  writes_once = omega arith;
-}

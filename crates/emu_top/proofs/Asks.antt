@@ -1,6 +1,5 @@
 -- What an input asks, by the bytes that were taken of it.
-use Rattle.emu_top.proofs.Imports.{◌≡◌, ◌<◌, ◌≤◌, ◌+◌, ◌⊎◌, refl, sym, ap, subst, ◌∙◌, ℕ, zero, suc, Bool, true, false, List, [], ◌∷◌, ◌++◌, length, take, drop, get_or, append-nil, append_assoc, inl, inr, arith, length-append, nat_tests, take_all, take-append-le, take-append-drop, drop-append-le, length-take, Consumes-trans, Option, Some, None, Ok, Err, IfSome, IfNone, nat_le, Consumes, IsAtEnd, raised, SourceEnd, Number, NoStream, ScriptFault, whole_lines, HasNoFeed, first, whole_lines-line, whole_lines-none, Asked, asked_in, asked_behind, in_front, script_asked, size_of, EndsInLine, FailsToRead, HasFirstFault, AsksFor, Begins}
-use Rattle.emu_top.specs.Checking.{asked}
+use Rattle.emu_top.proofs.Imports.{◌≡◌, ◌<◌, ◌≤◌, ◌+◌, ◌⊎◌, refl, sym, ap, subst, ◌∙◌, ℕ, zero, suc, Bool, true, false, List, [], ◌∷◌, ◌++◌, length, take, drop, get_or, append-nil, append_assoc, inl, inr, arith, length-append, nat_tests, take_all, take-append-le, take-append-drop, drop-append-le, length-take, Consumes-trans, Option, Some, None, Ok, Err, IfSome, IfNone, nat_le, Consumes, IsAtEnd, raised, SourceEnd, Number, NoStream, ScriptFault, whole_lines, HasNoFeed, first, whole_lines-line, whole_lines-none, Asked, asked_in, asked_behind, in_front, script_asked, size_of, EndsInLine, FailsToRead, HasFirstFault, AsksFor, Begins, asked}
 
 -- ------ the first line
 
@@ -118,21 +117,7 @@ begins x y z size report a con steady is = record {
   parts = λ more. ap asked (append_assoc a.bytes report more) ∙ (a.parts (report ++ more) ∙ in_full size report more is);
 }
 
--- the input ends before
-pub ends_before : (x y z : SourceEnd) (size : ℕ) (report : List ℕ) → AsksFor size x y → Consumes y.left z.left report → z.faults ≡ y.faults → length report < size → IsAtEnd z.left
-    → HasFirstFault (in_front NoStream) x z
-ends_before x y z size report a con steady short end =
-    let whole : Consumes x.left z.left (a.bytes ++ report) = Consumes-trans _ _ _ _ _ a.taken con in (
-      steady ∙ a.steady,
-      of_input x.left z.left (a.bytes ++ report) (in_front NoStream) whole (λ rest is.
-          let same : (a.bytes ++ report) ++ rest ≡ a.bytes ++ report = ap (λ r. (a.bytes ++ report) ++ r) (at_end z.left rest is end) ∙ append-nil (a.bytes ++ report) in
-          ap (λ bytes. script_asked (asked bytes)) same ∙ ap script_asked (a.parts report ∙ too_short size report short)),
-    )
-
 -- ------ reads that fail
-
-pub fails_in_line : (x y : SourceEnd) (bytes : List ℕ) → Consumes x.left y.left bytes → EndsInLine bytes → y.faults ≡ raised x.faults → FailsToRead x y
-fails_in_line x y bytes con ends is = record { bytes = bytes; taken = con; ends = inl ends; rose = omega (arith, is) }
 
 pub in_line : (bytes : List ℕ) → HasNoFeed bytes → length bytes < 40 → EndsInLine bytes
 in_line bytes none few = (few, whole_lines-none bytes none)

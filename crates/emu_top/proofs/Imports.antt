@@ -15,10 +15,12 @@ pub use Rattle.client_script.specs.declared.said.Said.{Said}
 pub use Rattle.dmx_calls.specs.Histories.{before_entry, feeder_acts, feeder_entries, feeder_entry, woven, woven_from}
 pub use Rattle.dmx_calls.specs.Log.{Act}
 pub use Rattle.dmx_calls.specs.declared.histories.Fed.{Fed}
-pub use Rattle.dmx_calls.specs.declared.log.Act.TheVariants.{End as EndAct}
+pub use Rattle.dmx_calls.specs.declared.call.Call.TheVariants.{End as EndAct}
 pub use Rattle.dmx_calls.specs.declared.log.Entry.{Entry as ToldEntry}
-pub use Rattle.emu_top.specs.Checking.{Asked, Asks, Declines, EndsInLine, FailsToRead, HasFirstFault, IsAnswer, Judges, SettlesAnswer, asked, asked_behind, asked_in, in_front, script_asked, size_of}
-pub use Rattle.emu_top.specs.Imports.{All, Appends, Check, Command, Consumes, DEMUX_NODES, Draws, Going, HasGivenAll, IsAccountedRun, IsActInRange, IsAtEnd, IsEntryInRange, IsOutcomeInRange, IsRowInRange, IsRun, IsScript, IsWholeRun, Keeps, Left, LogEntry, Make, NoMemory as NoMemoryToRun, NoStream, Number, Of188, OfStream, Outcome, PacketSize, Parsed, Pulling, Pulls, Rose, Run, ScriptError, ScriptFault, Scripted, SelfTest, SinkEnd, SourceEnd, Steps, Stop, StreamHead, TooLong as RunTooLong, all_commands, bytes_written, clients_in, cut, grammar, head_of, histories_in, made, meant, most_bytes, most_calls, outcomes_in, pass_act, raised, report_of, script_len, split, summary_of, told_by, told_entry, told_head, whole_lines}
+pub use Rattle.emu_top.specs.Checking.{Asked, Asks, Declines, EndsInLine, FailsToRead, HasFirstFault, IsAnswer, Judges, SettlesAnswer, asked_behind, asked_in, in_front, script_asked, size_of}
+unfoldable pub use Rattle.emu_top.specs.Checking.{asked, answer_text}
+pub use Rattle.emu_top.specs.Imports.{All, Appends, Check, Command, Consumes, DEMUX_NODES, Draws, Going, HasGivenAll, IsAccountedRun, IsActInRange, IsAtEnd, IsEntryInRange, IsOutcomeInRange, IsRowInRange, IsRun, IsScript, IsWholeRun, Keeps, Left, LogEntry, Make, NoMemory as NoMemoryToRun, NoStream, Number, Of188, OfStream, Outcome, PacketSize, Parsed, Pulling, Pulls, Rose, Run, ScriptError, ScriptFault, Scripted, SelfTest, SinkEnd, SourceEnd, Steps, Stop, StreamHead, TooLong as RunTooLong, all_commands, bytes_written, clients_in, cut, grammar, head_of, histories_in, meant, most_bytes, most_calls, outcomes_in, pass_act, raised, report_of, script_len, split, summary_of, told_by, told_entry, told_head, whole_lines}
+unfoldable pub use Rattle.ts_make.specs.Made.{made, packets, payload}
 pub use Rattle.emu_top.specs.Inside.Asking.{AsksFor, Begins, IsCutOff, IsWholeOf, wrong_as}
 pub use Rattle.emu_top.specs.Inside.Fitting.{AreFitting}
 pub use Rattle.emu_top.specs.Inside.Part.{IsUnended}
@@ -33,7 +35,6 @@ pub use Rattle.feed_pull.proofs.CutPackets.{are_packets}
 pub use Rattle.feed_pull.proofs.Drawing.{draws_none, draws_then}
 pub use Rattle.feed_pull.proofs.Stopping.{many_reads}
 pub use Rattle.feed_pull.specs.Pulling.{fault_of, given_by, has_failed}
-pub use Rattle.feed_pull.specs.Steps.{Follows}
 pub use Rattle.feed_pull.specs.declared.fault.Reading.{Reading}
 pub use Rattle.feed_pull.specs.declared.fault.Reading.TheVariants.{Ended, Failed, TooMany}
 pub use Rattle.report_check.proofs.Lists.{all_at, at_all}
@@ -50,9 +51,9 @@ pub use Rattle.section_crc.specs.Crc.{crc}
 pub use Rattle.serial_core.proofs.Runs.{are_runs}
 pub use Rattle.serial_core.specs.Left.{IsLeftBy}
 pub use Rattle.serial_core.specs.SerialRun.{replies_of}
-pub use Rattle.std.proofs.Common.{Bool, IsTrue, List, [], add-one, ap, append-nil, append_assoc, arith, codes, drop, false, get_or, inl, inr, length, length-append, length-take-le, map, refl, rules, subst, suc, sym, take, true, zero, ℕ, ◌%◌, ◌*◌, ◌++◌, ◌+◌, ◌-◌, ◌<◌, ◌^◌, ◌∙◌, ◌∷◌, ◌≡◌, ◌≢◌, ◌≤◌, ◌⊎◌}
+pub use Rattle.std.proofs.Common.{Bool, IsTrue, List, [], add-one, ap, append-nil, append_assoc, arith, codes, drop, false, get_or, inl, inr, length, length-append, length-take-le, map, refl, rules, subst, suc, sym, take, true, zero, ℕ, ◌%◌, ◌*◌, ◌++◌, ◌+◌, ◌-◌, ◌<◌, ◌^◌, ◌∙◌, ◌∷◌, ◌≡◌, ◌≤◌, ◌⊎◌}
 pub use Rattle.std.proofs.KnownBytes.{Consumes-trans}
-pub use Rattle.std.proofs.lemmas.Bool.{cases_lt}
+pub use Rattle.std.proofs.lemmas.Bool.{cases_lt, and_parts}
 pub use Rattle.std.proofs.lemmas.Bool.Decides.{nat_tests}
 pub use Rattle.std.proofs.lemmas.Grind.{common_steps}
 pub use Rattle.std.proofs.lemmas.List.{drop-append-le, length-drop, length-map, length-replicate, length-take, take-append-drop, take-append-le, take_all}

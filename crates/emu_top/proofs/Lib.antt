@@ -3,10 +3,6 @@ pub mod Outputs
 pub mod Answering
 pub mod Asks
 pub mod Judging
-pub mod Rows
-pub mod Numbers
 pub mod Ranged
-pub mod Threading
-pub mod Whole
 pub mod Written
 pub mod Imports

@@ -1,6 +1,6 @@
 -- The words of others that the definitions and clauses of this crate use.
 pub use Rattle.client_core.specs.Commands.{plays_of}
-pub use Rattle.client_core.specs.Deeds.{batch_at}
+pub use Rattle.client_core.specs.Plays.{batch_at}
 pub use Rattle.client_core.specs.Passes.{played_writes}
 pub use Rattle.client_core.specs.declared.stop.Stop.{Stop}
 pub use Rattle.client_core.specs.declared.stop.Stop.TheVariants.{NoMemory, TooLong}
@@ -16,7 +16,7 @@ pub use Rattle.dmx_calls.specs.Calls.{response_of, told_entry}
 pub use Rattle.dmx_calls.specs.Histories.{pass_act}
 pub use Rattle.dmx_calls.specs.Log.{LogEntry}
 pub use Rattle.dmx_calls.specs.declared.limits.TheConstants.{DEMUX_NODES}
-pub use Rattle.dmx_calls.specs.declared.log.Act.TheVariants.{SetFilter, SetPes}
+pub use Rattle.dmx_calls.specs.declared.call.Call.TheVariants.{SetFilter, SetPes}
 pub use Rattle.dmx_calls.specs.declared.outcome.Outcome.{Outcome}
 pub use Rattle.emu_io.specs.Causes.{HasCause, Rose, raised}
 pub use Rattle.emu_io.specs.Ends.{SinkEnd, SourceEnd}

@@ -1,5 +1,5 @@
 -- What a call of the program does: by its words, by what source and sink tell before and after, and by its status.
-use Rattle.std.specs.Prelude.{◌≡◌, ◌⊎◌, ℕ, ◌+◌, ◌<◌, ◌≤◌, Bool, true, false, List, length, take, Option, Some, None, Ok, Err, IfSome}
+use Rattle.std.specs.Prelude.{◌≡◌, ◌⊎◌, ℕ, ◌+◌, ◌<◌, ◌≤◌, Bool, true, false, List, length, take, Some, None, Ok, Err, IfSome}
 use Rattle.emu_top.specs.Imports.{Appends, Check, Command, Keeps, Make, PacketSize, Parsed, Rose, Run, SelfTest, SinkEnd, SourceEnd, Steps, grammar, made, meant, split}
 use Rattle.emu_top.specs.Session.{Output, IsSerialOutput, IsThreadOutput, IsSums, Makes, GivesUp, HasFault, FailsEarly}
 use Rattle.emu_top.specs.Checking.{Declines, Judges, SettlesAnswer, answer_text, asked, script_asked}

@@ -1,5 +1,5 @@
 -- What is read of a session, and what is to be written for it.
-use Rattle.std.specs.Prelude.{◌≡◌, ◌⊎◌, ⊤, ℕ, ◌+◌, ◌<◌, ◌≤◌, ◌^◌, ◌++◌, Bool, true, false, List, [], length, map, filter_map, slice_get, Option, Some, None, Ok, Err, IfSome}
+use Rattle.std.specs.Prelude.{◌≡◌, ◌⊎◌, ⊤, ℕ, ◌+◌, ◌<◌, ◌≤◌, ◌^◌, ◌++◌, Bool, true, false, List, [], length, map, filter_map, slice_get, Some, None, Ok, Err, IfSome}
 use Rattle.emu_top.specs.Imports.{Consumes, DEMUX_NODES, IsAccountedRun, IsAtEnd, IsRun, IsScript, IsWholeRun, Left, LogEntry, NoMemory as NoMemoryToRun, Of188, Outcome, PacketSize, Pulling, Pulls, Rose, ScriptError, ScriptFault, Scripted, SourceEnd, Stop, TooLong as RunTooLong, all_commands, batch_at, batches_by, bytes_written, clients_in, cut, grammar, head_of, histories_in, made, most_calls, outcomes_in, played_writes, plays_of, replies, report_of, sources, split, summary_of, told_by, told_head}
 use Rattle.client_script.specs.declared.fault.ScriptError.TheVariants.{Fault, NoMemory as NoMemoryToRead}
 use Rattle.serial_core.specs.SerialRun.{Run, IsSerialRun}

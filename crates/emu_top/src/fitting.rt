@@ -5,8 +5,8 @@ ghost use Rattle.emu_top.specs.Inside.Fitting.{AreFitting};
 
 use dmx_calls::limits::DEMUX_NODES;
 use dmx_calls::{
-    Act, Entry, Fed, Histories, KeptAct, LogTap, Outcome, OutcomeKind, PesParams, Reply,
-    SectionParams, SharedReply, Span, Tap,
+    Act, BatchRange, Entry, Fed, Histories, KeptAct, LogTap, Outcome, OutcomeKind, PesParams,
+    Reply, SectionParams, SharedReply, Span, Tap,
 };
 use filter_match::SectionFilter;
 use serial_core::Left;
@@ -60,12 +60,14 @@ fn look_at_act(act: &KeptAct)
         Act::SetSize(_size) => {}
         Act::Read {
             now: _now,
-            count: _count,
+            room: _room,
         } => {}
         Act::Poll { now: _now } => {}
         Act::Pass {
-            first: _first,
-            count: _count,
+            batch: BatchRange {
+                first: _first,
+                count: _count,
+            },
             now: _now,
             ..
         } => {}

@@ -369,12 +369,6 @@ Pulls-done ahead taken given p h d =
     let f : given ++ p.waiting ≡ given = ap (λ (l : List (List ℕ)). given ++ l) d.waiting ∙ append-nil given in
     rw (← e) (rw f at h.cuts)
 
--- where nothing is left, all packets of the stream were watched
-pub Pulls-watch : (ahead taken : List ℕ) (given : List (List ℕ)) (p : Pulling) → Pulls ahead taken given p → IsDone p → Watched (cut p.cutting.size (ahead ++ taken)).packets p.watch
-Pulls-watch ahead taken given p h d =
-    let f : given ++ p.waiting ≡ given = ap (λ (l : List (List ℕ)). given ++ l) d.waiting ∙ append-nil given in
-    rw (Pulls-done ahead taken given p h d).packets (rw f at h.watch)
-
 -- the packets given have no more bytes than the stream
 pub Pulls-size : (ahead taken : List ℕ) (given : List (List ℕ)) (p : Pulling) → Pulls ahead taken given p → 188 * length given ≤ length ahead + length taken
 Pulls-size ahead taken given p h =

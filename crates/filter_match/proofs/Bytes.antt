@@ -1,6 +1,5 @@
 -- Tests over the bytes of a filter, one byte more at a time.
-use Rattle.filter_match.proofs.Imports.{rules, ◌≡◌, ◌≢◌, ℕ, zero, suc, ◌+◌, ◌-◌, ◌<◌, ◌≤◌, Bool, true, false, not, ◌&&◌, ◌||◌, nat_eq, nat_le, nat_lt, List, [], ◌∷◌, length, slice_index, bit_and, bit_xor, refl, sym, ap, ◌∙◌, inl, inr, arith, list_all, list_any, and-true, and-false, or-true, or-false, list_all-append, list_any-append, cases_lt, nat_tests, SectionFilter, place_of, IsCompiled}
-use Rattle.filter_match.specs.Match.{numbers_below, reaches_at, differences, equals_at, differs_at, negates_at, matches}
+use Rattle.filter_match.proofs.Imports.{rules, ◌≡◌, ◌≢◌, ℕ, zero, suc, ◌+◌, ◌-◌, ◌<◌, ◌≤◌, Bool, true, false, not, ◌&&◌, ◌||◌, nat_eq, nat_le, nat_lt, List, [], ◌∷◌, length, slice_index, bit_and, bit_xor, refl, sym, ap, ◌∙◌, inl, inr, arith, list_all, list_any, and-true, and-false, or-true, or-false, list_all-append, list_any-append, cases_lt, nat_tests, SectionFilter, place_of, IsCompiled, numbers_below, reaches_at, differences, equals_at, differs_at, negates_at, matches}
 
 pub all-more : (p : ℕ → Bool) (n : ℕ) → list_all p (numbers_below (n + 1)) ≡ (list_all p (numbers_below n) && p n)
 unfolding numbers_below

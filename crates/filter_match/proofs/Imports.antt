@@ -1,6 +1,7 @@
 -- The words of others that the proofs of this crate use.
 pub use Rattle.filter_match.specs.Inside.Compiling.{IsCompiled}
-pub use Rattle.filter_match.specs.Match.{differences, differs_at, equals_at, negates_at, numbers_below, place_of}
+pub use Rattle.filter_match.specs.Match.{place_of}
+unfoldable pub use Rattle.filter_match.specs.Match.{differences, differs_at, equals_at, negates_at, numbers_below, matches, reaches_at}
 pub use Rattle.filter_match.specs.Meaning.{HasMode, IsMatch, bit_of}
 pub use Rattle.filter_match.specs.Places.{filter_with}
 pub use Rattle.filter_match.specs.declared.filter.SectionFilter.{SectionFilter}

@@ -1,6 +1,5 @@
 -- Tests over sixteen lanes are tests over the sixteen places.
-use Rattle.filter_match.proofs.Imports.{◌≡◌, ℕ, zero, suc, ◌+◌, ◌-◌, ◌*◌, ◌<◌, ◌≤◌, bit_and, bit_xor, cond, Bool, true, false, not, ◌&&◌, ◌||◌, nat_eq, List, [], ◌∷◌, map, length, take, slice_index, refl, sym, ap, ◌∙◌, arith, inl, inr, list_all, list_any, take-suc, mask_l, zip2, get_or-map, length-map, get_or-zip2, length-zip2, list_all-append, nat_tests, cases_eq, SectionFilter, place_of, differences, equals_at, differs_at}
-use Rattle.filter_match.specs.Match.{numbers_below}
+use Rattle.filter_match.proofs.Imports.{◌≡◌, ℕ, zero, suc, ◌+◌, ◌-◌, ◌*◌, ◌<◌, ◌≤◌, bit_and, bit_xor, cond, Bool, true, false, not, ◌&&◌, ◌||◌, nat_eq, List, [], ◌∷◌, map, length, take, slice_index, refl, sym, ap, ◌∙◌, arith, inl, inr, list_all, list_any, take-suc, mask_l, zip2, get_or-map, length-map, get_or-zip2, length-zip2, list_all-append, nat_tests, cases_eq, SectionFilter, place_of, differences, equals_at, differs_at, numbers_below}
 use Rattle.filter_match.proofs.Bytes.{all-more, any-more, differences-is, equals-is, differs-is}
 
 -- a mask of bits is 0 just where no lane passes

@@ -1,4 +1,3 @@
 pub mod Bytes
 pub mod Lanes
-pub mod Meaning
 pub mod Imports

@@ -1,4 +1,3 @@
-pub mod Giving
 pub mod Selected
 pub mod Viewed
 pub mod Imports

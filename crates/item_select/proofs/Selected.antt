@@ -1,11 +1,9 @@
 -- What a selector keeps stands for the packets offered, packet by packet and item by item.
-use Rattle.item_select.proofs.Imports.{◌≡◌, ◌≢◌, ℕ, ◌≤◌, ◌&&◌, ◌||◌, subst, Bool, true, false, List, [], ◌∷◌, ◌++◌, length, take, drop, Option, Some, None, refl, sym, ap, ◌∙◌, arith, append_assoc, length-drop, suc, ◌+◌, append-nil, filter-append, filter_map-append, sum_by-cons, sum_by-take-le, sum_by-append, filter_map, sum_by, SectionFilter, payload_of, payload_start, has_payload, Assembly, after_packet, all_taken, length_of, goes, kept-stands, kept-append, Assembled-push, carried-few, stay, Give, Payload, Whole, Choice, Nothing, Sections, Packets, is_selected, first_if, given_by, Selecting, Selects, Follows, begun, is_once, listed, is_ready, without_first, bytes_held, OneIsAll, OneIsGiven, AllAreGiven}
+use Rattle.item_select.proofs.Imports.{◌≡◌, ◌≢◌, ℕ, ◌≤◌, ◌&&◌, ◌||◌, subst, Bool, true, false, List, [], ◌∷◌, ◌++◌, length, take, drop, Option, Some, None, refl, sym, ap, ◌∙◌, arith, append_assoc, length-drop, suc, ◌+◌, append-nil, filter-append, filter_map-append, sum_by-cons, sum_by-take-le, sum_by-append, filter_map, sum_by, SectionFilter, payload_of, payload_start, has_payload, Assembly, after_packet, all_taken, length_of, goes, kept-stands, kept-append, Assembled-push, carried-few, stay, Give, Payload, Whole, Choice, Nothing, Sections, Packets, is_selected, first_if, given_by, Selecting, Selects, Follows, begun, is_once, listed, is_ready, without_first, bytes_held, OneIsAll, OneIsGiven, AllAreGiven, kept as kept_after_all, items_of}
 use Rattle.std.specs.List.{filter}
 use Rattle.ts_packet.specs.Clean.{clean, without_repeats_after}
 use Rattle.section_parse.specs.Segments.{runs}
 use Rattle.section_parse.specs.Sections.{sections}
-use Rattle.section_parse.specs.Inside.Keeping.{kept as kept_after_all}
-use Rattle.item_select.specs.Items.{items_of}
 use Rattle.item_select.specs.Selecting.{after_offer, all_given, items_found, kept_after}
 
 abbrev pub of : Choice → Assembly → Bool → List (List ℕ) → Selecting
@@ -260,38 +258,3 @@ once-spent offered given s h once some = go s.choice s.kept s.is_spent s.ready o
     go (Sections pid wanted check one) kept false ready e k = absurd (some ((k.follows.0 refl).1 e))
 
 -- ------ for a loop over the items, and over the packets
-
--- what is left with all items given is the same before and after the next one
-pub all_given-next : (s : Selecting) → all_given (without_first s) ≡ all_given s
-all_given-next s = go s.is_spent (is_once s.choice) s.ready
-  where
-    go : (is_spent once : Bool) (ready : List (List ℕ)) → of s.choice s.kept ((is_spent || (once && is_ready ready)) || (once && is_ready (drop 1 ready))) [] ≡ of s.choice s.kept (is_spent || (once && is_ready ready)) []
-    go true once ready = refl
-    go false false ready = refl
-    go false true [] = refl
-    go false true (x ∷ rest) = refl
-
-pub all_given-none : (s : Selecting) → s.ready ≡ [] → all_given s ≡ s
-all_given-none s e =
-    let P : List (List ℕ) → Type 0 = λ r. all_given (of s.choice s.kept s.is_spent r) ≡ of s.choice s.kept s.is_spent r in
-    subst P (sym e) (rw (none-more s.is_spent (is_once s.choice)) refl)
-
-pub items_found-first : (s : Selecting) (p : List ℕ) (ps : List (List ℕ)) → items_found s (p ∷ ps) ≡ (after_offer s p).ready ++ items_found (all_given (after_offer s p)) ps
-unfolding items_found
-items_found-first s p ps = refl
-
-pub kept_after-first : (s : Selecting) (p : List ℕ) (ps : List (List ℕ)) → kept_after s (p ∷ ps) ≡ kept_after (all_given (after_offer s p)) ps
-unfolding kept_after
-kept_after-first s p ps = refl
-
-pub kept_after-append : (s : Selecting) (ps qs : List (List ℕ)) → kept_after s (ps ++ qs) ≡ kept_after (kept_after s ps) qs
-unfolding kept_after
-kept_after-append s [] qs = refl
-kept_after-append s (p ∷ ps) qs = kept_after-append (all_given (after_offer s p)) ps qs
-
-pub items_found-append : (s : Selecting) (ps qs : List (List ℕ)) → items_found s (ps ++ qs) ≡ items_found s ps ++ items_found (kept_after s ps) qs
-unfolding items_found kept_after
-items_found-append s [] qs = refl
-items_found-append s (p ∷ ps) qs =
-    let now = after_offer s p in
-    ap (λ (l : List (List ℕ)). now.ready ++ l) (items_found-append (all_given now) ps qs) ∙ sym (append_assoc now.ready (items_found (all_given now) ps) (items_found (kept_after (all_given now) ps) qs))

@@ -1,5 +1,5 @@
 -- A call that is not refused is accepted, unless it opens a node that has an owner.
-use Rattle.node_buffer.proofs.Imports.{ℕ, ◌≡◌, refl, sym, ◌∙◌, ap, Bool, true, false, Option, Some, None, inl, inr, ◌⊎◌, if◌then◌else◌, nat_eq, Invocation, Open, Close, SetFilter, SetPes, AddPid, RemovePid, Start, Stop, SetSize, Read, Poll, Pass, End, Attach, Detach, Response, Busy, is_accepted, TapChange, Ledger, Facts, read_terms, read_response, expired_of, open_response, done_dropping, response_to, read_each}
+use Rattle.node_buffer.proofs.Imports.{ℕ, ◌≡◌, refl, sym, ◌∙◌, ap, Bool, true, false, Option, Some, None, inl, inr, ◌⊎◌, if◌then◌else◌, nat_eq, Invocation, Open, Close, SetFilter, SetPes, Start, SetSize, Read, Response, Busy, is_accepted, TapChange, Ledger, Facts, read_terms, read_response, expired_of, open_response, done_dropping, response_to, read_each}
 use Rattle.node_buffer.proofs.Silences.{accepted_of, dropping}
 
 pub dropping_accepted : (o : Option Ledger) (tap : TapChange) → is_accepted (done_dropping o tap) ≡ true
@@ -18,17 +18,10 @@ open_or Open = inl refl
 open_or Close = inr (λ f g. dropping_accepted f.ledger _)
 open_or (SetFilter p now) = inr (λ f g. dropping_accepted f.ledger _)
 open_or (SetPes p now) = inr (λ f g. dropping_accepted f.ledger _)
-open_or (AddPid pid) = inr (λ f g. refl)
-open_or (RemovePid pid) = inr (λ f g. refl)
 open_or (Start now) = inr (λ f g. dropping_accepted f.ledger _)
-open_or Stop = inr (λ f g. refl)
 open_or (SetSize n) = inr (λ f g. either_accepted (nat_eq n f.size) _ _ refl (dropping_accepted f.ledger _))
 open_or (Read now count) = inr (λ f g. read_accepted f f.ledger (expired_of g.ledger) count)
-open_or (Poll now) = inr (λ f g. refl)
-open_or (Pass input first packets now) = inr (λ f g. refl)
-open_or End = inr (λ f g. refl)
-open_or (Attach node names) = inr (λ f g. refl)
-open_or (Detach node) = inr (λ f g. refl)
+open_or _ = inr (λ f g. refl)
 
 -- who isn't accepted, but not refused, opened a node that has an owner
 pub opened : (f g : Facts) (call : Invocation) (r : Response) → response_to f g call ≡ r → is_accepted r ≡ false → (owner : ℕ) × (call ≡ Open) × (f.owner ≡ Some owner) × (r ≡ Busy owner)

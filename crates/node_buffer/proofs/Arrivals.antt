@@ -1,6 +1,5 @@
 -- Items that arrive one by one, and the same items at once.
-use Rattle.node_buffer.proofs.Imports.{ℕ, zero, suc, take, drop, add-one, ◌+◌, ◌-◌, ◌<◌, ◌≤◌, ◌≡◌, refl, sym, ◌∙◌, ap, subst, Bool, true, false, List, [], ◌∷◌, ◌++◌, Option, Some, None, length, arith, append_assoc, length-append, length-take, length-drop, add-zero, zero-add, add_assoc, one-add, nat_eq, nat_lt, if◌then◌else◌, slice_get, concat, concat-append, nat_tests, append-nil, take-append-le, take_all, History, Params, Empty, Section, Pes, Rules, Misfit, keeps, edge_of, answered, over, Ledger, rest_of_item, rest_of, ledger_at, PlacedIn, rest_of-end, over_none, ledger_next, is_section, terms_of, rest_with, with_lost, with_misfit, with_kept, with_item_by, with_item, with_items, UnreadFits, Coherent, Terms}
-use Rattle.dmx_calls.specs.Ledger.{joined, total, edge}
+use Rattle.node_buffer.proofs.Imports.{ℕ, zero, suc, take, drop, add-one, ◌+◌, ◌-◌, ◌<◌, ◌≤◌, ◌≡◌, refl, sym, ◌∙◌, ap, subst, Bool, true, false, List, [], ◌∷◌, ◌++◌, Option, Some, None, length, arith, append_assoc, length-append, length-take, length-drop, add-zero, zero-add, add_assoc, one-add, nat_eq, nat_lt, if◌then◌else◌, slice_get, concat, concat-append, nat_tests, append-nil, take-append-le, take_all, History, Params, Empty, Section, Pes, Rules, Misfit, keeps, edge_of, answered, over, Ledger, rest_of_item, rest_of, ledger_at, PlacedIn, rest_of-end, over_none, ledger_next, is_section, terms_of, rest_with, with_lost, with_misfit, with_kept, with_item_by, with_item, with_items, UnreadFits, Coherent, Terms, joined, total, edge}
 use Rattle.node_buffer.proofs.Rests.{rest_some, rest_before, rest_behind_all}
 
 -- ------ lists

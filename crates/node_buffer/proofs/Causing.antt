@@ -1,5 +1,5 @@
 -- When each answer of a node comes, from what it gives.
-use Rattle.node_buffer.proofs.Imports.{ℕ, ◌≡◌, refl, sym, ◌∙◌, ap, subst, true, false, Option, Some, None, arith, inl, inr, not, nat_eq, nat_tests, NodeKind, Errno, Invocation, Open, Close, SetFilter, SetPes, AddPid, RemovePid, Start, Stop, SetSize, Read, Poll, Pass, End, Attach, Detach, Response, Busy, Refused, NoMemory, is_accepted, Facts, is_done, takes_memory, refusal_to, read_response, expired_of, open_response, response_to, response_unless, answer_by, GivesBy, ReadCauses, TakesMemory, Causes}
+use Rattle.node_buffer.proofs.Imports.{ℕ, ◌≡◌, refl, sym, ◌∙◌, ap, subst, Bool, true, false, Option, Some, None, arith, inl, inr, not, nat_eq, nat_tests, NodeKind, Errno, Invocation, Open, SetSize, Read, Response, Busy, Refused, NoMemory, Passed, is_accepted, if◌then◌else◌, Facts, is_done, takes_memory, refusal_to, read_response, expired_of, open_response, response_to, response_unless, answer_by, GivesBy, ReadCauses, TakesMemory, Causes}
 use Rattle.node_buffer.proofs.Accepted.{read_accepted, opened}
 use Rattle.node_buffer.proofs.ReadCausing.{Readable, read_cause}
 
@@ -10,20 +10,8 @@ owner_none (Some w) done = absurd (cc)
 
 taking : (f g : Facts) (call : Invocation) → is_done (response_to f g call) ≡ true → takes_memory f call ≡ true → TakesMemory f call
 taking f g Open done memory = owner_none f.owner done
-taking f g Close done memory = absurd (cc)
-taking f g (SetFilter p now) done memory = absurd (cc)
-taking f g (SetPes p now) done memory = absurd (cc)
-taking f g (AddPid pid) done memory = absurd (cc)
-taking f g (RemovePid pid) done memory = absurd (cc)
-taking f g (Start now) done memory = absurd (cc)
-taking f g Stop done memory = absurd (cc)
 taking f g (SetSize n) done memory = λ same. let k : not (nat_eq n n) ≡ true = rw (← same) at memory in absurd (grind (arith, nat_tests))
-taking f g (Read now count) done memory = absurd (cc)
-taking f g (Poll now) done memory = absurd (cc)
-taking f g (Pass input first packets now) done memory = absurd (cc)
-taking f g End done memory = absurd (cc)
-taking f g (Attach node names) done memory = absurd (cc)
-taking f g (Detach node) done memory = absurd (cc)
+taking f g _ done memory = absurd (cc)
 
 module _ (kind : NodeKind) (f g : Facts) (who : ℕ) (call : Invocation) (r : Response) (gives : GivesBy kind f g who call r) where
   abbrev response : Response
@@ -88,14 +76,29 @@ busy_by : (kind : NodeKind) (f g : Facts) (who owner : ℕ) (r : Response) → f
 busy_by kind f g who owner r some (inl gave) = gave ∙ ap open_response some
 busy_by kind f g who owner r some (inr (none, done, memory)) = absurd (let n : false ≡ true = rw some at done in cc)
 
--- f is before the call, g with it, after is after it
-pub causes_for : (kind : NodeKind) (f g after : Facts) (who : ℕ) (call : Invocation) (r : Response) → GivesBy kind f g who call r → Readable f.params f.ledger
-    → ((now count : ℕ) → call ≡ Read now count → is_accepted r ≡ true → expired_of after.ledger ≡ expired_of g.ledger) → Causes kind f after who call r
-causes_for kind f g after who call r gives known same = record {
-  refused = λ errno. (refused_to kind f g who call r gives errno, refused_by kind f g who call r gives errno);
-  busy = λ owner. (busy_to kind f g who call r gives owner, λ both. let P : Invocation → Type 0 = λ c. GivesBy kind f g who c r in busy_by kind f g who owner r both.1 (subst P both.0 gives));
-  memory = memory_to kind f g who call r gives;
-  reads = λ now count is.
-      let P : Invocation → Type 0 = λ c. GivesBy kind f g who c r → refusal_to kind f who c ≡ None → ReadCauses f.ledger (expired_of after.ledger) count r in
-      subst P (sym is) (λ gives' said. reads_so kind f g after who now count r gives' said known (same now count is)) gives;
-}
+-- Of a node that knows a K, which tells it what its history says, and goes on by `moved` with an accepted call. The expiry with
+-- a Read doesn't hang on its response.
+module _ {K : Type 0} (says : K → Facts) (moved : K → (who : ℕ) → Invocation → Response → K) (kind : NodeKind) (k : K) (who : ℕ) (r : Response) where
+  abbrev with_it : Invocation → Facts
+  with_it call = says (moved k who call Passed)
+
+  abbrev after_it : Invocation → Facts
+  after_it call = says (if is_accepted r then moved k who call r else k)
+
+  pub causes_by : (call : Invocation) → GivesBy kind (says k) (with_it call) who call r → Readable (says k).params (says k).ledger
+      → ((now count : ℕ) → expired_of (says (moved k who (Read now count) r)).ledger ≡ expired_of (with_it (Read now count)).ledger) → Causes kind (says k) (after_it call) who call r
+  causes_by call gives known either = record {
+    refused = λ errno. (refused_to kind (says k) (with_it call) who call r gives errno, refused_by kind (says k) (with_it call) who call r gives errno);
+    busy = λ owner. (
+      busy_to kind (says k) (with_it call) who call r gives owner,
+      λ both.
+          let P : Invocation → Type 0 = λ c. GivesBy kind (says k) (with_it call) who c r in
+          busy_by kind (says k) (with_it call) who owner r both.1 (subst P both.0 gives),
+    );
+    memory = memory_to kind (says k) (with_it call) who call r gives;
+    reads = λ now count is.
+        let P : Invocation → Type 0 = λ c. GivesBy kind (says k) (with_it c) who c r → refusal_to kind (says k) who c ≡ None → ReadCauses (says k).ledger (expired_of (after_it c).ledger) count r in
+        subst P (sym is) (λ gives' said. reads_so kind (says k) (with_it (Read now count)) (after_it (Read now count)) who now count r gives' said known (λ ok.
+        let E : Bool → Type 0 = λ b. expired_of (says (if b then moved k who (Read now count) r else k)).ledger ≡ expired_of (with_it (Read now count)).ledger in
+        subst E (sym ok) (either now count))) gives;
+  }

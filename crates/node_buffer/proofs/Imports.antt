@@ -3,13 +3,18 @@ pub use Rattle.dmx_calls.proofs.Ledgers.{PlacedIn, ledger_next, over_none, rest_
 pub use Rattle.dmx_calls.proofs.Pieces.{drop_past_first}
 pub use Rattle.dmx_calls.proofs.Reading.{read_each}
 pub use Rattle.dmx_calls.specs.Answer.{done_dropping, first_of, is_for_anybody, is_owned_by, most_bytes, open_response, read_response, read_terms, response_to, response_unless, timed_out_of}
+unfoldable pub use Rattle.dmx_calls.specs.Answer.{answer}
 pub use Rattle.dmx_calls.specs.Facts.{ledger_at, rest_of, rest_of_item, unread_of}
-pub use Rattle.dmx_calls.specs.History.{History, Since, entry_of, event}
-pub use Rattle.dmx_calls.specs.Invocation.{AddPid, Attach, Detach, End, Pass, Poll, RemovePid, SetFilter, SetPes, Start, Stop}
+unfoldable pub use Rattle.dmx_calls.specs.Facts.{facts}
+pub use Rattle.dmx_calls.specs.History.{Entry, History, Since, entry_of, event}
+pub use Rattle.dmx_calls.specs.Invocation.{SetFilter, SetPes, Start}
 pub use Rattle.dmx_calls.specs.Ledger.{answered, answered_in, edge_of, is_overflow, over}
+unfoldable pub use Rattle.dmx_calls.specs.Ledger.{edge, joined, total}
+pub use Rattle.dmx_calls.specs.Legal.{May}
 pub use Rattle.dmx_calls.specs.Response.{Done, Passed, TapChange, is_accepted}
 pub use Rattle.dmx_calls.specs.Rules.{Rules, tells_timeout}
 pub use Rattle.dmx_calls.specs.Tenure.{Pes, tenure}
+unfoldable pub use Rattle.dmx_calls.specs.Tenure.{owner}
 pub use Rattle.dmx_calls.specs.declared.reply.Errno.TheVariants.{Ebadf}
 pub use Rattle.dmx_calls.specs.declared.reply.Tap.TheVariants.{Keep as KeepTap}
 pub use Rattle.node_buffer.specs.Causes.{Causes, ReadCauses, ReadCausesBy, TakesMemory, gives_bytes, gives_no_bytes}

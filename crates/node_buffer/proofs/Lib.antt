@@ -1,6 +1,4 @@
-pub mod Bytes
 pub mod Rests
-mod Holding
 pub mod Arrivals
 pub mod Named
 pub mod Answering
@@ -10,4 +8,5 @@ pub mod Accepted
 pub mod Owners
 pub mod ReadCausing
 pub mod Causing
+pub mod Standing
 pub mod Imports

@@ -1,7 +1,5 @@
 -- The owner of a node, of whichever kind, and the calls that only it may make.
-use Rattle.node_buffer.proofs.Imports.{ℕ, ◌≡◌, refl, sym, ◌∙◌, ap, subst, Bool, true, false, Option, Some, None, arith, nat_eq, not, if◌then◌else◌, nat_tests, NodeKind, Errno, Ebadf, Invocation, Response, History, Since, tenure, Rules, Facts, is_for_anybody, is_owned_by, refusal_to, response_to, response_unless, OrNoMemory, GivesBy, owner_refusal}
-use Rattle.dmx_calls.specs.Tenure.{owner}
-use Rattle.dmx_calls.specs.Facts.{facts}
+use Rattle.node_buffer.proofs.Imports.{ℕ, ◌≡◌, refl, sym, ◌∙◌, ap, subst, Bool, true, false, Option, Some, None, arith, nat_eq, not, if◌then◌else◌, nat_tests, NodeKind, Errno, Ebadf, Invocation, Response, History, Since, tenure, Rules, Facts, is_for_anybody, is_owned_by, refusal_to, response_to, response_unless, OrNoMemory, GivesBy, owner_refusal, owner, facts}
 
 -- ------ by the owner test
 

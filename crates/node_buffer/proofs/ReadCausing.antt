@@ -1,5 +1,5 @@
 -- When each answer to a Read comes.
-use Rattle.node_buffer.proofs.Imports.{ℕ, ◌-◌, ◌<◌, ◌≤◌, ◌≡◌, refl, Bool, true, false, List, [], ◌∷◌, Option, Some, None, length, take, drop, arith, length-take, if◌then◌else◌, not, ◌&&◌, nat_eq, nat_lt, is_some, option_map, concat, nat_tests, Response, Done, Busy, Refused, NoMemory, Data, Again, Overflow, TimedOut, Ready, Passed, Params, Empty, Section, Pes, timeout_of, Misfit, Ledger, Facts, unread_of, rest_of, is_empty, is_section, read_terms, timed_out_of, most_bytes, first_of, read_response, expired_of, with_response, UnreadFits, Coherent, gives_no_bytes, gives_bytes, ReadCausesBy, ReadCauses}
+use Rattle.node_buffer.proofs.Imports.{ℕ, ◌-◌, ◌<◌, ◌≤◌, ◌≡◌, refl, Bool, true, false, List, [], ◌∷◌, Option, Some, None, length, take, drop, arith, length-take, if◌then◌else◌, not, ◌&&◌, nat_eq, nat_lt, is_some, option_map, concat, nat_tests, Response, Data, Again, Overflow, TimedOut, Passed, Params, Empty, Section, Pes, timeout_of, Misfit, Ledger, Facts, unread_of, rest_of, is_empty, is_section, read_terms, timed_out_of, most_bytes, first_of, read_response, expired_of, with_response, UnreadFits, Coherent, gives_no_bytes, gives_bytes, ReadCausesBy, ReadCauses}
 use Rattle.node_buffer.proofs.Rests.{rest_some}
 
 -- on a section filter, where something is unread, something is left of the section at the front
@@ -87,16 +87,8 @@ read_cause f (Some l) x count k = by_over f l count k.1 x l.over (is_empty l.unr
 
 -- the expiry after the Read doesn't hang on its response
 expired_kept : (sec : Bool) (r : Response) (l : Ledger) → (with_response sec r l).expired ≡ l.expired
-expired_kept sec (Done a b tap) l = refl
-expired_kept sec (Busy who) l = refl
-expired_kept sec (Refused x) l = refl
-expired_kept sec NoMemory l = refl
-expired_kept sec (Data bytes) l = refl
-expired_kept sec (Again ended) l = refl
-expired_kept sec (Overflow a b c d e) l = refl
-expired_kept sec (TimedOut a b c) l = refl
-expired_kept sec (Ready a b c d) l = refl
 expired_kept sec Passed l = refl
+expired_kept sec _ l = refl
 
 pub expired_either : (sec : Bool) (r : Response) (step : Ledger → Ledger) (o : Option Ledger)
     → expired_of (option_map (λ l. with_response sec r (step l)) o) ≡ expired_of (option_map (λ l. with_response sec Passed (step l)) o)

@@ -7,25 +7,21 @@ pub data Silent : Response → Type 0 where
   as_passed : Silent Passed
 
 pub accepted_of : (r : Response) → Silent r → is_accepted r ≡ true
-accepted_of _ (as_done a b tap) = refl
-accepted_of _ (as_ready a b c d) = refl
 accepted_of _ as_passed = refl
+accepted_of _ _ = refl
 
 module _ (who : ℕ) (call : Invocation) (h : History) where
   pub quiet_of : (r : Response) → Silent r → is_overflow (event (entry_of who call r) h) ≡ false
-  quiet_of _ (as_done a b tap) = refl
-  quiet_of _ (as_ready a b c d) = refl
   quiet_of _ as_passed = refl
+  quiet_of _ _ = refl
 
   pub untold_of : (r : Response) → Silent r → tells_timeout (event (entry_of who call r) h) ≡ false
-  untold_of _ (as_done a b tap) = refl
-  untold_of _ (as_ready a b c d) = refl
   untold_of _ as_passed = refl
+  untold_of _ _ = refl
 
   pub nothing_of : (r : Response) → Silent r → answered_in (event (entry_of who call r) h) ≡ 0
-  nothing_of _ (as_done a b tap) = refl
-  nothing_of _ (as_ready a b c d) = refl
   nothing_of _ as_passed = refl
+  nothing_of _ _ = refl
 
 -- ------ what is answered
 

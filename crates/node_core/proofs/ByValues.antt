@@ -2,6 +2,12 @@
 use Rattle.node_core.proofs.Imports.{ℕ, ◌≡◌, refl, ◌∙◌, ap, Bool, true, false, Option, Some, None, option_map, if◌then◌else◌, not, is_some, Go, Read, Poll, Response, Ready, Passed, is_accepted, Params, Empty, Section, Pes, timeout_of, Ledger, state_of_filter, state_of_ledger, is_section, is_readable, pending, answered_of, expired_of, response_to, terms_of, read_by, is_due, expiring, with_response, read_accepted, read_is, expired_at, then_answered, answered-expired, CoherentIn, Knows, next, moved, IsSoundBy, reply_to}
 use Rattle.std.specs.Prelude.{◌||◌}
 
+-- a ledger that comes of a sound one
+sound_by : (set : Params) (o left : Option Ledger) → (o ≡ None → left ≡ None) → IsSoundBy set o → CoherentIn left → IsSoundBy set left
+sound_by Empty o left none sound holds = none sound
+sound_by (Section p) o left none sound holds = holds
+sound_by (Pes p) o left none sound holds = holds
+
 -- ------ a Read
 
 -- what it gives is the response to a Read that isn't refused
@@ -24,15 +30,9 @@ read-after k now count mid left r is said after =
     rw (ok, after, is, then_answered (is_section k.facts.params) r (timeout_of k.facts.params) now k.facts.ledger) refl
 
 -- what is sound stays so
-none-read : (by_section : Bool) (r : Response) (timeout now : ℕ) (o mid left : Option Ledger) → mid ≡ option_map (expiring timeout now) o → left ≡ option_map (with_response by_section r) mid
-    → o ≡ None → left ≡ None
-none-read by_section r timeout now o mid left is after none = rw (after, is, none) refl
-
 pub read-sound : (set : Params) (r : Response) (now : ℕ) (o mid left : Option Ledger) → mid ≡ option_map (expiring (timeout_of set) now) o → left ≡ option_map (with_response (is_section set) r) mid
     → IsSoundBy set o → CoherentIn left → IsSoundBy set left
-read-sound Empty r now o mid left is after sound holds = none-read false r 0 now o mid left is after sound
-read-sound (Section p) r now o mid left is after sound holds = holds
-read-sound (Pes p) r now o mid left is after sound holds = holds
+read-sound set r now o mid left is after = sound_by set o left (λ none. rw (after, is, none) refl)
 
 -- ------ a Poll
 
@@ -47,13 +47,8 @@ pub poll-after : (k : Knows) (now : ℕ) (mid : Option Ledger) (r : Response) �
     → record k { facts = record k.facts { ledger = mid } } ≡ next k 0 (Poll now) r
 poll-after k now mid r ok is = rw (ok, is) refl
 
-none-polled : (timeout now : ℕ) (o mid : Option Ledger) → mid ≡ option_map (expiring timeout now) o → o ≡ None → mid ≡ None
-none-polled timeout now o mid is none = rw (is, none) refl
-
 pub poll-sound : (set : Params) (now : ℕ) (o mid : Option Ledger) → mid ≡ option_map (expiring (timeout_of set) now) o → IsSoundBy set o → CoherentIn mid → IsSoundBy set mid
-poll-sound Empty now o mid is sound holds = none-polled 0 now o mid is sound
-poll-sound (Section p) now o mid is sound holds = holds
-poll-sound (Pes p) now o mid is sound holds = holds
+poll-sound set now o mid is = sound_by set o mid (λ none. rw (is, none) refl)
 
 -- ------ a Pass
 

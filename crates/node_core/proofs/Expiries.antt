@@ -1,7 +1,5 @@
 -- The expiry at an entry, by the ledger before it.
-use Rattle.node_core.proofs.Imports.{ℕ, ◌+◌, ◌≡◌, refl, sym, ◌∙◌, ap, Bool, true, false, ◌||◌, Option, Some, None, if◌then◌else◌, not, ◌&&◌, nat_eq, nat_le, is_some, option_or, History, Params, params, timeout_of, Ledger, expired_then, expiring}
-use Rattle.dmx_calls.specs.Items.{expiry}
-use Rattle.dmx_calls.specs.Rules.{expired}
+use Rattle.node_core.proofs.Imports.{ℕ, ◌+◌, ◌≡◌, refl, sym, ◌∙◌, ap, Bool, true, false, ◌||◌, Option, Some, None, if◌then◌else◌, not, ◌&&◌, nat_eq, nat_le, is_some, option_or, History, Params, params, timeout_of, Ledger, expired_then, expiring, expiry, expired}
 
 -- without a timeout nothing expires
 pub never : (h : History) → nat_eq (timeout_of (params h)) 0 ≡ true → expired h ≡ None

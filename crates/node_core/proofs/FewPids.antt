@@ -1,16 +1,9 @@
 -- A filter that doesn't take several PIDs has one at most.
-use Rattle.node_core.proofs.Imports.{ℕ, ◌≡◌, ◌≤◌, Bool, true, false, List, [], ◌∷◌, length, None, arith, not, nat_eq, nat_lt, nat_tests, TsTap, TsdemuxTap, Tap, Decoder, Output, Params, Empty, Section, Pes, PesParams, Facts, add_refusal, is_allocated, is_pes, state_of, refl, sym, subst, ◌||◌, if◌then◌else◌, AddPid, Option, Some}
-use Rattle.std.proofs.Common.{Result, Ok, Err, OnOk, OnErr}
+use Rattle.node_core.proofs.Imports.{ℕ, ◌≡◌, ◌≤◌, Bool, true, false, List, [], ◌∷◌, length, None, arith, not, nat_eq, nat_lt, nat_tests, TsdemuxTap, Output, Params, Empty, Section, Pes, PesParams, Facts, add_refusal, is_allocated, is_pes, state_of, refl, sym, subst, ◌||◌, if◌then◌else◌, AddPid, Option, Some, is_recording, Result, Ok, Err, OnOk, OnErr, ALL_PACKETS, Errno, Einval, takes_many, HasFewPids}
 use Rattle.std.proofs.lemmas.List.Filters.{length-filter_both}
 use Rattle.pid_set.specs.Pids.{with_pid, without_pid}
-use Rattle.pid_set.specs.declared.set.TheConstants.{ALL_PACKETS}
 use Rattle.dmx_calls.specs.declared.node.NodeKind.TheVariants.{Demux}
-use Rattle.dmx_calls.specs.declared.reply.Errno.{Errno}
-use Rattle.dmx_calls.specs.declared.reply.Errno.TheVariants.{Einval}
-use Rattle.dmx_calls.specs.Answer.{is_recording}
-use Rattle.dmx_calls.specs.Refusal.{takes_many}
 use Rattle.node_buffer.specs.Inside.Gives.{owner_refusal}
-use Rattle.node_core.specs.Inside.Sound.{HasFewPids}
 
 -- one more is taken where none is there
 few_added : (set : Params) (pid : ℕ) (pids : List ℕ) → add_refusal set pids pid ≡ None → HasFewPids set pids → HasFewPids set (with_pid pid pids)
@@ -50,9 +43,7 @@ pub records_one : (f : Facts) → is_recording f ≡ true → takes_many f.param
 records_one f records = by_params f.params refl where
   by_output : (p : PesParams) (output : Output) → f.params ≡ Pes p → p.output ≡ output → takes_many (Pes p) ≡ false
   by_output p TsdemuxTap set is = let no = rw (set, is) at records in absurd (cc no)
-  by_output p TsTap set is = rw is refl
-  by_output p Tap set is = rw is refl
-  by_output p Decoder set is = rw is refl
+  by_output p _ set is = rw is refl
 
   by_params : (set : Params) → f.params ≡ set → takes_many f.params ≡ false
   by_params Empty set = rw set refl

@@ -1,16 +1,12 @@
-pub mod WholeSections
 pub mod Looking
-pub mod Offered
 pub mod Expiries
 pub mod Offerings
 pub mod Takings
 pub mod Moves
-pub mod Begins
 pub mod Passes
 pub mod Reading
 pub mod Cases
 pub mod Standing
-pub mod Causing
 pub mod ByValues
 pub mod FewPids
 pub mod Imports

@@ -1,11 +1,8 @@
 -- A section filter that is offered the packets of its PID alone selects as if it were offered all.
-use Rattle.node_core.proofs.Imports.{◌≡◌, ℕ, ◌||◌, Bool, true, false, List, [], ◌∷◌, ◌++◌, Option, Some, None, refl, sym, ap, subst, ◌∙◌, if◌then◌else◌, fold, filter-append, pid_of, unit_start, is_usable, carried, ALL_PACKETS, Assembly, cleared, repeats_last, joins_last, taken, opened, longer, pointed, Choice, Selecting, Selects, Follows, SetParams, EmptySet, SectionSet, PesSet, Params, Empty, Section, Pes, params_of, pids_of, is_named, Kept, Tenure, knows_in, knows_of, choice_of, is_offered}
+use Rattle.node_core.proofs.Imports.{◌≡◌, ℕ, ◌||◌, Bool, true, false, List, [], ◌∷◌, ◌++◌, Option, Some, None, refl, sym, ap, subst, ◌∙◌, if◌then◌else◌, fold, filter-append, pid_of, unit_start, is_usable, carried, ALL_PACKETS, Assembly, cleared, repeats_last, joins_last, taken, opened, longer, pointed, Choice, Selecting, Selects, Follows, SetParams, EmptySet, SectionSet, PesSet, Params, Empty, Section, Pes, params_of, pids_of, is_named, Kept, Tenure, knows_in, knows_of, choice_of, is_offered, clean, sections, items_of}
 use Rattle.std.proofs.Common.{not, nat_eq}
 use Rattle.std.specs.List.{filter}
-use Rattle.ts_packet.specs.Clean.{clean}
 use Rattle.section_parse.specs.Inside.Keeping.{after_packet, all_given, kept}
-use Rattle.section_parse.specs.Sections.{sections}
-use Rattle.item_select.specs.Items.{items_of}
 use Rattle.node_core.proofs.Offerings.{all_offered}
 
 -- ------ the PIDs of a node

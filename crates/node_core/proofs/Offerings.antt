@@ -1,8 +1,7 @@
 -- What a history offers to its selector, and the items that it selects.
-use Rattle.node_core.proofs.Imports.{ℕ, ◌≡◌, refl, sym, ◌∙◌, ap, true, List, [], ◌∷◌, ◌++◌, None, filter_map, append-nil, filter_map-append, Output, Decoder, Tap, TsTap, TsdemuxTap, SectionParams, PesParams, Event, History, Params, Empty, Section, Pes, params, pids, packets_in, packets_of, is_named, item_of, pes_items, selected, offered, Frontend, Give, Payload, Whole, Packets, given_by, Selecting, Selects, choice_by, choice_of, offers}
+use Rattle.node_core.proofs.Imports.{ℕ, ◌≡◌, refl, sym, ◌∙◌, ap, true, List, [], ◌∷◌, ◌++◌, None, filter_map, append-nil, filter_map-append, Output, Decoder, Tap, TsTap, TsdemuxTap, SectionParams, PesParams, Event, History, Params, Empty, Section, Pes, params, pids, packets_in, packets_of, is_named, item_of, pes_items, selected, offered, Frontend, Give, Payload, Whole, Packets, given_by, Selecting, Selects, choice_by, choice_of, offers, is_selected, items_of}
 use Rattle.std.specs.List.{filter}
 use Rattle.dmx_calls.specs.Items.{selects, section_items, items}
-use Rattle.item_select.specs.Items.{is_selected, items_of}
 
 -- ------ section filters
 

@@ -1,11 +1,27 @@
 -- The same for a Read.
-use Rattle.node_core.proofs.Imports.{ℕ, ◌+◌, ◌-◌, ◌<◌, ◌≤◌, ◌≡◌, refl, sym, ◌∙◌, ap, subst, Bool, true, false, List, [], ◌∷◌, ◌++◌, Option, Some, None, length, take, drop, arith, length-take, length-drop, add_comm, zero-add, drop-drop, sub-add_cancel, if◌then◌else◌, nat_lt, All, concat, nat_tests, append-nil, drop-append-le, concat-append, take-append_seam, drop_of_length-le, dec_le, all_front, IsSection, SectionParams, Read, Response, Data, Again, Overflow, TimedOut, Passed, is_accepted, Entry, History, entry_of, Since, tenure, Params, Empty, Section, Pes, params, pids, capture, timeout_of, items, demux, Misfit, keeps, edge_of, answered, over, Ledger, unread_of, rest_of_item, rest_of, ledger_at, is_section, ReadTerms, read_terms, most_bytes, read_response, Stays, demux_keeps, rest_of-end, edge_then, IsCut, cut_of, read_each, expired_then, facts_goes, ledger_still, ledger_told, stays_read, pids_stay, Selecting, expiring, front_length, rest_behind, with_response, HasSelected, Coherent, IsSound, placed_in, around_edge, rest_before, rest_none, rest_read}
-use Rattle.dmx_calls.specs.Ledger.{joined, total, edge}
+use Rattle.node_core.proofs.Imports.{ℕ, ◌+◌, ◌-◌, ◌<◌, ◌≤◌, ◌≡◌, refl, sym, ◌∙◌, ap, subst, Bool, true, false, List, [], ◌∷◌, ◌++◌, Option, Some, None, length, take, drop, arith, length-take, length-drop, add_comm, zero-add, drop-drop, sub-add_cancel, if◌then◌else◌, nat_lt, All, concat, nat_tests, append-nil, drop-append-le, concat-append, take-append_seam, drop_of_length-le, dec_le, all_front, IsSection, SectionParams, Read, Response, Data, Again, Overflow, TimedOut, Passed, is_accepted, Entry, History, entry_of, Since, tenure, Params, Empty, Section, Pes, params, pids, capture, timeout_of, demux, Misfit, keeps, edge_of, answered, over, Ledger, unread_of, rest_of_item, rest_of, ledger_at, is_section, ReadTerms, read_terms, most_bytes, read_response, Stays, demux_keeps, rest_of-end, edge_then, IsCut, cut_of, read_each, expired_then, facts_goes, ledger_still, ledger_told, stays_read, pids_stay, Selecting, expiring, front_length, rest_behind, with_response, HasSelected, Coherent, IsSound, placed_in, around_edge, rest_before, rest_none, rest_read, All-filter, All-take, sections, are_whole, Frontend, Event, packets_of, selects, is_oneshot, offered, section_items, joined, total, edge}
 use Rattle.dmx_calls.specs.Facts.{facts}
-use Rattle.node_core.proofs.WholeSections.{items_whole}
+use Rattle.dmx_calls.specs.Items.{items}
 use Rattle.node_core.proofs.Expiries.{never, expiring_is}
 use Rattle.node_core.proofs.Takings.{selected_goes, selected_quiet}
 use Rattle.node_core.proofs.Moves.{known, Moves, coherent}
+use Rattle.std.specs.List.{filter}
+
+-- ------ The items of a section filter are whole sections
+
+all_if : (b : Bool) (xs : List (List ℕ)) → All IsSection xs → All IsSection (if b then take 1 xs else xs)
+all_if true xs all = All-take IsSection 1 xs all
+all_if false xs all = all
+
+whole_items : (p : SectionParams) (evs : List Event) → All IsSection (section_items p evs)
+unfolding section_items
+whole_items p evs =
+    all_if (is_oneshot p) (filter (selects p) (sections (packets_of Frontend evs) p.pid))
+    (All-filter (selects p) IsSection (sections (packets_of Frontend evs) p.pid) (are_whole (packets_of Frontend evs) p.pid))
+
+pub items_whole : (h : History) (p : SectionParams) → params h ≡ Section p → All IsSection (items h)
+unfolding items
+items_whole h p set = rw set (whole_items p (offered h))
 
 -- on a section filter no bytes behind the section are read
 abbrev pub StaysWithin : Params → (read rest : ℕ) → Type 0
@@ -90,11 +106,13 @@ module _ (h : History) (k : Selecting) (t s : Since) (who now count : ℕ) (held
       → l ≡ with_response (is_section (params h)) r (expiring (timeout_of (params h)) now (ledger_at demux h))
   stepped r l is = is ∙ ap (with_response (is_section (params h)) r) (expiring_is (params h) (ledger_at demux h) now (never h))
 
+  c : Coherent (ledger_at demux h)
+  c = coherent h k s sound runs
+
   ledger_read : (r : Response) → (ok : is_accepted r ≡ true) → ReadGives h r
       → ledger_at demux (entry_of who (Read now count) r ∷ h) ≡ with_response (is_section (params h)) r (expiring (timeout_of (params h)) now (ledger_at demux h))
   unfolding edge
   ledger_read _ ok (gives_bytes bytes fits) =
-      let c : Coherent (ledger_at demux h) = coherent h k s sound runs in
       stepped (Data bytes) _ (ledger_still (entry_of who (Read now count) (Data bytes)) h t s (stays_read h who (Data bytes) ok now count) held runs refl (around_edge demux h c).0 (placed_in demux h c) (λ input. refl)
       ∙ ap (λ rest. record (ledger_at demux h) {
         expired = expired_at;
@@ -103,19 +121,15 @@ module _ (h : History) (k : Selecting) (t s : Since) (who now count : ℕ) (held
         rest = rest;
       }) (rest_is h (length bytes) fits))
   ledger_read _ ok (gives_again ended) =
-      let c : Coherent (ledger_at demux h) = coherent h k s sound runs in
       stepped (Again ended) _ (ledger_still (entry_of who (Read now count) (Again ended)) h t s (stays_read h who (Again ended) ok now count) held runs refl (around_edge demux h c).0 (placed_in demux h c) (λ input. refl)
       ∙ rw (zero-add (answered demux h)) refl)
   ledger_read _ ok (gives_over item need room) =
-      let c : Coherent (ledger_at demux h) = coherent h k s sound runs in
       let r : Response = Overflow (answered demux h) (total demux h) item need room in
       stepped r _ (ledger_told (entry_of who (Read now count) r) h t s (stays_read h who r ok now count) held runs refl (λ input. refl) (sub-add_cancel c.answered))
   ledger_read _ ok (gives_timeout a b d) =
-      let c : Coherent (ledger_at demux h) = coherent h k s sound runs in
       stepped (TimedOut a b d) _ (ledger_still (entry_of who (Read now count) (TimedOut a b d)) h t s (stays_read h who (TimedOut a b d) ok now count) held runs refl (around_edge demux h c).0 (placed_in demux h c) (λ input. refl)
       ∙ rw (zero-add (answered demux h)) refl)
   ledger_read _ ok gives_nothing =
-      let c : Coherent (ledger_at demux h) = coherent h k s sound runs in
       stepped Passed _ (ledger_still (entry_of who (Read now count) Passed) h t s (stays_read h who Passed ok now count) held runs refl (around_edge demux h c).0 (placed_in demux h c) (λ input. refl)
       ∙ rw (zero-add (answered demux h)) refl)
 
@@ -144,15 +158,14 @@ none_within (Pes p) rest = tt
 none_within (Section p) rest = omega arith
 
 -- in a capture, whatever its expiry is
-pub read_shape : (h : History) (expired : Option ℕ) (count : ℕ)
-    → ReadGives h (read_response (facts demux h) (Some (ledger_at demux h)) expired count) × (is_accepted (read_response (facts demux h) (Some (ledger_at demux h)) expired count) ≡ true)
+pub read_gives : (h : History) (expired : Option ℕ) (count : ℕ) → ReadGives h (read_response (facts demux h) (Some (ledger_at demux h)) expired count)
 unfolding facts
-read_shape h expired count =
+read_gives h expired count =
     let l : Ledger = ledger_at demux h in
     let t : ReadTerms = read_terms (facts demux h) in
-    read_each (λ r. ReadGives h r × (is_accepted r ≡ true)) t l expired count
-    (λ x is none. (gives_over x.item x.need x.room, refl))
-    (λ moment is. (gives_timeout l.started moment t.timeout, refl))
-    (gives_bytes [] (none_within (params h) l.rest), refl)
-    (gives_again t.has_ended, refl)
-    (gives_bytes (take (most_bytes t.by_section l count) l.unread) (stays_within (params h) l count l.unread), refl)
+    read_each (ReadGives h) t l expired count
+    (λ x is none. gives_over x.item x.need x.room)
+    (λ moment is. gives_timeout l.started moment t.timeout)
+    (gives_bytes [] (none_within (params h) l.rest))
+    (gives_again t.has_ended)
+    (gives_bytes (take (most_bytes t.by_section l count) l.unread) (stays_within (params h) l count l.unread))

@@ -67,10 +67,8 @@ take_in k before given packets true true ready spent has = (rw (append-nil given
 take_in k before given packets true false ready spent has = let all = all-selects packets before given k has ready in (all.stands, all.drained, all.choice)
 
 and_apart : (a b c d : Bool) → (a && (b && (c && not d))) ≡ ((a && (b && c)) && not d)
-and_apart false b c d = refl
-and_apart true false c d = refl
-and_apart true true false d = refl
 and_apart true true true d = refl
+and_apart _ _ _ d = refl
 
 if_both : (a b : Bool) (packets : List (List ℕ)) → (if b then (if a then packets else []) else []) ≡ (if a && b then packets else [])
 if_both true true packets = refl

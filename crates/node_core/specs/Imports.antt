@@ -1,5 +1,5 @@
 -- The words of others that the definitions and clauses of this crate use.
-pub use Rattle.dmx_calls.specs.Answer.{answer_by, done_dropping, is_for_anybody, is_recording, is_section, response_to}
+pub use Rattle.dmx_calls.specs.Answer.{done_dropping, is_for_anybody, is_recording, is_section, response_to}
 pub use Rattle.dmx_calls.specs.Back.{GivesBack}
 pub use Rattle.dmx_calls.specs.Calls.{invocation_of, params_of, pids_of, response_of}
 pub use Rattle.dmx_calls.specs.Capture.{capture, has_flag}
@@ -27,6 +27,5 @@ pub use Rattle.node_buffer.specs.Inside.Capturing.{with_items}
 pub use Rattle.node_buffer.specs.Inside.Coherent.{CoherentIn, total_of}
 pub use Rattle.node_buffer.specs.Inside.Gives.{GivesBy, OrNoMemory, is_close, owner_refusal}
 pub use Rattle.pid_set.specs.Pids.{with_pid, without_pid}
-pub use Rattle.std.proofs.lemmas.List.{length-reverse}
 pub use Rattle.ts_batch.specs.Places.{is_in}
 pub use Rattle.ts_packet.specs.Fields.{IsPacket}

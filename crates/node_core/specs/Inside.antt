@@ -5,4 +5,3 @@ pub mod KeptView
 pub mod Gives
 pub mod Step
 pub mod Sound
-pub mod Counts

@@ -148,11 +148,11 @@ impl NodeCore {
 
 /// A history of the machine has its oldest entry first, and one of the node its newest.
 impl Machine for NodeCore {
-    ghost use Rattle.std.specs.Prelude.{refl, reverse};
+    ghost use Rattle.std.proofs.Common.{refl, reverse, ◌∙◌};
+    ghost use Rattle.std.proofs.lemmas.List.{length-reverse};
     ghost use Rattle.dmx_calls.specs.Back.{GivesBack};
     ghost use Rattle.dmx_calls.specs.Entries.{told, caller_of, packets_of};
     ghost use Rattle.node_core.specs.Stands.{StandsFor};
-    ghost use Rattle.node_core.specs.Inside.Counts.{counted};
 
     type Call = Call;
 
@@ -178,5 +178,5 @@ impl Machine for NodeCore {
 
     ghost names = { λ who call answer. refl };
 
-    ghost counts = { counted };
+    ghost counts = { λ m h is. is.count ∙ length-reverse h };
 }

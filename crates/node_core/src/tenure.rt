@@ -133,7 +133,7 @@ impl Tenure {
             Call::Start { now } => plain(self.start(now)),
             Call::Stop => plain(self.stop()),
             Call::SetSize(size) => plain(self.set_size(alloc, size)),
-            Call::Read { now, buf } => plain(self.read(ended, now, buf)),
+            Call::Read { now, room } => plain(self.read(ended, now, room)),
             Call::Poll { now } => plain(self.poll(ended, now)),
             Call::Open
             | Call::Close

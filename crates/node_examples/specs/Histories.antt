@@ -1,7 +1,7 @@
 -- Histories that are made of the feeder's calls and the clients' entries.
 use Rattle.std.specs.Prelude.{ℕ, ◌≡◌, List, [], ◌∷◌}
-use Rattle.node_examples.specs.Imports.{Act, Data, Done, Fed, Frontend, Keep as KeepTap, LogEntry, Passed, Response, feeder_acts, woven}
-use Rattle.dmx_calls.specs.declared.log.Act.TheVariants.{Open as OpenAct, Read as ReadAct, Pass as PassAct, End as EndAct}
+use Rattle.node_examples.specs.Imports.{Act, Data, Done, Fed, Frontend, Keep as KeepTap, LogEntry, Passed, Response, feeder_acts, passing, woven}
+use Rattle.dmx_calls.specs.declared.call.Call.TheVariants.{Open as OpenAct, Read as ReadAct, End as EndAct}
 
 -- two batches pass, of 64 packets and of 1
 abbrev pub two_batches : List Fed
@@ -27,9 +27,9 @@ CallsBetweenBatches =
     ∷ entry 5 5 2 (ReadAct 6 9) (Data [])
     ∷ [])
     ≡ entry 0 0 2 OpenAct (Done 0 0 KeepTap)
-    ∷ entry 1 0 0 (PassAct Frontend 0 64 5) Passed
+    ∷ entry 1 0 0 (passing Frontend 0 64 5) Passed
     ∷ entry 2 4 2 (ReadAct 5 9) (Data [])
-    ∷ entry 3 1 0 (PassAct Frontend 64 1 6) Passed
+    ∷ entry 3 1 0 (passing Frontend 64 1 6) Passed
     ∷ entry 4 2 0 EndAct Passed
     ∷ entry 5 5 2 (ReadAct 6 9) (Data [])
     ∷ []
@@ -38,8 +38,8 @@ CallsBetweenBatches =
 abbrev pub FeederAlone : Type 0
 FeederAlone =
     woven 3 (feeder_acts two_batches) []
-    ≡ entry 0 0 0 (PassAct Frontend 0 64 5) Passed
-    ∷ entry 1 1 0 (PassAct Frontend 64 1 6) Passed
+    ≡ entry 0 0 0 (passing Frontend 0 64 5) Passed
+    ∷ entry 1 1 0 (passing Frontend 64 1 6) Passed
     ∷ entry 2 2 0 EndAct Passed
     ∷ []
 

@@ -7,7 +7,7 @@ pub use Rattle.dmx_calls.specs.History.{Entry, History, entry_of}
 pub use Rattle.dmx_calls.specs.Invocation.{AddPid, Attach, Close, Detach, End, Invocation, Open, Pass, Poll, Read, RemovePid, SetFilter, SetPes, SetSize, Start, Stop}
 pub use Rattle.dmx_calls.specs.Items.{items}
 pub use Rattle.dmx_calls.specs.Ledger.{answered, over, total}
-pub use Rattle.dmx_calls.specs.Log.{Act, LogEntry}
+pub use Rattle.dmx_calls.specs.Log.{Act, LogEntry, passing}
 pub use Rattle.dmx_calls.specs.Response.{Again, Busy, Data, Done, Overflow, Passed, Ready, Refused, Response, TimedOut}
 pub use Rattle.dmx_calls.specs.Rules.{demux, dvr}
 pub use Rattle.dmx_calls.specs.declared.histories.Fed.{Fed}

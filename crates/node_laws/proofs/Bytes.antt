@@ -1,8 +1,5 @@
 -- A node answers no more bytes than its passes bring.
-use Rattle.node_laws.proofs.Imports.{ℕ, ◌+◌, ◌*◌, ◌≤◌, ◌≡◌, refl, sym, ap, ◌∙◌, subst, Bool, true, false, List, [], ◌∷◌, ◌++◌, Option, Some, None, length, drop, take, arith, length-drop, length-append, if◌then◌else◌, nat_eq, nat_le, filter, filter_map, sum_by, option_or, IfSome, All, concat, list_any, concat-append, sum_by-cons, All-filter, All-append, All-head, All-tail, all_front, all_behind, IsPacket, payload_start, has_payload, sections, fit, Input, Frontend, Output, Decoder, Tap, TsTap, TsdemuxTap, SectionParams, PesParams, Invocation, brought, Open, Close, SetFilter, SetPes, AddPid, RemovePid, Start, Stop, SetSize, Read, Poll, Pass, End, Attach, Detach, Response, Done, Busy, Refused, NoMemory, Data, Again, Overflow, TimedOut, Ready, Passed, is_accepted, Entry, Event, History, is_empty, event, after_of, entry_of, brought_by, Params, Empty, Section, Pes, params, pids, capture, stops, unstopped, started, dvr_capture, packets_in, packets_of, selects, is_oneshot, picked, pes_items, item_of, is_named, selected, timeout_of, clock_of, Expiry, expiry_at, expiry_in, offered_of, is_same_input, is_tapped, tapped, Rules, demux, dvr, answered_in, facts, with_call, May, IsLegalFor, Fits, bytes_answered, AnswersFitThePackets, answered_more, total_more, Goes, gone, anew, onward, Keeps, demux_keeps, dvr_keeps}
-use Rattle.dmx_calls.specs.Capture.{live}
-use Rattle.dmx_calls.specs.Items.{section_items, expiry, offered, items}
-use Rattle.dmx_calls.specs.Taps.{dvr_items}
+use Rattle.node_laws.proofs.Imports.{ℕ, ◌+◌, ◌*◌, ◌≤◌, ◌≡◌, refl, sym, ap, ◌∙◌, subst, Bool, true, false, List, [], ◌∷◌, ◌++◌, Option, Some, None, length, drop, take, arith, length-drop, length-append, if◌then◌else◌, nat_eq, nat_le, filter, filter_map, sum_by, option_or, IfSome, All, concat, list_any, concat-append, sum_by-cons, All-filter, All-append, All-head, All-tail, all_front, all_behind, IsPacket, payload_start, has_payload, sections, fit, Input, Frontend, Output, Decoder, Tap, TsTap, TsdemuxTap, SectionParams, PesParams, Invocation, brought, Open, Close, SetFilter, SetPes, AddPid, RemovePid, Start, Stop, SetSize, Read, Poll, Pass, End, Attach, Detach, Response, Done, Busy, Refused, NoMemory, Data, Again, Overflow, TimedOut, Ready, Passed, is_accepted, Entry, Event, History, is_empty, event, after_of, entry_of, brought_by, Params, Empty, Section, Pes, params, pids, capture, stops, unstopped, started, dvr_capture, packets_in, packets_of, selects, is_oneshot, picked, pes_items, item_of, is_named, selected, timeout_of, clock_of, Expiry, expiry_at, expiry_in, offered_of, is_same_input, is_tapped, tapped, Rules, demux, dvr, answered_in, facts, with_call, May, IsLegalFor, Fits, bytes_answered, AnswersFitThePackets, answered_more, total_more, Goes, gone, anew, onward, Keeps, demux_keeps, dvr_keeps, live, section_items, expiry, offered, items, dvr_items}
 use Rattle.dmx_calls.specs.Ledger.{joined, total, answered}
 use Rattle.node_laws.proofs.Fitting.{allowed_response, response_fits, answers_unread}
 use Rattle.node_laws.proofs.Pending.{Pending, within, pending}

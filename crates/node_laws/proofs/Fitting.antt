@@ -1,7 +1,6 @@
 -- An answer fits: it gives the next bytes up to the edge, or names those that are lost from there on.
-use Rattle.node_laws.proofs.Imports.{ℕ, zero, suc, ◌≤◌, ◌≡◌, refl, sym, ◌∙◌, ap, Bool, true, false, List, [], ◌∷◌, ◌++◌, Option, Some, None, length, drop, take, arith, inl, inr, length-take, length-drop, ◌+◌, ◌-◌, if◌then◌else◌, nat_eq, take-append-le, drop-append-le, drop-nil, dec_le, Errno, Invocation, Open, Close, SetFilter, SetPes, AddPid, RemovePid, Start, Stop, SetSize, Read, Poll, Pass, End, Attach, Detach, Response, Done, Busy, Refused, NoMemory, Data, Again, Overflow, TimedOut, Ready, Passed, is_accepted, TapChange, Event, History, is_empty, event, entry_of, Since, Rules, joined, answered, edge, answered_in, is_overflow, Ledger, Facts, unread_of, ledger_at, ledger_of, ReadTerms, read_terms, refusal_to, most_bytes, response_of_read, expired_of, open_response, done_dropping, response_to, response_unless, with_call, May, Fits, AllFit, read_each}
+use Rattle.node_laws.proofs.Imports.{ℕ, zero, suc, ◌≤◌, ◌≡◌, refl, sym, ◌∙◌, ap, Bool, true, false, List, [], ◌∷◌, ◌++◌, Option, Some, None, length, drop, take, arith, inl, inr, length-take, length-drop, ◌+◌, ◌-◌, if◌then◌else◌, nat_eq, take-append-le, drop-append-le, drop-nil, dec_le, Errno, Invocation, Open, Close, SetFilter, SetPes, AddPid, RemovePid, Start, Stop, SetSize, Read, Poll, Pass, End, Attach, Detach, Response, Done, Busy, Refused, NoMemory, Data, Again, Overflow, TimedOut, Ready, Passed, is_accepted, TapChange, Event, History, is_empty, event, entry_of, Since, Rules, joined, answered, edge, answered_in, is_overflow, Ledger, Facts, unread_of, ledger_at, ledger_of, ReadTerms, read_terms, refusal_to, most_bytes, response_of_read, expired_of, open_response, done_dropping, response_to, response_unless, with_call, May, Fits, AllFit, read_each, facts}
 use Rattle.dmx_calls.specs.Ledger.{total}
-use Rattle.dmx_calls.specs.Facts.{facts}
 use Rattle.dmx_calls.specs.Answer.{answer}
 
 -- ------ lists

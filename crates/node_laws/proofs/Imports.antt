@@ -5,16 +5,22 @@ pub use Rattle.dmx_calls.proofs.Nodes.{Goes, Keeps, anew, demux_keeps, dvr_keeps
 pub use Rattle.dmx_calls.proofs.Reading.{read_each}
 pub use Rattle.dmx_calls.specs.Accounted.{AllFit, DropsRest, Fits}
 pub use Rattle.dmx_calls.specs.Answer.{ReadTerms, done_dropping, expired_of, is_for_anybody, is_owned_by, most_bytes, open_response, read_terms, refusal_to, response_of_read, response_to, response_unless, with_call}
-pub use Rattle.dmx_calls.specs.Capture.{capture, dvr_capture, started, stops, unstopped}
-pub use Rattle.dmx_calls.specs.Facts.{Facts, Ledger, facts, ledger_at, ledger_of, unread_of}
+pub use Rattle.dmx_calls.specs.Capture.{capture, started, stops, unstopped}
+unfoldable pub use Rattle.dmx_calls.specs.Capture.{dvr_capture, live}
+pub use Rattle.dmx_calls.specs.Facts.{Facts, Ledger, ledger_at, ledger_of, unread_of}
+unfoldable pub use Rattle.dmx_calls.specs.Facts.{facts}
 pub use Rattle.dmx_calls.specs.History.{Event, after_of, entry_of, is_empty}
 pub use Rattle.dmx_calls.specs.Invocation.{AddPid, Attach, Close, Detach, End, Invocation, Open, Pass, Poll, RemovePid, SetFilter, SetPes, SetSize, Start, Stop, brought}
 pub use Rattle.dmx_calls.specs.Items.{Expiry, clock_of, expiry_at, expiry_in, is_named, is_oneshot, is_same_input, item_of, offered_of, packets_in, packets_of, pes_items, picked, selected, selects, timeout_of}
-pub use Rattle.dmx_calls.specs.Ledger.{edge, edge_of, is_overflow, joined, keeps, misfit, misfit_at, over_in}
+unfoldable pub use Rattle.dmx_calls.specs.Items.{expiry, items, offered, section_items}
+pub use Rattle.dmx_calls.specs.Ledger.{edge, edge_of, is_overflow, keeps, misfit, misfit_at, over_in}
+unfoldable pub use Rattle.dmx_calls.specs.Ledger.{joined, over}
 pub use Rattle.dmx_calls.specs.Legal.{is_done}
 pub use Rattle.dmx_calls.specs.Response.{Again, Busy, Data, Done, NoMemory, Overflow, Passed, Ready, TapChange, TimedOut, is_accepted}
 pub use Rattle.dmx_calls.specs.Taps.{is_tapped, tapped}
+unfoldable pub use Rattle.dmx_calls.specs.Taps.{dvr_items}
 pub use Rattle.dmx_calls.specs.Tenure.{Empty, Params, Pes, Section, closes, opens, params, pids, tenure}
+unfoldable pub use Rattle.dmx_calls.specs.Tenure.{owner}
 pub use Rattle.dmx_calls.specs.declared.params.Input.{Input}
 pub use Rattle.dmx_calls.specs.declared.params.Input.TheVariants.{Frontend}
 pub use Rattle.dmx_calls.specs.declared.params.Output.{Output}

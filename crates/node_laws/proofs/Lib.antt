@@ -1,5 +1,4 @@
 pub mod Fitting
-pub mod Accounting
 pub mod LawsHold
 pub mod Bytes
 pub mod Owning

@@ -1,8 +1,6 @@
 -- Nobody but its owner reads a node, and it stays its owner's until the owner closes it.
-use Rattle.node_laws.proofs.Imports.{ℕ, ◌≡◌, refl, sym, ◌∙◌, ap, subst, Bool, true, false, [], ◌∷◌, ◌++◌, Option, Some, None, arith, inl, inr, ◌≢◌, option_map, nat_tests, Ebadf, Invocation, Open, Close, SetFilter, SetPes, AddPid, RemovePid, Start, Stop, SetSize, Read, Poll, Pass, End, Attach, Detach, Response, Busy, Refused, is_accepted, Entry, History, event, Since, entry_of, opens, closes, Rules, is_for_anybody, is_owned_by, open_response, May, IsLegalFor, is_done, OthersLeaveTheOwner, OthersDoNotRead, AreOthers, HasRead, ReadersCallBetween, tenure_refused, tenure_after, owner_after, owner_some}
+use Rattle.node_laws.proofs.Imports.{ℕ, ◌≡◌, refl, sym, ◌∙◌, ap, subst, Bool, true, false, [], ◌∷◌, ◌++◌, Option, Some, None, arith, inl, inr, ◌≢◌, option_map, nat_tests, Ebadf, Invocation, Open, Close, SetFilter, SetPes, AddPid, RemovePid, Start, Stop, SetSize, Read, Poll, Pass, End, Attach, Detach, Response, Busy, Refused, is_accepted, Entry, History, event, Since, entry_of, opens, closes, Rules, is_for_anybody, is_owned_by, open_response, May, IsLegalFor, is_done, OthersLeaveTheOwner, OthersDoNotRead, AreOthers, HasRead, ReadersCallBetween, tenure_refused, tenure_after, owner_after, owner_some, facts, owner}
 use Rattle.std.proofs.Common.{nat_eq}
-use Rattle.dmx_calls.specs.Tenure.{owner}
-use Rattle.dmx_calls.specs.Facts.{facts}
 use Rattle.dmx_calls.specs.Answer.{answer}
 use Rattle.node_laws.proofs.Fitting.{allowed_response}
 

@@ -12,7 +12,7 @@ pub use Rattle.node_lock.specs.declared.view.Miss.{Miss}
 pub use Rattle.node_lock.specs.declared.view.Stage.{Stage}
 pub use Rattle.node_lock.specs.declared.view.Stage.TheVariants.{Drawn, Free, Turn}
 pub use Rattle.node_lock.specs.declared.view.View.{View}
-pub use Rattle.std.proofs.Common.{Bool, List, None, Option, Some, [], ap, append_assoc, ap₂, arith, cond, eq-eqb, eqb, false, get_or, inl, inr, length, length-append, length-set, lt_of_not-le, mod-eq_of_lt, nat_lt, ne_eqb, refl, rules, set, slice_get, subst, suc, sym, true, vec_capacity, vec_len, zero, ℕ, ⊎_elim, ◌%◌, ◌*◌, ◌++◌, ◌+◌, ◌-◌, ◌<◌, ◌^◌, ◌∙◌, ◌∷◌, ◌≡◌, ◌≢◌, ◌≤◌, ◌⊎◌}
+pub use Rattle.std.proofs.Common.{Bool, List, None, Option, Some, [], ap, append_assoc, ap₂, arith, cond, eq-eqb, eqb, false, get_or, inl, inr, length, length-append, length-set, lt_of_not-le, mod-eq_of_lt, nat_lt, ne_eqb, refl, rules, set, subst, suc, sym, true, vec_capacity, vec_len, zero, ℕ, ⊎_elim, ◌%◌, ◌*◌, ◌++◌, ◌+◌, ◌-◌, ◌<◌, ◌^◌, ◌∙◌, ◌∷◌, ◌≡◌, ◌≢◌, ◌≤◌, ◌⊎◌}
 pub use Rattle.std.proofs.lemmas.Bool.Decides.{nat_tests}
 pub use mathlib.Core.Logic.{dite}
 pub use mathlib.Core.Option.{some-injective, some-ne-none}

@@ -1,11 +1,10 @@
 -- The histories of a run are those that its report stands for.
-use Rattle.report_check.proofs.Imports.{◌≡◌, ◌≤◌, refl, sym, ap, ◌∙◌, ℕ, suc, List, [], ◌∷◌, Bool, true, false, nat_eq, length, map, arith, nat_tests, list_any, LogEntry, Act, Response, Passed, Step, is_of_client, ToldNode, shown, renumbered, complete}
+use Rattle.report_check.proofs.Imports.{◌≡◌, ◌≤◌, refl, sym, ap, ◌∙◌, ℕ, suc, List, [], ◌∷◌, Bool, true, false, nat_eq, length, map, arith, nat_tests, list_any, LogEntry, Act, Response, Passed, Step, is_of_client, ToldNode, shown, renumbered, complete, step_of, NoMemory}
 
 -- ------ one node
 
--- a call with its number
-abbrev pub step_of : LogEntry → Step
-step_of e = record { step = e.step; act = e.act }
+pub apart : Passed ≡ NoMemory → ⊥
+apart same = absurd (cc)
 
 -- entries of the feeder alone, on this node, each at its place
 abbrev pub AreFeeders : (node place : ℕ) → List LogEntry → Type 0

@@ -1,9 +1,10 @@
 -- Where no client called a node, a run in batches of 64 at moment 0 has the same report.
-use Rattle.report_check.proofs.Imports.{◌≡◌, ◌<◌, ◌≤◌, ◌+◌, ◌-◌, refl, sym, ap, subst, ◌∙◌, ℕ, zero, suc, List, [], ◌∷◌, ◌++◌, Bool, true, false, nat_eq, length, map, sum, min, arith, inl, append_assoc, append-nil, nat_tests, All-nil, All-cons, sum_by-cons, Some, None, slice_get, if◌then◌else◌, All, list_any, DEMUX_NODES, Outcome, Act, PassAct, EndAct, StreamHead, History, Response, Passed, NoMemory, Rules, rules_at, May, IsLegalFor, LogEntry, Sources, filled, filled_act, filled_entry, Scripted, next_event, Batch, feeding, steps_of, HasDone, IsRun, replies, sources, StandsIn, is_of_client, ToldNode, shown, renumbered, feeder_of, complete, told_by, filled_append}
+use Rattle.report_check.proofs.Imports.{◌≡◌, ◌<◌, ◌≤◌, ◌+◌, ◌-◌, refl, sym, ap, subst, ◌∙◌, ℕ, zero, suc, List, [], ◌∷◌, ◌++◌, Bool, true, false, nat_eq, length, map, sum, min, arith, inl, inr, append_assoc, append-nil, nat_tests, All-nil, All-cons, sum_by-cons, Some, None, slice_get, if◌then◌else◌, All, list_any, DEMUX_NODES, Outcome, Act, PassAct, EndAct, StreamHead, History, Response, Passed, Rules, rules_at, May, IsLegalFor, LogEntry, Sources, filled, filled_act, filled_entry, Scripted, next_event, Batch, feeding, steps_of, HasDone, IsRun, replies, sources, StandsIn, is_of_client, ToldNode, shown, renumbered, feeder_of, complete, told_by, filled_append, tiled, completed, step_of}
 use Rattle.std.proofs.Common.{nat_lt}
 use Rattle.dmx_calls.specs.Answer.{answer}
-use Rattle.report_check.specs.Completed.{tiled, completed}
-use Rattle.report_check.proofs.Completing.{step_of}
+use Rattle.report_check.proofs.Completing.{apart}
+use Rattle.report_check.proofs.Feeding.{Fits}
+use Rattle.report_check.proofs.Nodes.{TellsOrNot, complete_at, complete_long}
 use Rattle.report_check.proofs.Idle.{IsFeed, AllZero, uncalled}
 
 -- ------ the tiles
@@ -47,19 +48,16 @@ unfolding tiled tiles
 tiled_feeds zero first step packets = refl
 tiled_feeds (suc left) first step packets = tiled_one left first step packets (nat_lt first packets) refl (λ f s. tiled_feeds left f s packets)
 
-abbrev pub SizesFit : List Batch → Type 0
-SizesFit bs = All (λ b. (1 ≤ b.size) × (b.size ≤ 64)) bs
-
-sizes_one : (left first packets : ℕ) → SizesFit (tiles left (first + 64) packets) → (b : Bool) → nat_lt first packets ≡ b → SizesFit (tiles (suc left) first packets)
+sizes_one : (left first packets : ℕ) → All Fits (tiles left (first + 64) packets) → (b : Bool) → nat_lt first packets ≡ b → All Fits (tiles (suc left) first packets)
 unfolding tiles
-sizes_one left first packets later false t = rw t (All-nil (λ (b : Batch). (1 ≤ b.size) × (b.size ≤ 64)))
+sizes_one left first packets later false t = rw t (All-nil Fits)
 sizes_one left first packets later true t =
     let some : first < packets = grind (arith, nat_tests) in
-    rw t (All-cons (λ (b : Batch). (1 ≤ b.size) × (b.size ≤ 64)) (record { size = min 64 (packets - first); moment = 0 }) (tiles left (first + 64) packets) (omega arith, omega arith) later)
+    rw t (All-cons Fits (record { size = min 64 (packets - first); moment = 0 }) (tiles left (first + 64) packets) (omega arith, omega arith) later)
 
-pub sizes : (left first packets : ℕ) → SizesFit (tiles left first packets)
+pub sizes : (left first packets : ℕ) → All Fits (tiles left first packets)
 unfolding tiles
-sizes zero first packets = All-nil (λ (b : Batch). (1 ≤ b.size) × (b.size ≤ 64))
+sizes zero first packets = All-nil Fits
 sizes (suc left) first packets = sizes_one left first packets (sizes left (first + 64) packets) (nat_lt first packets) refl
 
 sum_one : (left first packets : ℕ) → (packets ≤ first + 64 + left → first + 64 ≤ packets → sum (map (λ (b : Batch). b.size) (tiles left (first + 64) packets)) + (first + 64) ≡ packets)
@@ -107,7 +105,7 @@ plain (suc left) first step packets = plain_one left first step packets (λ f s.
 
 goes : (node : Rules) (packets : Sources) (h : History) (who : ℕ) (a : Act) → IsFeed a → May node h who (filled_act (packets who) a) Passed
 unfolding answer
-goes node packets h who (PassAct input first count now) f = inl refl
+goes node packets h who (PassAct input batch now) f = inl refl
 goes node packets h who EndAct f = inl refl
 goes node packets h who _ f = absurd f
 
@@ -142,19 +140,13 @@ steps_there n place (e ∷ es) all =
 
 -- ------ the nodes
 
+-- a node of which no entries are told has the feeder's
 pub idle_at : (left node : ℕ) (feeder : List LogEntry) (i : ℕ) (h : List LogEntry) → slice_get (complete left node feeder []) i ≡ Some h → h ≡ renumbered (node + i) 0 feeder
-idle_at zero node feeder i h at = absurd (cc)
-idle_at (suc left) node feeder zero h at =
-    let same : renumbered node 0 feeder ≡ h = cc in
-    let start : node ≡ node + 0 = omega arith in
-    sym same ∙ ap (λ (n : ℕ). renumbered n 0 feeder) start
-idle_at (suc left) node feeder (suc i) h at =
-    let sum : suc node + i ≡ node + suc i = omega arith in
-    idle_at left (suc node) feeder i h at ∙ ap (λ (n : ℕ). renumbered n 0 feeder) sum
-
-pub idle_long : (left node : ℕ) (feeder : List LogEntry) → length (complete left node feeder []) ≡ left
-idle_long zero node feeder = refl
-idle_long (suc left) node feeder = rw (idle_long left (suc node) feeder) (omega arith)
+idle_at left node feeder i h at = by (complete_at left node feeder [] i h at)
+  where
+    by : TellsOrNot [] feeder (node + i) h → h ≡ renumbered (node + i) 0 feeder
+    by (inl is) = absurd (cc is.at)
+    by (inr same) = same
 
 uncalled_one : (node : ℕ) (h : List LogEntry) (hs : List (List LogEntry)) → (b : Bool) → list_any is_of_client h ≡ b → shown node (h ∷ hs) ≡ [] → (list_any is_of_client h ≡ false) × (shown (suc node) hs ≡ [])
 uncalled_one node h hs true t none = let some : record { node = node; entries = h } ∷ shown (suc node) hs ≡ [] = rw t at none in absurd (cc)
@@ -198,7 +190,7 @@ idle_runs script most packets head outcomes hs count run none =
     let all : ArePlain feeder = plain n 0 0 n in
     let is : complete (DEMUX_NODES + 1) 0 (feeder_of n (shown 0 hs)) (shown 0 hs) ≡ complete (DEMUX_NODES + 1) 0 feeder [] = ap (λ (nodes : List ToldNode). complete (DEMUX_NODES + 1) 0 (feeder_of n nodes) nodes) none in
     subst (λ (gs : List (List LogEntry)). IsRun script 64 packets gs) (sym is) (record {
-      nodes = idle_long (DEMUX_NODES + 1) 0 feeder;
+      nodes = complete_long (DEMUX_NODES + 1) 0 feeder [];
       places = λ node place h e at here.
           let same : h ≡ renumbered (0 + node) 0 feeder = idle_at (DEMUX_NODES + 1) 0 feeder node h at in
           let t = told_there (0 + node) 0 feeder all place e (subst (λ (es : List LogEntry). slice_get es place ≡ Some e) same here) in
@@ -234,6 +226,3 @@ idle_runs script most packets head outcomes hs count run none =
             ends = subst (λ (made : List LogEntry). next_event c script (replies made) ≡ None) (idle_made script c hs (uncalled_at 0 hs none) d) d.ends;
           };
     })
-  where
-    apart : Passed ≡ NoMemory → ⊥
-    apart same = absurd (cc)

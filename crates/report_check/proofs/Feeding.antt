@@ -1,5 +1,5 @@
 -- The feeder's calls pass the packets exactly where the test says so.
-use Rattle.report_check.proofs.Imports.{◌≡◌, ◌≤◌, ◌+◌, refl, sym, ap, ◌∙◌, ℕ, suc, List, [], ◌∷◌, Bool, true, false, nat_eq, map, sum, arith, nat_tests, All-head, All-tail, All-nil, All-cons, sum_by-cons, Option, Some, None, nat_le, ◌&&◌, if◌then◌else◌, All, Frontend, Act, PassAct, EndAct, Batch, Step, feeding, passed_behind, is_end, are_none, or_else, feeds, and_parts}
+use Rattle.report_check.proofs.Imports.{◌≡◌, ◌≤◌, ◌+◌, refl, sym, ap, ◌∙◌, ℕ, suc, List, [], ◌∷◌, Bool, true, false, nat_eq, map, sum, arith, nat_tests, All-head, All-tail, All-nil, All-cons, sum_by-cons, Option, Some, None, nat_le, ◌&&◌, if◌then◌else◌, All, Frontend, Act, PassAct, passing, EndAct, Batch, Step, feeding, passed_behind, is_end, are_none, or_else, feeds, and_parts}
 use Rattle.std.proofs.Common.{nat_lt}
 
 abbrev pub Fits : Batch → Type 0
@@ -19,12 +19,12 @@ pub record IsFeedingFrom (packets first step : ℕ) (ss : List Step) : Type 0 wh
 record IsNextPass (packets first next : ℕ) (act : Act) : Type 0 where
   count : ℕ
   now : ℕ
-  is : act ≡ PassAct Frontend first count now
+  is : act ≡ passing Frontend first count now
   fits : (1 ≤ count) × (count ≤ 64)
   sum_is : next ≡ first + count
 
 pass_by : (packets first next from count now : ℕ) → (b : Bool) → (nat_eq from first && (nat_lt 0 count && (nat_le count 64 && nat_le (first + count) packets))) ≡ b
-    → (if b then Some (first + count) else None) ≡ Some next → IsNextPass packets first next (PassAct Frontend from count now)
+    → (if b then Some (first + count) else None) ≡ Some next → IsNextPass packets first next (passing Frontend from count now)
 pass_by packets first next from count now false e s = absurd (cc)
 pass_by packets first next from count now true e s =
     let a = and_parts (nat_eq from first) (nat_lt 0 count && (nat_le count 64 && nat_le (first + count) packets)) e in
@@ -37,14 +37,15 @@ pass_by packets first next from count now true e s =
     record {
       count = count;
       now = now;
-      is = ap (λ (f : ℕ). PassAct Frontend f count now) same;
+      is = ap (λ (f : ℕ). passing Frontend f count now) same;
       fits = (some, few);
       sum_is = sym sum;
     }
 
 next_pass : (packets first next : ℕ) (act : Act) → passed_behind packets first act ≡ Some next → IsNextPass packets first next act
-next_pass packets first next (PassAct Frontend from count now) s =
-    pass_by packets first next from count now (nat_eq from first && (nat_lt 0 count && (nat_le count 64 && nat_le (first + count) packets))) refl s
+next_pass packets first next (PassAct Frontend batch now) s =
+    pass_by packets first next batch.first batch.count now
+    (nat_eq batch.first first && (nat_lt 0 batch.count && (nat_le batch.count 64 && nat_le (first + batch.count) packets))) refl s
 next_pass packets first next _ s = absurd (cc)
 
 end_act : (act : Act) → is_end act ≡ true → act ≡ EndAct
@@ -65,7 +66,7 @@ feeds_one packets first step s ss number later (Some next) is t =
     let p = next_pass packets first next s.act is in
     let l = later next t in
     let b : Batch = record { size = p.count; moment = p.now } in
-    let front : s ≡ record { step = step; act = PassAct Frontend first p.count p.now } = same_step s step (PassAct Frontend first p.count p.now) number p.is in
+    let front : s ≡ record { step = step; act = passing Frontend first p.count p.now } = same_step s step (passing Frontend first p.count p.now) number p.is in
     let behind : ss ≡ feeding (first + p.count) (suc step) l.batches = l.same ∙ ap (λ (f : ℕ). feeding f (suc step) l.batches) p.sum_is in
     let all : sum (map size_of (b ∷ l.batches)) ≡ p.count + sum (map size_of l.batches) = sum_by-cons (λ (x : ℕ). x) p.count (map size_of l.batches) in
     record {

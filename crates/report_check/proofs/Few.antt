@@ -1,7 +1,6 @@
 -- There are no more entries than bytes.
-use Rattle.report_check.proofs.Imports.{◌≡◌, ◌<◌, ◌≤◌, ◌+◌, ◌^◌, refl, ℕ, zero, suc, List, [], ◌∷◌, ◌++◌, Bool, true, false, nat_eq, length, codes, arith, All-cons, All-nil, All, flat_map, LogEntry, DEMUX_NODES, node_text, act_text, response_text, entry_text, caller_text, tally_text, row_text, clients_text, end_text, ToldNode, Told, told_node_text, text_of, complete, dealt}
+use Rattle.report_check.proofs.Imports.{◌≡◌, ◌<◌, ◌≤◌, ◌+◌, ◌^◌, refl, ℕ, zero, suc, List, [], ◌∷◌, ◌++◌, Bool, true, false, nat_eq, length, codes, arith, All-cons, All-nil, All, flat_map, LogEntry, DEMUX_NODES, node_text, act_text, response_text, entry_text, caller_text, tally_text, row_text, clients_text, end_text, ToldNode, Told, told_node_text, text_of, complete, dealt, left_on}
 use Rattle.std.proofs.lemmas.List.{length-append}
-use Rattle.report_check.specs.Inside.Steps.{left_on}
 
 entry_long : (e : LogEntry) → 1 ≤ length (entry_text e)
 entry_long e =

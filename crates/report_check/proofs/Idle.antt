@@ -1,7 +1,6 @@
 -- In a run, a node that no client called has the feeder's calls alone.
-use Rattle.report_check.proofs.Imports.{◌≡◌, ◌+◌, refl, sym, ap, subst, ◌∙◌, ℕ, zero, suc, List, [], ◌∷◌, ◌++◌, Bool, true, false, nat_eq, length, map, arith, nat_tests, Some, slice_get, nat_lt, ◌||◌, list_any, Outcome, Act, PassAct, EndAct, StreamHead, History, Response, Passed, Rules, rules_at, May, IsLegalFor, LogEntry, Sources, filled, filled_act, go_by, Scripted, Batch, Step, feeding, IsRun, sources, is_of_client, ToldNode, shown, renumbered, of_feeder, feeder_of, complete, told_by, may_at}
-use Rattle.report_check.specs.Completed.{completed}
-use Rattle.report_check.proofs.Completing.{step_of, AreFeeders, ArePassed, same_feeders, AreIdle, complete_shown}
+use Rattle.report_check.proofs.Imports.{◌≡◌, ◌+◌, refl, sym, ap, subst, ◌∙◌, ℕ, zero, suc, List, [], ◌∷◌, ◌++◌, Bool, true, false, nat_eq, length, map, arith, nat_tests, Some, slice_get, nat_lt, ◌||◌, list_any, Outcome, Act, PassAct, EndAct, StreamHead, History, Response, Passed, Rules, rules_at, May, IsLegalFor, LogEntry, Sources, filled, filled_act, go_by, Scripted, Batch, Step, feeding, IsRun, sources, is_of_client, ToldNode, shown, renumbered, of_feeder, feeder_of, complete, told_by, may_at, completed, step_of}
+use Rattle.report_check.proofs.Completing.{AreFeeders, ArePassed, same_feeders, AreIdle, complete_shown}
 
 -- a list with an entry in it
 record Parted (h : List LogEntry) (e : LogEntry) : Type 0 where
@@ -20,12 +19,12 @@ parted (x ∷ h) (suc i) e at =
 
 -- what the feeder calls
 abbrev pub IsFeed : Act → Type 0
-IsFeed (PassAct input first count now) = Unit {0}
+IsFeed (PassAct input batch now) = Unit {0}
 IsFeed EndAct = Unit {0}
 IsFeed _ = ⊥
 
 passes_by : (node : Rules) (packets : Sources) (h : History) (who : ℕ) (a : Act) (r : Response) → IsFeed a → May node h who (filled_act (packets who) a) r → r ≡ Passed
-passes_by node packets h who (PassAct input first count now) r f m = (go_by node).passes h who input first _ now r m
+passes_by node packets h who (PassAct input batch now) r f m = (go_by node).passes h who input batch.first _ now r m
 passes_by node packets h who EndAct r f m = (go_by node).ends h who r m
 passes_by node packets h who _ r f m = absurd f
 

@@ -2,7 +2,7 @@
 pub use Rattle.client_core.proofs.Joining.{are_counted, are_few, are_joined, are_packets, are_placed, few_in}
 pub use Rattle.client_core.proofs.Playing.{has_write}
 pub use Rattle.client_core.specs.Commands.{IsRequestInRange}
-pub use Rattle.client_core.specs.Deeds.{batch_at}
+pub use Rattle.client_core.specs.Plays.{batch_at}
 pub use Rattle.client_core.specs.PlayLaws.{IsPlayed as IsPlayedBatch, StandsAmong}
 pub use Rattle.client_core.specs.Plays.{HasPlayed, Playing, batch_of, cut_of, joined, with_write}
 pub use Rattle.client_core.specs.declared.event.Event.{Event}
@@ -22,11 +22,13 @@ pub use Rattle.dvr_core.specs.Stands.{CoreValue as DvrValue, StandsFor as DvrSta
 pub use Rattle.lemmas.proofs.Lists.{at_before, at_last, at_place, has_at}
 pub use Rattle.lemmas.specs.Lists.{Has}
 pub use Rattle.node_core.specs.Stands.{CoreValue as DemuxValue, StandsFor as DemuxStands}
-pub use Rattle.report_check.specs.Completed.{complete, completed, feeder_of, of_feeder, renumbered, shown, tiled, told_by}
-pub use Rattle.report_check.specs.Imports.{Act, All, Batches, Core, DEMUX_NODES, Dvr, Dvr as FromDvr, End as EndAct, Entry, Frontend, Global, HasDone, Input, IsAfter, IsEvent, IsInRange, IsLegalFor, IsPacket, IsReport, IsRequestOf, IsRun, LARGEST_READ, LogEntry, May, NoMemory, Outcome, Pass as PassAct, Read as ReadAct, ClientRequest, Response, Rules, Scripted, Sources, Step, StreamHead, Told, ToldNode, act_of, are_rows, call_of, clients_in, entry_of, filled, filled_act, filled_entry, is_of_client, list_any, next_event, outcomes, own_call, packets_in, pass_of, played, plays_of, range_with_len, replies, report_of, response_of, rules_at, steps_of, text_of, told_entry, told_head, told_of}
+pub use Rattle.report_check.specs.Completed.{complete, feeder_of, of_feeder, renumbered, shown, told_by}
+unfoldable pub use Rattle.report_check.specs.Completed.{completed, tiled}
+pub use Rattle.report_check.specs.Imports.{Act, All, Batches, Core, DEMUX_NODES, Dvr, Dvr as FromDvr, End as EndAct, Entry, Frontend, Global, HasDone, Input, IsAfter, IsEvent, IsInRange, IsLegalFor, IsPacket, IsReport, IsRequestOf, IsRun, LARGEST_READ, LogEntry, May, NoMemory, Outcome, Pass as PassAct, Read as ReadAct, ClientRequest, Response, Rules, Scripted, Sources, Step, StreamHead, Told, ToldNode, act_of, are_rows, call_of, clients_in, entry_of, filled, filled_act, filled_entry, is_of_client, list_any, next_event, outcomes, own_call, packets_in, pass_of, passing, played, plays_of, range_with_len, replies, report_of, response_of, rules_at, steps_of, text_of, told_entry, told_head, told_of}
 pub use Rattle.report_check.specs.Inside.Feeding.{IsFedAlike, are_none, feeds, is_end, or_else, passed_behind, step_of}
 pub use Rattle.report_check.specs.Inside.Parts.{AreDoneAs, AreSoundNodes, HasPassed, IsDoneAs, IsPlayed, IsSoundNode, all_played, are_sound, count_for, dealt, is_callable, is_sound, told_node, told_nodes}
-pub use Rattle.report_check.specs.Inside.Steps.{IsTaken, asked_at, left_on, moment_in}
+pub use Rattle.report_check.specs.Inside.Steps.{IsTaken, asked_at, moment_in}
+unfoldable pub use Rattle.report_check.specs.Inside.Steps.{left_on}
 pub use Rattle.report_check.specs.Playing.{AreFewPackets, IsCallable, PlaysBy, brought_from}
 pub use Rattle.report_check.specs.Right.{IsReportOfRun, IsRightReport, IsRunOf}
 pub use Rattle.report_check.specs.Walk.{CanRest, HasWalked, IsRest, of_client, queues_in}

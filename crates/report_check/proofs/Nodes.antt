@@ -1,17 +1,20 @@
 -- Which histories a report stands for, node by node.
-use Rattle.report_check.proofs.Imports.{◌≡◌, ◌<◌, ◌≤◌, ◌+◌, refl, sym, ap, subst, ◌∙◌, ◌⊎◌, inl, inr, ℕ, zero, suc, List, [], ◌∷◌, Bool, true, false, nat_eq, length, arith, nat_tests, All-head, All-tail, Some, slice_get, nat_le, ◌&&◌, LogEntry, ToldNode, is_whole_node, renumbered, complete, of_client, queues_in, and_parts}
+use Rattle.report_check.proofs.Imports.{◌≡◌, ◌<◌, ◌≤◌, ◌+◌, refl, sym, ap, subst, ◌∙◌, ◌⊎◌, inl, inr, ℕ, zero, suc, List, [], ◌∷◌, Bool, true, false, nat_eq, length, arith, nat_tests, All-head, All-tail, Some, slice_get, All, nat_le, ◌&&◌, LogEntry, ToldNode, is_whole_node, renumbered, complete, of_client, queues_in, and_parts}
 use Rattle.report_read.specs.Report.{are_placed, are_nodes}
 use Rattle.report_check.proofs.Idle.{AllZero}
-use Rattle.report_check.proofs.Right.{AreBelow}
 
 -- ------ nodes in their order
 
-record IsFirst (node : ℕ) (n : ToldNode) (ns : List ToldNode) : Type 0 where
-  low : node ≤ n.node
-  whole : is_whole_node n ≡ true
-  later : are_nodes (suc n.node) ns ≡ true
+-- the nodes have numbers below this one
+abbrev pub AreBelow : (limit : ℕ) → List ToldNode → Type 0
+AreBelow limit ns = All (λ n. n.node < limit) ns
 
-first_of : (node : ℕ) (n : ToldNode) (ns : List ToldNode) → are_nodes node (n ∷ ns) ≡ true → IsFirst node n ns
+pub record IsFirst (node : ℕ) (n : ToldNode) (ns : List ToldNode) : Type 0 where
+  pub low : node ≤ n.node
+  pub whole : is_whole_node n ≡ true
+  pub later : are_nodes (suc n.node) ns ≡ true
+
+pub first_of : (node : ℕ) (n : ToldNode) (ns : List ToldNode) → are_nodes node (n ∷ ns) ≡ true → IsFirst node n ns
 unfolding are_nodes
 first_of node n ns order =
     let parts = and_parts (nat_le node n.node && is_whole_node n) (are_nodes (suc n.node) ns) order in
@@ -19,7 +22,7 @@ first_of node n ns order =
     let low : node ≤ n.node = grind (arith, nat_tests, front.0) in
     record { low = low; whole = front.1; later = parts.1 }
 
-from_there : (node : ℕ) (n : ToldNode) (ns : List ToldNode) → IsFirst node n ns → node ≤ n.node → nat_eq n.node node ≡ false → are_nodes (suc node) (n ∷ ns) ≡ true
+pub from_there : (node : ℕ) (n : ToldNode) (ns : List ToldNode) → IsFirst node n ns → node ≤ n.node → nat_eq n.node node ≡ false → are_nodes (suc node) (n ∷ ns) ≡ true
 unfolding are_nodes
 from_there node n ns first low apart =
     let high : nat_le (suc node) n.node ≡ true = grind (arith, nat_tests) in

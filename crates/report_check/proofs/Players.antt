@@ -1,20 +1,41 @@
 -- The packets that clients play, as a report is checked.
-use Rattle.report_check.proofs.Imports.{◌≡◌, ◌<◌, ◌≤◌, ◌+◌, ◌*◌, ◌^◌, ◌⊎◌, inl, inr, refl, sym, ap, ◌∙◌, ℕ, zero, suc, List, [], ◌∷◌, ◌++◌, length, map, arith, length-append, Vec, slice_index_or, All, flat_map, range_with_len, Global, cases_lt, flat_map-append, get_or_past, All-nil, All-cons, All-head, All-tail, get_or-map-range_with_len, length-map-range_with_len, IsPacket, cut, Of188, Packets, packets_in, Playing, batch_of, cut_of, joined, with_write, are_joined, are_packets, few_in, Input, Frontend, FromDvr, Scripted, IsScript, AreWritten, writes_of, IsWritten, played, sources, AreFewPackets, brought_from, all_played}
+use Rattle.report_check.proofs.Imports.{◌≡◌, ◌<◌, ◌≤◌, ◌+◌, ◌*◌, ◌^◌, ◌⊎◌, inl, inr, refl, sym, ap, subst, ◌∙◌, ℕ, zero, suc, List, [], ◌∷◌, ◌++◌, length, map, arith, length-append, Vec, slice_index_or, All, flat_map, range_with_len, Global, cases_lt, flat_map-append, get_or_past, All-nil, All-cons, All-head, All-tail, get_or-map-range_with_len, length-map-range_with_len, IsPacket, cut, Of188, Packets, packets_in, Playing, batch_of, cut_of, joined, with_write, are_joined, are_packets, few_in, Input, Frontend, FromDvr, Scripted, IsScript, AreWritten, writes_of, IsWritten, played, sources, AreFewPackets, brought_from, all_played}
 use Rattle.std.proofs.Common.{Option, None}
 use Rattle.std.proofs.lemmas.List.{append-nil}
 
+-- ------ the packets of a caller
+
+pub at_caller : (played : List (Vec (List ℕ) Global)) (who : ℕ) (packets : Vec (List ℕ) Global) → who < length played → packets ≡ slice_index_or played who packets
+    → slice_index_or (map (λ p. p.items) played) who [] ≡ packets.items
+at_caller [] who packets lt is = absurd (omega (arith, lt))
+at_caller (p ∷ played) zero packets lt is = ap (λ (v : Vec (List ℕ) Global). v.items) (sym is)
+at_caller (p ∷ played) (suc who) packets lt is = at_caller played who packets (omega (arith, lt)) is
+
+pub at_none : (played : List (Vec (List ℕ) Global)) (who : ℕ) → length played ≤ who → slice_index_or (map (λ p. p.items) played) who [] ≡ []
+at_none [] who past = refl
+at_none (p ∷ played) zero past = absurd (omega (arith, past))
+at_none (p ∷ played) (suc who) past = at_none played who (omega (arith, past))
+
+pub are_few : (stream : List (List ℕ)) (played : List (List (List ℕ))) (who : ℕ) (input : Input) → AreFewPackets stream → All AreFewPackets played → AreFewPackets (brought_from stream played who input)
+are_few stream played who Frontend few all = few
+are_few stream played who FromDvr few all = go (cases_lt who (length played)) where
+  go : (who < length played) ⊎ (length played ≤ who) → AreFewPackets (slice_index_or played who [])
+  go (inl there) = all who [] there
+  go (inr past) = subst AreFewPackets (sym (get_or_past played who [] past)) (All-nil IsPacket, omega arith)
+
 -- ------ how many there are
+
+pub length_at : (xs : List (List (List ℕ))) (i : ℕ) → slice_index_or (map (λ ps. length ps) xs) i 0 ≡ length (slice_index_or xs i [])
+length_at [] i = refl
+length_at (x ∷ xs) zero = refl
+length_at (x ∷ xs) (suc i) = length_at xs i
 
 pub count_at : (played : List (Vec (List ℕ) Global)) (who : ℕ) (packets : Vec (List ℕ) Global) → who < length played → packets ≡ slice_index_or played who packets
     → slice_index_or (map (λ ps. length ps) (map (λ p. p.items) played)) who 0 ≡ length packets.items
-count_at [] who packets lt is = absurd (omega (arith, lt))
-count_at (p ∷ played) zero packets lt is = ap (λ (v : Vec (List ℕ) Global). length v.items) (sym is)
-count_at (p ∷ played) (suc who) packets lt is = count_at played who packets (omega (arith, lt)) is
+count_at played who packets lt is = length_at (map (λ p. p.items) played) who ∙ ap length (at_caller played who packets lt is)
 
 pub none_at : (played : List (Vec (List ℕ) Global)) (who : ℕ) → length played ≤ who → slice_index_or (map (λ ps. length ps) (map (λ p. p.items) played)) who 0 ≡ 0
-none_at [] who past = refl
-none_at (p ∷ played) zero past = absurd (omega (arith, past))
-none_at (p ∷ played) (suc who) past = none_at played who (omega (arith, past))
+none_at played who past = length_at (map (λ p. p.items) played) who ∙ ap length (at_none played who past)
 
 -- ------ the packets of all callers are those of a run
 

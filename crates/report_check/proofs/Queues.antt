@@ -1,6 +1,5 @@
 -- Queues of told entries.
-use Rattle.report_check.proofs.Imports.{◌≡◌, ◌<◌, ◌+◌, ℕ, zero, suc, List, [], ◌∷◌, length, map, get_or, refl, sym, ap, ◌∙◌, Bor, arith, true, false, nat_eq, map-set, length-map, slice_get-map, slice_get-get_or, slice_get_within, get_or_from_slice_get, Option, Some, None, slice_get, slice_set, option_map, ToldEntry, told_entry, LogEntry, of_client, queues_in, IsTaken}
-use Rattle.report_check.specs.Inside.Steps.{left_on}
+use Rattle.report_check.proofs.Imports.{◌≡◌, ◌<◌, ◌+◌, ℕ, zero, suc, List, [], ◌∷◌, length, map, get_or, refl, sym, ap, ◌∙◌, Bor, arith, true, false, nat_eq, map-set, length-map, slice_get-map, slice_get-get_or, slice_get_within, get_or_from_slice_get, Option, Some, None, slice_get, slice_set, option_map, ToldEntry, told_entry, LogEntry, of_client, queues_in, IsTaken, left_on}
 
 abbrev pub told_of : Bor (List ToldEntry) → List LogEntry
 told_of q = map told_entry q.now
@@ -56,12 +55,6 @@ module _ (client : ℕ) where
 
   pub each_empty : (xs : List (Bor (List ToldEntry))) → ((node : ℕ) (q : List LogEntry) → slice_get (queues_in client (map told_of xs)) node ≡ Some q → q ≡ []) → (k : ℕ) (d : Bor (List ToldEntry)) → k < length xs → queue (get_or xs k d) ≡ []
   each_empty xs each k d small = each k (queue (get_or xs k d)) (queue_at xs k ∙ ap (option_map queue) (slice_get-get_or xs k d small))
-
-  pub same_at : (xs : List (Bor (List ToldEntry))) (i : ℕ) (x d : Bor (List ToldEntry)) → i < length xs → x ≡ get_or xs i x → queue x ≡ [] → queue (get_or xs i d) ≡ []
-  same_at xs i x d small e empty =
-      let a : slice_get xs i ≡ Some x = slice_get-get_or xs i x small ∙ ap (λ (y : Bor (List ToldEntry)). Some y) (sym e) in
-      let b : get_or xs i d ≡ x = get_or_from_slice_get xs i x d a in
-      ap queue b ∙ empty
 
 -- ------ how many entries are left
 

@@ -1,10 +1,10 @@
 -- The reports of runs are those that are right.
-use Rattle.report_check.proofs.Imports.{◌≡◌, ◌<◌, ◌+◌, refl, sym, ap, subst, ◌∙◌, ℕ, zero, suc, List, [], ◌∷◌, Bool, true, false, nat_eq, length, arith, nat_tests, All-head, All-tail, All-nil, All-cons, Some, slice_get, nat_le, nat_lt, ◌&&◌, All, list_any, DEMUX_NODES, Outcome, LogEntry, StreamHead, Scripted, outcomes, replies, is_of_client, ToldNode, Told, text_of, IsInRange, IsNodeInRange, are_rows, is_whole_node, shown, told_by, renumbered, of_feeder, tiled, feeder_of, complete, IsRunOf, IsReportOfRun, IsRightReport, and_parts}
+use Rattle.report_check.proofs.Imports.{◌≡◌, ◌<◌, ◌+◌, refl, sym, ap, subst, ◌∙◌, ℕ, zero, suc, List, [], ◌∷◌, Bool, true, false, nat_eq, length, arith, nat_tests, All-head, All-tail, All-nil, All-cons, Some, slice_get, nat_le, nat_lt, All, list_any, DEMUX_NODES, Outcome, LogEntry, StreamHead, Scripted, outcomes, replies, is_of_client, ToldNode, Told, text_of, IsInRange, IsNodeInRange, are_rows, is_whole_node, shown, told_by, renumbered, of_feeder, tiled, feeder_of, complete, IsRunOf, IsReportOfRun, IsRightReport, and_parts, completed}
 use Rattle.report_read.specs.Report.{are_placed, are_nodes}
-use Rattle.report_check.specs.Completed.{completed}
 use Rattle.report_check.proofs.Shown.{reports_tell}
 use Rattle.report_check.proofs.Idle.{AllZero, runs_are_completed}
 use Rattle.report_check.proofs.Empty.{ArePlain, plain, idle_at, idle_runs, idle_made, uncalled_at}
+use Rattle.report_check.proofs.Nodes.{AreBelow, first_of, from_there}
 
 -- ------ the nodes of a run stand in their order
 
@@ -12,10 +12,9 @@ pub nodes_lower : (node : ℕ) (ns : List ToldNode) → are_nodes (suc node) ns 
 unfolding are_nodes
 nodes_lower node [] e = refl
 nodes_lower node (n ∷ ns) e =
-    let parts = and_parts (nat_le (suc node) n.node && is_whole_node n) (are_nodes (suc n.node) ns) e in
-    let front = and_parts (nat_le (suc node) n.node) (is_whole_node n) parts.0 in
-    let low : nat_le node n.node ≡ true = grind (arith, nat_tests, front.0) in
-    rw (low, front.1, parts.1) refl
+    let first = first_of (suc node) n ns e in
+    let low : nat_le node n.node ≡ true = grind (arith, nat_tests, first.low) in
+    rw (low, first.whole, first.later) refl
 
 -- entries each at its place
 abbrev pub ArePlaced : (node place : ℕ) → List LogEntry → Type 0
@@ -57,10 +56,6 @@ quiet node place (e ∷ es) all =
 skips_shown : (node : ℕ) (feeder : List LogEntry) (rest : List (List LogEntry)) → AllZero feeder → shown node (renumbered node 0 feeder ∷ rest) ≡ shown (suc node) rest
 skips_shown node feeder rest all = rw (quiet node 0 feeder all) refl
 
--- the nodes have numbers below this one
-abbrev pub AreBelow : (limit : ℕ) → List ToldNode → Type 0
-AreBelow limit ns = All (λ n. n.node < limit) ns
-
 one_told : (left node : ℕ) (feeder : List LogEntry) (n : ToldNode) (ns : List ToldNode) → AllZero feeder → is_whole_node n ≡ true
     → (nat_eq n.node node ≡ true → shown (suc node) (complete left (suc node) feeder ns) ≡ ns)
     → (nat_eq n.node node ≡ false → shown (suc node) (complete left (suc node) feeder (n ∷ ns)) ≡ n ∷ ns)
@@ -78,21 +73,18 @@ pub shown_again : (left node : ℕ) (feeder : List LogEntry) (ns : List ToldNode
 unfolding are_nodes
 shown_again zero node feeder [] all order below = refl
 shown_again zero node feeder (n ∷ ns) all order below =
-    let parts = and_parts (nat_le node n.node && is_whole_node n) (are_nodes (suc n.node) ns) order in
-    let front = and_parts (nat_le node n.node) (is_whole_node n) parts.0 in
     let high : n.node < node + 0 = All-head (λ (m : ToldNode). m.node < node + 0) n ns below in
-    absurd (grind (arith, nat_tests, front.0, high))
+    absurd (omega (arith, (first_of node n ns order).low, high))
 shown_again (suc left) node feeder [] all order below =
     skips_shown node feeder (complete left (suc node) feeder []) all ∙ shown_again left (suc node) feeder [] all refl (All-nil (λ (m : ToldNode). m.node < suc node + left))
 shown_again (suc left) node feeder (n ∷ ns) all order below =
-    let parts = and_parts (nat_le node n.node && is_whole_node n) (are_nodes (suc n.node) ns) order in
-    let front = and_parts (nat_le node n.node) (is_whole_node n) parts.0 in
+    let first = first_of node n ns order in
     let sum : node + suc left ≡ suc node + left = omega arith in
     let lower : AreBelow (suc node + left) (n ∷ ns) = subst (λ (limit : ℕ). AreBelow limit (n ∷ ns)) sum below in
     let tail : AreBelow (suc node + left) ns = All-tail (λ (m : ToldNode). m.node < suc node + left) n ns lower in
-    one_told left node feeder n ns all front.1
-    (λ e. let same : n.node ≡ node = grind (arith, nat_tests) in shown_again left (suc node) feeder ns all (subst (λ (k : ℕ). are_nodes (suc k) ns ≡ true) same parts.1) tail)
-    (λ e. let more : nat_le (suc node) n.node ≡ true = grind (arith, nat_tests, front.0) in shown_again left (suc node) feeder (n ∷ ns) all (rw (more, front.1, parts.1) refl) lower)
+    one_told left node feeder n ns all first.whole
+    (λ e. let same : n.node ≡ node = grind (arith, nat_tests) in shown_again left (suc node) feeder ns all (subst (λ (k : ℕ). are_nodes (suc k) ns ≡ true) same first.later) tail)
+    (λ e. shown_again left (suc node) feeder (n ∷ ns) all (from_there node n ns first first.low e) lower)
     (nat_eq n.node node) refl
 
 -- ------ the feeder

@@ -1,7 +1,7 @@
 -- The histories of all nodes that a report stands for (this project's own). A report shows the nodes that a client called; on
 -- each other node the feeder was alone.
 use Rattle.std.specs.Prelude.{ℕ, zero, suc, ◌+◌, ◌-◌, List, [], ◌∷◌, filter, nat_eq, nat_lt, min, if◌then◌else◌}
-use Rattle.report_check.specs.Imports.{DEMUX_NODES, End as EndAct, Frontend, LogEntry, Outcome, Pass as PassAct, StreamHead, Told, ToldNode, feeder_entry, is_of_client, list_any}
+use Rattle.report_check.specs.Imports.{DEMUX_NODES, End as EndAct, Frontend, LogEntry, Outcome, StreamHead, Told, ToldNode, feeder_entry, is_of_client, list_any, passing}
 
 -- ------ from histories to a report
 
@@ -32,7 +32,7 @@ unfoldable pub tiled : (left first step packets : ℕ) → List LogEntry
 tiled zero first step packets = feeder_entry 0 step step EndAct ∷ []
 tiled (suc left) first step packets =
     if nat_lt first packets
-    then feeder_entry 0 step step (PassAct Frontend first (min 64 (packets - first)) 0)
+    then feeder_entry 0 step step (passing Frontend first (min 64 (packets - first)) 0)
     ∷ tiled left (first + 64) (suc step) packets
     else feeder_entry 0 step step EndAct ∷ []
 

@@ -15,7 +15,8 @@ AreFewPackets packets = All IsPacket packets × (length packets < 2 ^ 63)
 -- a call that can be made again: a read is no longer than a read may be, and a pass's packets are 1 to 64 of those of its input
 abbrev pub IsCallable : (packets : Input → List (List ℕ)) → Act → Type 0
 IsCallable packets (ReadAct now count) = count ≤ LARGEST_READ
-IsCallable packets (PassAct input first count now) = (0 < count) × (count ≤ 64) × (first + count ≤ length (packets input))
+IsCallable packets (PassAct input batch now) =
+    (0 < batch.count) × (batch.count ≤ 64) × (batch.first + batch.count ≤ length (packets input))
 IsCallable packets _ = Unit {0}
 
 -- the told entries as those of a machine, the oldest first

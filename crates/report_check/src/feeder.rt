@@ -3,7 +3,7 @@ ghost use Rattle.std.specs.Prelude.{◌≡◌, ◌≢◌, ◌<◌, ◌≤◌, []
 ghost use Rattle.report_check.specs.Imports.{steps_of, told_entry};
 ghost use Rattle.report_check.specs.Inside.Feeding.{step_of, passed_behind as passed_by, is_end as is_end_act, are_none, feeds, IsFedAlike};
 
-use dmx_calls::{Act, Entry, Input, KeptAct};
+use dmx_calls::{Act, BatchRange, Entry, Input, KeptAct};
 
 // The feeder's first call, and the entries behind it.
 fn next_of(entries: &[Entry]) -> Option<(&Entry, &[Entry])>
@@ -30,8 +30,7 @@ fn passed_behind(act: &KeptAct, first: u64, packets: u64) -> Option<u64>
     match act.act() {
         Act::Pass {
             input: Input::Frontend,
-            first: from,
-            count,
+            batch: BatchRange { first: from, count },
             ..
         } if from == first && count > 0 && count <= 64 && u64::from(count) <= packets - first => {
             Some(first + u64::from(count))

@@ -35,13 +35,9 @@ pub fn line_of_client(told: &ReadReport, client: u32, behind: u64) -> u64 {
         .saturating_add(behind)
 }
 
-/// The last line.
+/// The last line: no node has the greatest number.
 pub fn line_of_end(told: &ReadReport) -> u64 {
-    let mut line = behind_head(told).saturating_add(lines_of(&told.outcomes));
-    'nodes: for (_, entries) in &told.nodes {
-        line = line.saturating_add(1).saturating_add(entries.len() as u64);
-    }
-    line
+    line_of_entry(told, u32::MAX, 0)
 }
 
 /// The line of the entry at this place of a node; the last line where the node isn't told.

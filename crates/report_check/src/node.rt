@@ -6,7 +6,7 @@ ghost use Rattle.report_check.specs.Inside.Parts.{count_for as count_from, told_
 use crate::fault::{Odd, ReportFaultKind};
 use crate::feeder::{fed_unlike, unfed};
 use dmx_calls::limits::LARGEST_READ;
-use dmx_calls::{Act, Entry, Input, KeptAct};
+use dmx_calls::{Act, BatchRange, Entry, Input, KeptAct};
 use ts_packet::Packet;
 
 // How many packets there are of which a caller's passes bring some.
@@ -28,11 +28,10 @@ fn is_callable(act: &KeptAct, who: u32, packets: u64, played: &[Vec<Packet>]) ->
     ensures { result ≡ can_be_called packets (map (λ ps. length ps) (map (λ p. p.items) played.now)) who act.now }
 {
     match act.act() {
-        Act::Read { count, .. } => count <= LARGEST_READ,
+        Act::Read { room, .. } => room <= LARGEST_READ,
         Act::Pass {
             input,
-            first,
-            count,
+            batch: BatchRange { first, count },
             ..
         } => {
             let most = count_for(packets, played, who, input);

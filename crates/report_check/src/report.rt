@@ -47,11 +47,12 @@ fn odd_part(
     if let Some(odd) = odd_node(&told.nodes, clients, packets.len() as u64, played) {
         return Ok(Some(odd));
     }
-    if let Some(odd) = odd_client(alloc, script, &told.nodes, &told.outcomes)? {
-        let reply = odd_play(alloc, &told.nodes, packets, played)?;
-        return Ok(Some(first_of_both(&told.nodes, odd, reply)));
+    let call = odd_client(alloc, script, &told.nodes, &told.outcomes)?;
+    let reply = odd_play(alloc, &told.nodes, packets, played)?;
+    match call {
+        Some(odd) => Ok(Some(first_of_both(&told.nodes, odd, reply))),
+        None => Ok(reply),
     }
-    odd_play(alloc, &told.nodes, packets, played)
 }
 
 fn fault_at(line: u64, kind: ReportFaultKind) -> Fault {

@@ -9,12 +9,7 @@ fn is_of(entry: &Entry, client: u32) -> bool {
 
 // The first entry of a client.
 fn first_of(entries: &[Entry], client: u32) -> Option<&Entry> {
-    'entries: for entry in entries {
-        if is_of(entry, client) {
-            return Some(entry);
-        }
-    }
-    None
+    entries.iter().find(|entry| is_of(entry, client))
 }
 
 // The first of these entries of a client that is left on a node.
@@ -60,13 +55,7 @@ fn before_left(entries: &[Entry], left: usize) -> &[Entry] {
 
 // How many of these entries are a client's.
 fn count_of(entries: &[Entry], client: u32) -> u64 {
-    let mut count: u64 = 0;
-    'entries: for entry in entries {
-        if is_of(entry, client) {
-            count = count.saturating_add(1);
-        }
-    }
-    count
+    entries.iter().filter(|entry| is_of(entry, client)).count() as u64
 }
 
 // How many entries of a client were taken.

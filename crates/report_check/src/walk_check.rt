@@ -21,7 +21,7 @@ pub fn done_is_walked()
 {}
 
 /// The law that queues can be walked in one way only. It has nothing to do.
-#[tactic(auto, using(crate::proofs::OneWalk::one_walk))]
+#[tactic(auto, using(crate::proofs::Dealt::one_walk))]
 pub fn walks_are_one()
     ensures { WalksAreOne }
 {}

@@ -1,9 +1,5 @@
 -- Whether what was read stands in the bytes as it is written.
-use Rattle.report_read.proofs.Imports.{◌≡◌, ◌≢◌, ◌<◌, ◌+◌, refl, sym, ap, ◌∙◌, ℕ, List, [], ◌∷◌, ◌++◌, length, take, map, get_or, Some, None, arith, flat_map, nat_tests, append-nil, length-append, behind}
-use Rattle.std.proofs.Common.{take-append-drop}
-use Rattle.std.proofs.lemmas.Grind.{common_steps}
-use Rattle.report_read.specs.Inside.Reading.{gone}
-use Rattle.std.specs.Prelude.{Option}
+use Rattle.report_read.proofs.Imports.{◌≡◌, ◌≢◌, ◌<◌, ◌+◌, refl, sym, ap, ◌∙◌, ℕ, List, [], ◌∷◌, ◌++◌, length, take, map, get_or, Some, None, arith, flat_map, nat_tests, append-nil, length-append, behind, take-append-drop, common_steps, gone, Option}
 use Rattle.std.specs.Cmp.Lexicographic.{bytes_decides}
 
 -- ------ texts one after another

@@ -1,6 +1,5 @@
 -- Digits that were decoded and are written again.
-use Rattle.report_read.proofs.Imports.{◌≡◌, ◌<◌, sym, ℕ, List, [], ◌∷◌, ◌++◌, Some, true, arith, nat_tests, All, hex_text, behind, begins_with, bytes_in}
-use Rattle.std.proofs.Common.{subst}
+use Rattle.report_read.proofs.Imports.{◌≡◌, ◌<◌, sym, ℕ, List, [], ◌∷◌, ◌++◌, Some, true, arith, nat_tests, All, hex_text, behind, begins_with, bytes_in, subst}
 use Rattle.report_read.proofs.WordsAgain.{bytes_again}
 use Rattle.report_read.proofs.Compared.{there}
 

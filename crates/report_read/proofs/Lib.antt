@@ -1,10 +1,6 @@
 pub mod WordsAgain
 pub mod SetsAgain
-pub mod ActsAgain
-pub mod RepliesAgain
 pub mod Again
-pub mod StreamAgain
-pub mod ClientsAgain
 pub mod WholeAgain
 pub mod Steps
 pub mod Many

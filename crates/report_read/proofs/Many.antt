@@ -1,6 +1,5 @@
 -- Lists that are written one after another are read again.
-use Rattle.report_read.proofs.Imports.{◌≡◌, ◌<◌, ◌≤◌, ◌-◌, refl, ap, ◌∙◌, ℕ, zero, suc, List, [], ◌∷◌, ◌++◌, Bool, true, false, length, Some, None, arith, append_assoc, append-nil, length-append, All-head, All-tail, All-nil, All-push, All, flat_map, Reading, onto}
-use Rattle.report_read.specs.Inside.Reading.{many}
+use Rattle.report_read.proofs.Imports.{◌≡◌, ◌<◌, ◌≤◌, ◌-◌, refl, ap, ◌∙◌, ℕ, zero, suc, List, [], ◌∷◌, ◌++◌, Bool, true, false, length, Some, None, arith, append_assoc, append-nil, length-append, All-head, All-tail, All-nil, All-push, All, flat_map, Reading, onto, many}
 
 -- how the text of a value is read: it is read again whatever stands behind it that may end it, it begins as such a text does,
 -- it may end another, and it has a byte

@@ -1,9 +1,6 @@
 -- Sets of PIDs and filters are read again.
-use Rattle.report_read.proofs.Imports.{◌≡◌, ◌<◌, ◌≤◌, ◌^◌, ◌+◌, ◌/◌, ◌%◌, refl, ap, ◌∙◌, ℕ, zero, suc, List, [], ◌∷◌, ◌++◌, Bool, true, false, length, map, fold, get_or, Some, None, codes, arith, append_assoc, append-nil, length-append, and-false, nat_tests, length-map, All-nil, All-get_or, All-from_get_or, All-push, All-head, All-tail, All-map, All-filter, nat_lt, nat_eq, not, ◌&&◌, All, filter, flat_map, all_ascii_digits, is_ascii_digit, decimal, decimal_nonempty, has_pid, Above, Below, Rising, rising-from, SectionFilter, Place, place_at, with_place, filter_with, numbers_below, hex_byte, digit_text, HasBytes, IsFilter, is_zero, place_text, filter_text, filter_places, filter_words, decimal-digits, hex_byte-byte_text, bytes_behind, at-HasBytes, below_each, filter_text-words, filter_with-filter_places, length-filter_words, next_pid_text, behind, choose, number_in, number16, begins_number, is_full_for, begins_place, IsPidSet}
+use Rattle.report_read.proofs.Imports.{◌≡◌, ◌<◌, ◌≤◌, ◌^◌, ◌+◌, ◌/◌, ◌%◌, refl, ap, ◌∙◌, ℕ, zero, suc, List, [], ◌∷◌, ◌++◌, true, false, length, map, fold, get_or, Some, None, codes, arith, append_assoc, append-nil, length-append, and-false, nat_tests, length-map, All-from_get_or, All-head, All-tail, All-map, All-filter, nat_lt, nat_eq, not, All, filter, flat_map, all_ascii_digits, is_ascii_digit, decimal, decimal_nonempty, has_pid, Above, Below, Rising, rising-from, SectionFilter, Place, place_at, with_place, filter_with, numbers_below, hex_byte, digit_text, HasBytes, IsFilter, is_zero, place_text, filter_text, filter_places, filter_words, decimal-digits, hex_byte-byte_text, bytes_behind, at-HasBytes, below_each, filter_text-words, filter_with-filter_places, length-filter_words, next_pid_text, behind, choose, number_in, number16, begins_number, is_full_for, begins_place, IsPidSet, pid_step, more_pids, pids_in, place_in, place_step, more_places, filter_in, byte_in, pids_text}
 use Rattle.pid_set.specs.Pids.{with_pid}
-use Rattle.report_text.specs.Acts.{pids_text}
-use Rattle.report_read.specs.Inside.Reading.{byte_in}
-use Rattle.report_read.specs.Inside.Parts.{pid_step, more_pids, pids_in, place_in, place_step, more_places, filter_in}
 use Rattle.report_read.proofs.WordsAgain.{first_digit, number_again, number16_again}
 
 -- ------ the first byte of a number
@@ -61,9 +58,6 @@ EndsSet rest = (begins_number rest ≡ false) × (behind (codes ",") rest ≡ No
 comma : (pids rest : List ℕ) → begins_number rest ≡ false → begins_number (flat_map next_pid_text pids ++ rest) ≡ false
 comma [] rest stops = stops
 comma (pid ∷ pids) rest stops = refl
-
-fits_first : (set : List ℕ) (pid : ℕ) (pids : List ℕ) → All (λ p. p < 65536) (pid ∷ pids) → pid < 65536
-fits_first set pid pids all = All-head (λ p. p < 65536) pid pids all
 
 not_full : (set : List ℕ) (pid n : ℕ) → length set + (1 + n) ≤ 128 → is_full_for pid set ≡ false
 not_full set pid n room =

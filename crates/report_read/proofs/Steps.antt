@@ -1,7 +1,5 @@
 -- One step of the readers that go over several parts.
-use Rattle.report_read.proofs.Imports.{take_all, IsFilter, zeros-IsFilter, ◌≡◌, ◌<◌, ◌≤◌, ◌-◌, take, drop, get_or, refl, ap, ◌∙◌, ℕ, zero, suc, List, [], ◌∷◌, length, true, false, arith, Some, None, codes, replicate, SectionFilter, behind, choose, with_first, hex_byte, pid_step, begins_place, place_step}
-use Rattle.report_read.specs.Inside.Reading.{bytes_in}
-use Rattle.report_read.specs.Inside.Parts.{more_pids, more_places}
+use Rattle.report_read.proofs.Imports.{take_all, IsFilter, zeros-IsFilter, ◌≡◌, ◌<◌, ◌≤◌, ◌-◌, take, drop, get_or, refl, ap, ◌∙◌, ℕ, zero, suc, List, [], ◌∷◌, length, true, false, arith, Some, None, codes, replicate, SectionFilter, behind, choose, with_first, hex_byte, pid_step, begins_place, place_step, more_pids, more_places, bytes_in}
 
 pub pids_none : (left : ℕ) (set bytes : List ℕ) → left ≡ 0 → more_pids left set bytes ≡ Some (set, bytes)
 unfolding more_pids

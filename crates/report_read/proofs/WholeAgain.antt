@@ -1,13 +1,113 @@
 -- Nodes and whole reports are read again.
-use Rattle.report_read.proofs.Imports.{◌≡◌, ◌<◌, ◌≤◌, refl, ◌∙◌, ℕ, List, [], ◌∷◌, ◌++◌, Bool, true, false, length, Some, None, codes, arith, append_assoc, nat_tests, decimal_nonempty, ◌≢◌, ◌==◌, All, flat_map, all_ascii_digits, is_ascii_digit, decimal, Outcome, decimal-digits, entry_text, row_text, clients_text, ToldNode, Told, told_node_text, text_of, Reading, behind, choose, number_in, begins_number, begins_with, nodes_in, IsNodeInRange, IsInRange, are_rows, are_nodes, IsNoReport}
-use Rattle.text_forms.specs.Names.{node_text}
-use Rattle.report_text.specs.Report.{end_text}
-use Rattle.report_read.specs.Inside.Whole.{node_name_in, node_in, end_in, told_in}
-use Rattle.report_read.proofs.Many.{IsSpelled, all_again}
-use Rattle.report_read.proofs.WordsAgain.{first_digit, number_again}
+use Rattle.report_read.proofs.Imports.{◌≡◌, ◌<◌, ◌≤◌, refl, ◌∙◌, ℕ, List, [], ◌∷◌, ◌++◌, Bool, true, false, length, Some, None, codes, arith, append_assoc, nat_tests, decimal_nonempty, ◌≢◌, ◌==◌, All, flat_map, all_ascii_digits, is_ascii_digit, decimal, Outcome, decimal-digits, entry_text, row_text, clients_text, ToldNode, Told, told_node_text, text_of, Reading, behind, choose, number_in, begins_number, begins_with, nodes_in, IsNodeInRange, IsInRange, are_rows, are_nodes, IsNoReport, ◌+◌, zero, suc, length-append, All-head, All-tail, outcome_text, client_text, clients_in, IsOutcomeInRange, Tally, PidRow, OutcomeKind, tally_text, rows_in, outcomes_in, IsTallyInRange, IsRowInRange, IsKindInRange, many, node_text, end_text, kind_text, node_name_in, node_in, end_in, told_in, client_in, tally_in, counts_in, row_in, stc_in, kind_in, outcome_in}
+use Rattle.report_read.proofs.Many.{IsSpelled, all_again, Whatever}
+use Rattle.report_read.proofs.WordsAgain.{first_digit, number_again, number16_again, number32_again, number64_again}
 use Rattle.report_read.proofs.Again.{node_again, one_value}
-use Rattle.report_read.proofs.StreamAgain.{tally_again, rows_again}
-use Rattle.report_read.proofs.ClientsAgain.{EndsClients, clients_again}
+use Rattle.dmx_calls.specs.declared.outcome.OutcomeKind.TheVariants as outcome
+
+-- ------ What a report says of the stream, and the commands of a client, are read again
+
+pub tally_again : (t : Tally) (rest : List ℕ) → IsTallyInRange t → tally_in (tally_text t ++ rest) ≡ Some (t, rest)
+unfolding tally_in
+tally_again t rest is =
+    let a = number64_again t.packets (codes " skipped=" ++ (decimal t.skipped ++ (codes " rest=" ++ (decimal t.rest ++ (codes "\n" ++ rest))))) is.packets refl in
+    let b = number64_again t.skipped (codes " rest=" ++ (decimal t.rest ++ (codes "\n" ++ rest))) is.skipped refl in
+    let c = number32_again t.rest (codes "\n" ++ rest) is.rest refl in
+    simp append_assoc (rw (a, b, c) refl)
+
+-- ------ rows
+
+row_again : (row : ℕ × PidRow) (rest : List ℕ) → IsRowInRange row → row_in (row_text row ++ rest) ≡ Some (row, rest)
+unfolding row_in counts_in
+row_again row rest is =
+    let a = number16_again row.0 (codes " packets=" ++ (decimal row.1.packets ++ (codes " breaks=" ++ (decimal row.1.breaks ++ (codes " duplicates=" ++ (decimal row.1.duplicates ++ (codes " errors=" ++ (decimal row.1.errors ++ (codes "\n" ++ rest))))))))) is.0 refl in
+    let b = number64_again row.1.packets (codes " breaks=" ++ (decimal row.1.breaks ++ (codes " duplicates=" ++ (decimal row.1.duplicates ++ (codes " errors=" ++ (decimal row.1.errors ++ (codes "\n" ++ rest))))))) is.1.packets refl in
+    let c = number64_again row.1.breaks (codes " duplicates=" ++ (decimal row.1.duplicates ++ (codes " errors=" ++ (decimal row.1.errors ++ (codes "\n" ++ rest))))) is.1.breaks refl in
+    let d = number64_again row.1.duplicates (codes " errors=" ++ (decimal row.1.errors ++ (codes "\n" ++ rest))) is.1.duplicates refl in
+    let e = number64_again row.1.errors (codes "\n" ++ rest) is.1.errors refl in
+    simp append_assoc (rw (a, b, c, d, e) refl)
+
+spelled_rows : IsSpelled (begins_with (codes "pid ")) row_in row_text IsRowInRange Whatever
+spelled_rows = record {
+  again = λ row rest is _. row_again row rest is;
+  begun = λ row rest is. refl;
+  ended = λ row rest is. tt;
+  some = λ row is. omega arith;
+}
+
+pub rows_again : (rows : List (ℕ × PidRow)) (rest : List ℕ) → All IsRowInRange rows → begins_with (codes "pid ") rest ≡ false → rows_in (flat_map row_text rows ++ rest) ≡ Some (rows, rest)
+rows_again rows rest all stops = all_again (begins_with (codes "pid ")) row_in row_text IsRowInRange Whatever rows rest spelled_rows all stops tt
+
+-- ------ commands
+
+kind_again : (k : OutcomeKind) (rest : List ℕ) → IsKindInRange k → kind_in (kind_text k ++ (codes "\n" ++ rest)) ≡ Some (k, codes "\n" ++ rest)
+unfolding kind_in kind_text stc_in
+kind_again outcome.Done rest is = refl
+kind_again outcome.Emfile rest is = refl
+kind_again outcome.Unbound rest is = refl
+kind_again outcome.NoStc rest is = refl
+kind_again (outcome.Stc base value) rest is =
+    let a = number32_again base (codes " value=" ++ (decimal value ++ (codes "\n" ++ rest))) is.0 refl in
+    let b = number64_again value (codes "\n" ++ rest) is.1 refl in
+    simp append_assoc (rw (a, b) refl)
+
+outcome_again : (o : Outcome) (rest : List ℕ) → IsOutcomeInRange o → outcome_in (outcome_text o ++ rest) ≡ Some (o, rest)
+unfolding outcome_in
+outcome_again o rest is =
+    let a = number32_again o.line (codes " steps " ++ (decimal o.from ++ (codes ".." ++ (decimal o.to ++ (codes " " ++ (kind_text o.kind ++ (codes "\n" ++ rest))))))) is.line refl in
+    let b = number64_again o.from (codes ".." ++ (decimal o.to ++ (codes " " ++ (kind_text o.kind ++ (codes "\n" ++ rest))))) is.from refl in
+    let c = number64_again o.to (codes " " ++ (kind_text o.kind ++ (codes "\n" ++ rest))) is.to refl in
+    let d = kind_again o.kind rest is.kind in
+    simp append_assoc (rw (a, b, c, d) refl)
+
+spelled_outcomes : IsSpelled (begins_with (codes "line ")) outcome_in outcome_text IsOutcomeInRange Whatever
+spelled_outcomes = record {
+  again = λ o rest is _. outcome_again o rest is;
+  begun = λ o rest is. refl;
+  ended = λ o rest is. tt;
+  some = λ o is. omega arith;
+}
+
+pub outcomes_again : (os : List Outcome) (rest : List ℕ) → All IsOutcomeInRange os → begins_with (codes "line ") rest ≡ false → outcomes_in (flat_map outcome_text os ++ rest) ≡ Some (os, rest)
+outcomes_again os rest all stops = all_again (begins_with (codes "line ")) outcome_in outcome_text IsOutcomeInRange Whatever os rest spelled_outcomes all stops tt
+
+-- ------ Clients are read again
+
+client_again : (n : ℕ) (os : List Outcome) (rest : List ℕ) → n ≤ 4294967294 → All IsOutcomeInRange os → begins_with (codes "line ") rest ≡ false → client_in (client_text n os ++ rest) ≡ Some (os, rest)
+unfolding client_in
+client_again n os rest low all stops =
+    let a : number_in 0 4294967294 (decimal n ++ (codes "\n" ++ (flat_map outcome_text os ++ rest))) ≡ Some (n, codes "\n" ++ (flat_map outcome_text os ++ rest)) = number_again 0 4294967294 n (codes "\n" ++ (flat_map outcome_text os ++ rest)) (omega arith) (omega arith) low refl in
+    let b = outcomes_again os rest all stops in
+    simp append_assoc (rw (a, b) refl)
+
+-- what may stand behind the clients
+abbrev pub EndsClients : List ℕ → Type 0
+EndsClients rest = (begins_with (codes "client ") rest ≡ false) × (begins_with (codes "line ") rest ≡ false)
+
+no_line : (n : ℕ) (os : List (List Outcome)) (rest : List ℕ) → EndsClients rest → begins_with (codes "line ") (clients_text n os ++ rest) ≡ false
+no_line n [] rest ends = ends.1
+no_line n (o ∷ os) rest ends = refl
+
+from_again : (left n : ℕ) (os : List (List Outcome)) (rest : List ℕ) → length os ≤ left → n + length os ≤ 4294967295 → All (All IsOutcomeInRange) os → EndsClients rest
+    → many (begins_with (codes "client ")) client_in left (clients_text n os ++ rest) ≡ Some (os, rest)
+unfolding many
+from_again zero n [] rest few room all ends = refl
+from_again zero n (o ∷ os) rest few room all ends = absurd (omega arith)
+from_again (suc left) n [] rest few room all ends = rw ends.0 refl
+from_again (suc left) n (o ∷ os) rest few room all ends =
+    let one : client_in (client_text n o ++ (clients_text (suc n) os ++ rest)) ≡ Some (o, clients_text (suc n) os ++ rest) =
+    client_again n o (clients_text (suc n) os ++ rest) (omega arith) (All-head (All IsOutcomeInRange) o os all) (no_line (suc n) os rest ends) in
+    let later : many (begins_with (codes "client ")) client_in left (clients_text (suc n) os ++ rest) ≡ Some (os, rest) =
+    from_again left (suc n) os rest (omega arith) (omega arith) (All-tail (All IsOutcomeInRange) o os all) ends in
+    rw (append_assoc (client_text n o) (clients_text (suc n) os) rest, one, later) refl
+
+no_more_clients : (n : ℕ) (os : List (List Outcome)) → length os ≤ length (clients_text n os)
+no_more_clients n [] = omega arith
+no_more_clients n (o ∷ os) = omega (arith, no_more_clients (suc n) os, length-append (client_text n o) (clients_text (suc n) os))
+
+pub clients_again : (os : List (List Outcome)) (rest : List ℕ) → length os ≤ 4294967295 → All (All IsOutcomeInRange) os → EndsClients rest → clients_in (clients_text 0 os ++ rest) ≡ Some (os, rest)
+clients_again os rest room all ends =
+    from_again (length (clients_text 0 os ++ rest)) 0 os rest (omega (arith, no_more_clients 0 os, length-append (clients_text 0 os) rest)) (omega arith) all ends
 
 -- ------ nodes
 

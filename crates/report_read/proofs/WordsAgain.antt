@@ -1,13 +1,9 @@
 -- Numbers, bytes and words are read again.
-use Rattle.report_read.proofs.Imports.{◌≡◌, ◌<◌, ◌≤◌, ◌^◌, refl, ℕ, List, [], ◌∷◌, ◌++◌, Bool, true, false, length, Some, None, arith, nat_tests, All-head, All-tail, take-append_seam, drop-append_seam, ◌&&◌, All, all_ascii_digits, is_ascii_digit, decimal, Input, Output, PollError, byte_text, hex_text, decimal-digits, number_between-decimal, hex_byte-byte_text, digits, number16, number32, number64, begins_number}
+use Rattle.report_read.proofs.Imports.{◌≡◌, ◌<◌, ◌≤◌, ◌^◌, refl, ℕ, List, [], ◌∷◌, ◌++◌, Bool, true, false, length, Some, None, arith, nat_tests, All-head, All-tail, take-append_seam, drop-append_seam, ◌&&◌, All, all_ascii_digits, is_ascii_digit, decimal, Input, Output, PollError, hex_text, decimal-digits, number_between-decimal, hex_byte-byte_text, digits, number16, number32, number64, begins_number, input_in, output_in, flag_in, pending_in, input_text, output_text, pending_text, flag_text, number_in, bytes_in}
 use Rattle.dmx_calls.specs.declared.params.Input.TheVariants as input
 use Rattle.dmx_calls.specs.declared.params.Output.TheVariants as output
 use Rattle.dmx_calls.specs.declared.reply.PollError.TheVariants as pending
-use Rattle.dmx_calls.specs.Names.{input_text, output_text, pending_text}
 use Rattle.text_forms.specs.Hex.{hex_digit, hex_byte}
-use Rattle.report_text.specs.Replies.{flag_text}
-use Rattle.report_read.specs.Inside.Reading.{number_in, byte_in, bytes_in}
-use Rattle.report_read.specs.Inside.Parts.{input_in, output_in, flag_in, pending_in}
 
 -- ------ numbers
 
@@ -39,10 +35,6 @@ pub number64_again : (n : ℕ) (rest : List ℕ) → n < 2 ^ 64 → begins_numbe
 number64_again n rest fits stops = number_again 0 18446744073709551615 n rest fits (omega arith) (omega arith) stops
 
 -- ------ bytes
-
-pub byte_again : (byte : ℕ) (rest : List ℕ) → byte < 256 → byte_in (byte_text byte ++ rest) ≡ Some (byte, rest)
-unfolding byte_in
-byte_again byte rest fits = rw (hex_byte-byte_text byte fits) refl
 
 -- a line feed is no digit
 line_feed : (x : ℕ) → hex_byte 10 x ≡ None

@@ -1,9 +1,9 @@
 -- The words of others that the definitions and clauses of this crate use.
 pub use Rattle.dmx_calls.specs.Calls.{response_of, told_entry}
-pub use Rattle.dmx_calls.specs.Log.{Act, LogEntry}
+pub use Rattle.dmx_calls.specs.Log.{Act, LogEntry, passing}
 pub use Rattle.dmx_calls.specs.Response.{Again, Busy, Data, Done, NoMemory, Overflow, Passed, Ready, Refused, Response, TapChange, TimedOut}
 pub use Rattle.dmx_calls.specs.declared.limits.TheConstants.{DEMUX_NODES, LARGEST_PID, LARGEST_READ}
-pub use Rattle.dmx_calls.specs.declared.log.Act.TheVariants.{AddPid, Attach, Close, Detach, End, Open, Pass, Poll, Read, RemovePid, SetFilter, SetPes, SetSize, Start, Stop}
+pub use Rattle.dmx_calls.specs.declared.call.Call.TheVariants.{AddPid, Attach, Close, Detach, End, Open, Pass, Poll, Read, RemovePid, SetFilter, SetPes, SetSize, Start, Stop}
 pub use Rattle.dmx_calls.specs.declared.outcome.Outcome.{Outcome}
 pub use Rattle.dmx_calls.specs.declared.outcome.OutcomeKind.{OutcomeKind}
 pub use Rattle.dmx_calls.specs.declared.outcome.OutcomeKind.TheVariants.{Stc}

@@ -7,7 +7,7 @@ ghost use Rattle.report_read.specs.Ranges.{IsActInRange};
 use crate::bytes::Bytes;
 use crate::parts::{read_input, read_output};
 use crate::sets::{read_filter, read_pids};
-use dmx_calls::{Act, PesParams, SectionParams};
+use dmx_calls::{Act, BatchRange, PesParams, SectionParams};
 
 #[tactic(auto, unfolding(crate::specs::Inside::Parts::section_in))]
 fn read_section(bytes: &mut Bytes<'_>) -> Option<Act>
@@ -66,8 +66,7 @@ fn read_pass(bytes: &mut Bytes<'_>) -> Option<Act>
     let now = bytes.named64(b" at=")?;
     Some(Act::Pass {
         input,
-        first,
-        count,
+        batch: BatchRange { first, count },
         now,
     })
 }
@@ -77,9 +76,9 @@ fn read_read(bytes: &mut Bytes<'_>) -> Option<Act>
     ensures value { Reads result bytes.new (read_in bytes.old) }
     ensures range { IfSome result IsActInRange }
 {
-    let count = bytes.number32()?;
+    let room = bytes.number32()?;
     let now = bytes.named64(b" at=")?;
-    Some(Act::Read { now, count })
+    Some(Act::Read { now, room })
 }
 
 #[tactic(auto, unfolding(crate::specs::Inside::Parts::attach_in))]

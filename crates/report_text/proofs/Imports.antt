@@ -9,6 +9,7 @@ pub use Rattle.dmx_calls.specs.declared.reply.PollError.TheVariants.{Overflow, Q
 pub use Rattle.lemmas.proofs.Lists.{any_of_map}
 pub use Rattle.report_text.specs.Acts.{act_text, next_pid_text}
 pub use Rattle.report_text.specs.Entries.{entry_text, histories_text, history_text, is_of_client}
+unfoldable pub use Rattle.report_text.specs.Entries.{caller_text}
 pub use Rattle.report_text.specs.Imports.{Act, Appends, End as EndAct, Fed, LogEntry, Outcome, Passed, Response, StreamHead, before_entry, feeder_acts, feeder_entries, feeder_entry, flat_map, input_text, list_any, node_text, pass_act, told_entry, told_head, woven}
 pub use Rattle.report_text.specs.Inside.Pieces.{Adds, AddsPart, AddsSome}
 pub use Rattle.report_text.specs.Inside.Sums.{AreAtMost, AreSums}

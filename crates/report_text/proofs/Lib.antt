@@ -1,5 +1,4 @@
 pub mod Pieces
-pub mod Short
 pub mod Texts
 pub mod Turning
 pub mod Wholes

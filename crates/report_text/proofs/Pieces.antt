@@ -1,17 +1,9 @@
 -- Texts that are written in pieces out of a buffer.
-use Rattle.report_text.proofs.Imports.{◌≡◌, ◌<◌, ◌≤◌, ◌+◌, ℕ, List, [], ◌∷◌, ◌++◌, length, take, drop, refl, sym, ap, ◌∙◌, subst, arith, get_or, append_assoc, append-nil, length-append, Option, Result, Ok, Err, OnOk, OnErr, flat_map, flat_map_more, take_more, take-append-drop, flat_map-append, Appends, Appends-trans, Appends-nil, take-append-add, take-append-le, Adds, AddsPart, AddsSome}
-
--- a text that waits, all of it
-pub waits_too : {now : Option (List ℕ)} {waited waits : List ℕ} (text : List ℕ) → waits ≡ waited ++ text → Adds now now waited waits text
-waits_too {now} text grew = record { front = []; written = Appends-nil now; rest = sym grew }
+use Rattle.report_text.proofs.Imports.{◌≡◌, ◌<◌, ◌≤◌, ◌+◌, ℕ, List, [], ◌++◌, length, take, drop, sym, ap, ◌∙◌, subst, arith, get_or, append_assoc, append-nil, length-append, Option, Result, Ok, Err, OnOk, OnErr, flat_map, flat_map_more, take_more, take-append-drop, flat_map-append, Appends, Appends-trans, Appends-nil, take-append-add, take-append-le, Adds, AddsPart, AddsSome}
 
 -- no text
 pub adds_nothing : {now : Option (List ℕ)} {waited : List ℕ} → Adds now now waited waited []
 adds_nothing {now} {waited} = record { front = []; written = Appends-nil now; rest = append-nil waited }
-
--- all that waited was written
-pub all_written : {old new : Option (List ℕ)} {waited : List ℕ} → Appends old new waited → Adds old new waited [] []
-all_written {old} {new} {waited} w = record { front = waited; written = w; rest = refl }
 
 -- one text behind another
 pub adds_both : {a b c : Option (List ℕ)} {u v w : List ℕ} (s t : List ℕ) → Adds a b u v s → Adds b c v w t → Adds a c u w (s ++ t)
@@ -46,12 +38,6 @@ part_before {a} {b} {u} s t p =
       written = subst (λ l. Appends a b (take p.count l)) same (subst (Appends a b) (sym (take-append-le p.count (u ++ s) t few)) p.written);
     }
 
--- a part of what waits was written
-pub part_written : {a b : Option (List ℕ)} {waited : List ℕ} (n : ℕ) → n < length waited → Appends a b (take n waited) → AddsPart a b waited []
-part_written {a} {b} {waited} n few w =
-    let same : waited ≡ waited ++ [] = sym (append-nil waited) in
-    record { count = n; part = subst (λ l. n < length l) same few; written = subst (λ l. Appends a b (take n l)) same w }
-
 -- ------ a line, and then what is due
 
 pub line_added : {T E : Type 0} (a b : Option (List ℕ)) (u v w line : List ℕ) (r : Result T E) → v ≡ u ++ line → OnOk r (Adds a b v w []) → OnOk r (Adds a b u w line)
@@ -70,15 +56,6 @@ line_failed a b u v line (Err e) grew p =
 pub on_any_err : {T E P : Type 0} (r : Result T E) → P → OnErr r P
 on_any_err (Ok x) p = tt
 on_any_err (Err e) p = p
-
--- behind a text
-pub then_adds : {T E : Type 0} (a b c : Option (List ℕ)) (u v w : List ℕ) (r : Result T E) (s t : List ℕ) → Adds a b u v s → OnOk r (Adds b c v w t) → OnOk r (Adds a c u w (s ++ t))
-then_adds a b c u v w (Ok x) s t p q = adds_both s t p q
-then_adds a b c u v w (Err e) s t p q = tt
-
-pub then_part : {T E : Type 0} (a b c : Option (List ℕ)) (u v : List ℕ) (r : Result T E) (s t : List ℕ) → Adds a b u v s → OnErr r (AddsPart b c v t) → OnErr r (AddsPart a c u (s ++ t))
-then_part a b c u v (Ok x) s t p q = tt
-then_part a b c u v (Err e) s t p q = part_behind s t p q
 
 -- nothing waits any more
 pub none_waits : {T E : Type 0} (a b : Option (List ℕ)) (u w text : List ℕ) (r : Result T E) → OnOk r (w ≡ []) → OnOk r (Adds a b u w text) → OnOk r (Adds a b u [] text)

@@ -1,8 +1,7 @@
 -- How the lines of a node grow by one line.
-use Rattle.report_text.proofs.Imports.{ℕ, zero, suc, ◌+◌, ◌<◌, ◌≤◌, ◌≡◌, ◌∙◌, ◌⊎◌, inl, inr, refl, sym, ap, Bool, true, false, ◌||◌, List, [], ◌∷◌, ◌++◌, length, map, drop, arith, append_assoc, append-nil, codes, nat_lt, if◌then◌else◌, get_or, flat_map, list_any, nat_tests, drop-nil, Fed, ToldEntry, told_entry, Act, LogEntry, feeder_acts, feeder_entry, feeder_entries, before_entry, woven_from, woven, Passed, node_text, act_text, response_text, entry_text, is_of_client, history_text, tail_text, turn, Told}
+use Rattle.report_text.proofs.Imports.{ℕ, zero, suc, ◌+◌, ◌<◌, ◌≤◌, ◌≡◌, ◌∙◌, ◌⊎◌, inl, inr, refl, sym, ap, Bool, true, false, ◌||◌, List, [], ◌∷◌, ◌++◌, length, map, drop, arith, append_assoc, append-nil, codes, nat_lt, if◌then◌else◌, get_or, flat_map, list_any, nat_tests, drop-nil, Fed, ToldEntry, told_entry, Act, LogEntry, feeder_acts, feeder_entry, feeder_entries, before_entry, woven_from, woven, Passed, node_text, act_text, response_text, entry_text, is_of_client, history_text, tail_text, turn, Told, caller_text}
 use Rattle.std.specs.Fmt.{decimal}
 use Rattle.text_forms.specs.Names.{who_text}
-use Rattle.report_text.specs.Entries.{caller_text}
 
 -- ------ a line of the feeder
 
@@ -136,12 +135,6 @@ weaving-more feeding calls told step next call before text longer longest there 
     ∙ ap (λ (l : List ℕ). l ++ behind) added ∙ append_assoc longer (entry_text (told_entry call)) behind
     ∙ turns node (told_entry call) (woven_from node rest) refl
     ∙ ap (λ l. text ++ flat_map entry_text (woven_from node l (told + step) step (drop step (feeder_acts feeding)))) (sym (calls-more calls told call there is)) ∙ so_far node
-
-pub weaving-done : (feeding : List Fed) (calls : List ToldEntry) (told step : ℕ) (before text longer : List ℕ) → length calls ≤ told → IsWeaving feeding calls told step before text
-    → ((node : ℕ) → longer ≡ text ++ flat_map entry_text (feeder_entries node (told + step) step (drop step (feeder_acts feeding))))
-    → (node : ℕ) → longer ≡ before ++ flat_map entry_text (woven node (feeder_acts feeding) (map told_entry calls))
-weaving-done feeding calls told step before text longer past so_far added node =
-    added node ∙ ap (λ l. text ++ flat_map entry_text (woven_from node l (told + step) step (drop step (feeder_acts feeding)))) (sym (calls-none calls told past)) ∙ so_far node
 
 -- ------ whether a client called
 

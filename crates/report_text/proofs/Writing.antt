@@ -1,5 +1,5 @@
 -- How the lines of a node are written.
-use Rattle.report_text.proofs.Imports.{ℕ, suc, ◌+◌, ◌<◌, ◌≤◌, ◌≡◌, ◌∙◌, ◌⊎◌, refl, sym, ap, subst, false, true, List, [], ◌∷◌, ◌++◌, length, map, drop, append_assoc, codes, get_or, arith, Option, flat_map, list_any, Fed, ToldEntry, Act, told_entry, LogEntry, feeder_acts, feeder_entry, feeder_entries, before_entry, woven_from, woven, node_text, entry_text, is_of_client, history_text, Adds, AddsPart, AddsSome, turn, BreaksBefore, Told}
+use Rattle.report_text.proofs.Imports.{ℕ, suc, ◌+◌, ◌<◌, ◌≤◌, ◌≡◌, ◌∙◌, ◌⊎◌, refl, sym, ap, subst, false, true, List, [], ◌∷◌, ◌++◌, length, map, drop, append_assoc, codes, get_or, arith, Option, flat_map, list_any, Fed, ToldEntry, told_entry, feeder_acts, feeder_entry, feeder_entries, before_entry, woven_from, woven, node_text, entry_text, is_of_client, history_text, Adds, AddsPart, AddsSome, turn, BreaksBefore, Told}
 use Rattle.report_text.proofs.Pieces.{adds_nothing, adds_both, part_behind, part_before}
 use Rattle.report_text.proofs.Turning.{IsTelling, IsEnding, IsWeaving, telling-more, telling-done, ending-more, ending-done, weaving-more, calls-more, calls-none, untold, told_whole}
 

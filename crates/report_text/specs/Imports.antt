@@ -6,7 +6,7 @@ pub use Rattle.dmx_calls.specs.Names.{errno_text, input_text, output_text, pendi
 pub use Rattle.dmx_calls.specs.Response.{Again, Busy, Data, Done, NoMemory, Overflow, Passed, Ready, Refused, Response, TapChange, TimedOut}
 pub use Rattle.dmx_calls.specs.declared.histories.Fed.{Fed}
 pub use Rattle.dmx_calls.specs.declared.limits.TheConstants.{DEMUX_NODES}
-pub use Rattle.dmx_calls.specs.declared.log.Act.TheVariants.{AddPid, Attach, Close, Detach, End, Open, Pass, Poll, Read, RemovePid, SetFilter, SetPes, SetSize, Start, Stop}
+pub use Rattle.dmx_calls.specs.declared.call.Call.TheVariants.{AddPid, Attach, Close, Detach, End, Open, Pass, Poll, Read, RemovePid, SetFilter, SetPes, SetSize, Start, Stop}
 pub use Rattle.dmx_calls.specs.declared.outcome.Outcome.{Outcome}
 pub use Rattle.dmx_calls.specs.declared.outcome.OutcomeKind.{OutcomeKind}
 pub use Rattle.dmx_calls.specs.declared.params.Input.{Input}

@@ -90,7 +90,7 @@ fn add_timed_out(out: &mut Vec<u8>, started: u64, now: u64, timeout: u32) -> Res
     add_field(out, b" timeout=", timeout as u64)
 }
 
-#[tactic(auto, using(crate::proofs::Short::short_pending))]
+#[tactic(auto, using(crate::proofs::Texts::short_pending))]
 fn add_ready(
     out: &mut Vec<u8>,
     readable: bool,
@@ -108,7 +108,7 @@ fn add_ready(
 }
 
 /// A reply.
-#[tactic(auto, using(crate::proofs::Short::short_errno), unfolding(crate::specs::Replies::response_text))]
+#[tactic(auto, using(crate::proofs::Texts::short_errno), unfolding(crate::specs::Replies::response_text))]
 pub fn add_reply(out: &mut Vec<u8>, reply: &SharedReply) -> Result<(), NoMemory>
     ensures { Appended 131100 (response_text (response_of reply.now)) out.old out.new result }
 {

@@ -1,6 +1,5 @@
 -- A script has all clients that its lines name.
-use Rattle.script_run.proofs.Imports.{ℕ, ◌≤◌, List, [], ◌∷◌, fold, max, arith, All, All-nil, All-cons, All-head, All-tail, clients_of, clients_in, Scripted, IsInRange, Line, Feed, Tick}
-use Rattle.client_script.specs.declared.line.Line.TheVariants.{Command}
+use Rattle.script_run.proofs.Imports.{ℕ, ◌≤◌, List, [], ◌∷◌, fold, max, arith, All, All-nil, All-cons, All-head, All-tail, clients_of, clients_in, Scripted, IsInRange, Line, Feed, Tick, Command}
 
 most_first : (m : ℕ) (lines : List Line) → m ≤ fold (λ most line. max most (clients_of line)) m lines
 most_first m [] = omega arith

@@ -1,6 +1,5 @@
 -- A run so far that is over is a run, and its histories are accounted.
-use Rattle.script_run.proofs.Imports.{refl, ℕ, Bool, true, false, nat_lt, if◌then◌else◌, DEMUX_NODES, IsAccounted, History, IsLegalFor, filled, demux, dvr, demux_accounted, dvr_accounted, sources, RunsEnd, RunsAreAccounted}
-use Rattle.dmx_calls.specs.Rules.{rules_at}
+use Rattle.script_run.proofs.Imports.{refl, ℕ, Bool, true, false, nat_lt, if◌then◌else◌, DEMUX_NODES, IsAccounted, History, IsLegalFor, filled, demux, dvr, demux_accounted, dvr_accounted, sources, RunsEnd, RunsAreAccounted, rules_at}
 
 pub runs_end : RunsEnd
 runs_end payers script most stream hs s over = (

@@ -1,7 +1,7 @@
 -- What the calls of a client bring: some of the packets that it plays.
 use Rattle.script_run.proofs.Imports.{refl, sym, subst, ℕ, zero, suc, ◌+◌, ◌≤◌, List, [], ◌∷◌, length, drop, Option, Some, None, add-one, arith, length-take, All, IfSome, All-head, All-tail, All-nil, IsPacket, Packets, StandsAmong, joined, are_packets, are_placed, Input, Frontend, Act, brought, IsFrom, filled_act, Scripted, writes_of, Open, ClientRequest, Own, Pass, Batches, batch_at, call_of, pass_of, played, plays_of, sources}
 use Rattle.dmx_calls.specs.declared.params.Input.TheVariants.{Dvr}
-use Rattle.dmx_calls.specs.declared.log.Act.TheVariants as act
+use Rattle.dmx_calls.specs.declared.call.Call.TheVariants as act
 
 -- ------ the packets
 
@@ -38,9 +38,9 @@ is_from script stream client w moment = subst (λ n. IsFrom (sources script stre
 
 -- how many packets a call brings
 abbrev pub count_of : Act → ℕ
-count_of (act.Pass input first count now) = count
+count_of (act.Pass input batch now) = batch.count
 count_of _ = 0
 
 pub brings_few : (packets : Input → List (List ℕ)) (a : Act) → length (brought (filled_act packets a)) ≤ count_of a
-brings_few packets (act.Pass input first count now) = omega (arith, length-take count (drop first (packets input)))
+brings_few packets (act.Pass input batch now) = omega (arith, length-take batch.count (drop batch.first (packets input)))
 brings_few packets _ = omega arith

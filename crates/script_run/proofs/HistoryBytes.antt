@@ -1,7 +1,6 @@
 -- The packets that a node's history brings and the bytes that it answers, entry by entry.
-use Rattle.script_run.proofs.Imports.{◌≡◌, refl, sym, ap, subst, ℕ, suc, ◌+◌, ◌*◌, ◌≤◌, Bool, true, false, nat_eq, nat_lt, List, [], ◌∷◌, ◌++◌, length, map, filter, drop, arith, length-append, sum, if◌then◌else◌, All, reverse-append, length-map, sum_by-cons, All-nil, All-append, All-take, All-drop, All-head, All-tail, IsPacket, Act, DEMUX_NODES, brought, Entry, History, brought_by, LogEntry, Sources, filled, filled_act, filled_entry, Input, demux, dvr, IsLegalFor, bytes_answered, demux_answers_fit, dvr_answers_fit, bytes_in, Batch, Step, feeding, steps_of}
-use Rattle.dmx_calls.specs.declared.log.Act.TheVariants as act
-use Rattle.dmx_calls.specs.Rules.{rules_at}
+use Rattle.script_run.proofs.Imports.{◌≡◌, refl, sym, ap, subst, ℕ, suc, ◌+◌, ◌*◌, ◌≤◌, Bool, true, false, nat_eq, nat_lt, List, [], ◌∷◌, ◌++◌, length, map, filter, drop, arith, length-append, sum, if◌then◌else◌, All, reverse-append, length-map, sum_by-cons, All-nil, All-append, All-take, All-drop, All-head, All-tail, IsPacket, Act, DEMUX_NODES, brought, Entry, History, brought_by, LogEntry, Sources, filled, filled_act, filled_entry, Input, demux, dvr, IsLegalFor, bytes_answered, demux_answers_fit, dvr_answers_fit, bytes_in, Batch, Step, feeding, steps_of, rules_at}
+use Rattle.dmx_calls.specs.declared.call.Call.TheVariants as act
 use Rattle.script_run.proofs.Events.{brings_few, count_of}
 use Rattle.script_run.proofs.Counting.{sum_of, weigh_append, weigh_reverse, weigh_map}
 use Rattle.script_run.proofs.ReadReplies.{bytes_same}
@@ -57,7 +56,7 @@ feeder_brings es bs fed =
 
 module _ (packets : Sources) (are : (who : ℕ) (input : Input) → All IsPacket (packets who input)) where
   act_brings : (who : ℕ) (a : Act) → All IsPacket (brought (filled_act (packets who) a))
-  act_brings who (act.Pass input first count now) = All-take IsPacket count (drop first (packets who input)) (All-drop IsPacket first (packets who input) (are who input))
+  act_brings who (act.Pass input batch now) = All-take IsPacket batch.count (drop batch.first (packets who input)) (All-drop IsPacket batch.first (packets who input) (are who input))
   act_brings who _ = All-nil IsPacket
 
   -- each entry brings packets

@@ -3,34 +3,37 @@ pub use Rattle.client_core.proofs.FirstCalls.{first_calls, stays_on}
 pub use Rattle.client_core.proofs.Following.{exchanges_more}
 pub use Rattle.client_core.proofs.Joining.{are_counted, are_joined, are_packets, are_placed, few_in}
 pub use Rattle.client_core.proofs.More.{one_reply_more, repeats_none, some_of}
-pub use Rattle.client_core.proofs.Passing.{by_calls, done_passes, event_in, first_and_rest, no_passes, own_write, passed_by, passes_behind, passes_by}
-pub use Rattle.client_core.specs.Commands.{Doing, Slots, commands_among, commands_in, done, ends_drain, pass_of, stands, through}
-pub use Rattle.client_core.specs.Deeds.{deed_of}
-pub use Rattle.client_core.specs.Events.{Standing, no_slots, progress, progress_from, slots_after}
+pub use Rattle.client_core.proofs.Numbering.{verb_plays}
+pub use Rattle.client_core.proofs.Steps.{any_first}
+pub use Rattle.client_core.proofs.Passing.{by_calls, event_in, first_and_rest, first_passes, no_passes, passed_by, passes_behind, passes_by, writes_pass}
+pub use Rattle.client_core.specs.Commands.{Doing, Slots, command_of, commands_among, commands_in, ends_drain, pass_of, stands, through}
+pub use Rattle.client_core.specs.Events.{Standing, no_slots, progress_from, slots_after}
+unfoldable pub use Rattle.client_core.specs.Events.{progress}
 pub use Rattle.client_core.specs.Inside.More.{added_by}
-pub use Rattle.client_core.specs.Passes.{pass_at, pass_in, passes_on, played_at, played_from, played_in, played_on}
+pub use Rattle.client_core.specs.Passes.{pass_at, pass_in, passes_on, played_by, played_from}
+unfoldable pub use Rattle.client_core.specs.Passes.{played_writes}
 pub use Rattle.client_core.specs.PlayLaws.{StandsAmong, packets_in}
-pub use Rattle.client_core.specs.Plays.{cut_of, joined, plays}
+pub use Rattle.client_core.specs.Plays.{PlaysOf, cut_of, joined, plays}
 pub use Rattle.client_core.specs.Stc.{exchanges, with_reply}
-pub use Rattle.client_core.specs.Steps.{first}
+pub use Rattle.client_core.specs.Steps.{done, first, first_on}
 pub use Rattle.client_core.specs.declared.command.ClientCommand.{ClientCommand}
-pub use Rattle.client_core.specs.declared.deed.Deed.{Deed}
-pub use Rattle.client_core.specs.declared.deed.Deed.TheVariants.{Drain, GetStc, Once, ReadWait, Write}
 pub use Rattle.client_core.specs.declared.event.ClientRequest.{ClientRequest}
 pub use Rattle.client_core.specs.declared.event.ClientRequest.TheVariants.{Own, Pass}
 pub use Rattle.client_core.specs.declared.task.Ending.{Ending}
 pub use Rattle.client_script.specs.Grammar.{IsInRange}
 pub use Rattle.client_script.specs.Script.{clients_of, named_among, named_by, named_in, writes_of}
-pub use Rattle.client_script.specs.declared.line.Line.TheVariants.{Feed, Tick}
+pub use Rattle.client_script.specs.declared.line.Line.TheVariants.{Feed, Tick, Command}
 pub use Rattle.client_script.specs.declared.line.Target.{Target}
-pub use Rattle.client_script.specs.declared.line.Target.TheVariants.{Dvr, Node, Slot}
 pub use Rattle.client_script.specs.declared.line.Verb.{Verb}
+pub use Rattle.client_script.specs.declared.line.Verb.TheVariants.{Drain, GetStc, Once, ReadWait, Write}
 pub use Rattle.client_script.specs.declared.line.Want.TheVariants.{Open}
 pub use Rattle.dmx_calls.proofs.Nodes.{demux_keeps, dvr_keeps}
 pub use Rattle.dmx_calls.proofs.Reading.{read_each}
 pub use Rattle.dmx_calls.proofs.Telling.{fills}
 pub use Rattle.dmx_calls.specs.Answer.{ReadTerms, expired_of, read_terms, refusal_to, response_of_read, response_unless, with_call}
+unfoldable pub use Rattle.dmx_calls.specs.Answer.{answer}
 pub use Rattle.dmx_calls.specs.Facts.{ledger_at, ledger_of}
+unfoldable pub use Rattle.dmx_calls.specs.Facts.{facts}
 pub use Rattle.dmx_calls.specs.History.{Entry, History, Since, brought_by, entry_of, event}
 pub use Rattle.dmx_calls.specs.Invocation.{Invocation, brought}
 pub use Rattle.dmx_calls.specs.Ledger.{answered_in}
@@ -38,6 +41,7 @@ pub use Rattle.dmx_calls.specs.Legal.{May}
 pub use Rattle.dmx_calls.specs.Log.{IsFrom, filled_entry}
 pub use Rattle.dmx_calls.specs.Response.{Again, Busy, Done, Passed, Ready, Refused, TimedOut}
 pub use Rattle.dmx_calls.specs.Rules.{Rules, demux, dvr}
+unfoldable pub use Rattle.dmx_calls.specs.Rules.{rules_at}
 pub use Rattle.dmx_calls.specs.Tenure.{has_ended}
 pub use Rattle.dmx_calls.specs.declared.params.Input.{Input}
 pub use Rattle.dmx_calls.specs.declared.reply.Errno.{Errno}
@@ -65,4 +69,5 @@ pub use Rattle.std.proofs.lemmas.List.Sums.{sum_by-cons}
 pub use Rattle.std.proofs.lemmas.Option.{slice_get_within}
 pub use Rattle.std.specs.List.{All, cons_option, range_with_len}
 pub use Rattle.std.specs.Option.{IfSome}
-pub use Rattle.std.specs.Prelude.{IsSome, filter_map, if◌then◌else◌, is_some, reverse, slice_index_or, sum, unwrap_or, ◌⊎◌}
+pub use Rattle.std.specs.List.{AllByRecursion}
+pub use Rattle.std.specs.Prelude.{IsSome, filter_map, if◌then◌else◌, reverse, sum, unwrap_or, ◌⊎◌}

@@ -1,9 +1,5 @@
 -- The passes of a client: each is of a write whose poll was Ready, and passes the nodes one after another.
-use Rattle.script_run.proofs.Imports.{◌≡◌, refl, sym, ap, ◌∙◌, ℕ, zero, suc, ◌+◌, ◌≤◌, Bool, true, false, nat_eq, List, [], ◌∷◌, ◌++◌, append-nil, Option, Some, None, length, map, filter, take, slice_get, arith, if◌then◌else◌, slice_index_or, filter_map, is_some, unwrap_or, flat_map, cons_option, flat_map-append, map-append, take_all, filter-append, at_place, Packets, LogEntry, act_of, filled_act, fills, Response, Ready, Scripted, Line, Feed, Tick, CommandLine, Verb, Target, Node, Slot, Dvr, Open, ClientCommand, Deed, Once, ReadWait, Drain, GetStc, Write, Event, ClientRequest, Own, Pass, Ending, Batches, batch_at, deed_of, Slots, Doing, stands, through, done, call_of, commands_among, commands_in, commands_of, pass_of, plays_of, slots_after, progress_from, no_slots, next_event, AreAsked, replies, sources, played_at, played_from, played_in, played_on, WritesPass, from_the_dvr, pass_in, pass_at, passes_on, exchanges, with_reply, exchanges_more, passed_by, passes_by, passes_behind, event_in, no_passes, own_write, done_passes, first_and_rest, by_calls, first, inl, inr, ◌⊎◌}
-use Rattle.client_script.specs.declared.line.Verb.TheVariants as verb
-use Rattle.client_core.specs.Events.{progress}
-use Rattle.client_core.specs.Passes.{played_writes}
-use Rattle.client_core.proofs.Passing.{writes_pass as client_passes}
+use Rattle.script_run.proofs.Imports.{AllByRecursion, PlaysOf, Verb, any_first, verb_plays, command_of, IsSome, named_by, ◌≡◌, refl, sym, ap, ◌∙◌, ℕ, zero, suc, ◌+◌, ◌≤◌, Bool, true, false, nat_eq, List, [], ◌∷◌, ◌++◌, append-nil, Option, Some, None, length, map, filter, take, slice_get, arith, if◌then◌else◌, filter_map, unwrap_or, flat_map, cons_option, flat_map-append, map-append, take_all, filter-append, at_place, Packets, LogEntry, act_of, filled_act, fills, Response, Ready, Scripted, Line, CommandLine, Verb, Open, ClientCommand, Once, ReadWait, Drain, GetStc, Write, Event, ClientRequest, Own, Pass, Ending, Batches, batch_at, Slots, Doing, stands, through, done, call_of, commands_among, commands_of, pass_of, plays_of, slots_after, progress_from, no_slots, next_event, AreAsked, replies, sources, played_by, played_from, first_on, WritesPass, from_the_dvr, pass_in, pass_at, passes_on, exchanges, with_reply, exchanges_more, passed_by, passes_by, passes_behind, event_in, no_passes, first_passes, first_and_rest, by_calls, first, inl, inr, ◌⊎◌, progress, played_writes, writes_pass as client_passes}
 use Rattle.script_run.proofs.Counting.{sum_of, weigh_append}
 use Rattle.script_run.proofs.Events.{from_client}
 use Rattle.script_run.proofs.Lists.{take_next}
@@ -24,73 +20,48 @@ one_reply_on node client script rs r e is =
 
 -- ------ the batches that are played
 
--- where a write is to pass a batch, it is among these
-abbrev IsDeed : Batches → Deed → Type 0
-IsDeed batches (Write write true) = is_some (batch_at batches write) ≡ true
-IsDeed batches _ = Unit {0}
-
-abbrev AreDeeds : Batches → List ClientCommand → Type 0
-AreDeeds batches [] = Unit {0}
-AreDeeds batches (c ∷ cs) = IsDeed batches c.deed × AreDeeds batches cs
-
 abbrev AreBatches : Batches → List ℕ → Type 0
 AreBatches batches [] = Unit {0}
-AreBatches batches (write ∷ writes) = (is_some (batch_at batches write) ≡ true) × AreBatches batches writes
+AreBatches batches (write ∷ writes) = IsSome (batch_at batches write) × AreBatches batches writes
 
 module _ (batches : Batches) where
-  verb_deed : (v : Verb) → IsDeed batches (deed_of batches v)
-  verb_deed (verb.Once want) = tt
-  verb_deed (verb.ReadWait count) = tt
-  verb_deed (verb.Drain count) = tt
-  verb_deed (verb.GetStc num) = tt
-  verb_deed (verb.Write write) = go (is_some (batch_at batches write)) refl where
-    go : (b : Bool) → is_some (batch_at batches write) ≡ b → IsDeed batches (Write write b)
-    go true yea = yea
-    go false nay = tt
+  -- where a command is said to have a batch, it is among these
+  abbrev AreSaid : List ClientCommand → Type 0
+  AreSaid cs = AllByRecursion (λ c. PlaysOf batches c.verb c.has_batch) cs
 
-  line_deeds : (client : ℕ) (l : Line) (cs : List ClientCommand) → AreDeeds batches cs → AreDeeds batches (commands_in client batches l ++ cs)
-  line_deeds client (CommandLine line who target v) cs are = go (nat_eq who client) where
-    go : (b : Bool) → AreDeeds batches ((if b then record { line = line; target = target; deed = deed_of batches v } ∷ [] else []) ++ cs)
-    go true = (verb_deed v, are)
-    go false = are
-  line_deeds client (Feed n) cs are = are
-  line_deeds client (Tick n) cs are = are
+  are_said : (client : ℕ) (lines : List Line) → AreSaid (commands_among client batches lines)
+  are_said client [] = tt
+  are_said client (CommandLine line who target v ∷ lines) = go (nat_eq who client) (are_said client lines) where
+    go : (b : Bool) → AreSaid (commands_among client batches lines) → AreSaid ((if b then command_of batches line target v ∷ [] else []) ++ commands_among client batches lines)
+    go true later = (verb_plays batches v, later)
+    go false later = later
+  are_said client (_ ∷ lines) = are_said client lines
 
-  all_deeds : (client : ℕ) (lines : List Line) → AreDeeds batches (commands_among client batches lines)
-  all_deeds client [] = tt
-  all_deeds client (l ∷ lines) = line_deeds client l (commands_among client batches lines) (all_deeds client lines)
+  on_batches : (on : ℕ) (v : Verb) (has : Bool) (rs : List Response) → PlaysOf batches v has → AreBatches batches (played_by (first_on on v has) rs)
+  on_batches on (Write write) true (Ready a b c d ∷ rs) is = (is refl, tt)
+  on_batches on (Write write) true [] is = tt
+  on_batches on (Write write) true (_ ∷ rs) is = tt
+  on_batches on (Write write) false rs is = tt
+  on_batches on (Once w) has rs is = tt
+  on_batches on (ReadWait count) has rs is = tt
+  on_batches on (Drain count) has rs is = tt
+  on_batches on (GetStc num) has rs is = tt
 
-  on_batches : (v : Deed) (rs : List Response) → IsDeed batches v → AreBatches batches (played_on v rs)
-  on_batches (Write write true) (Ready a b c d ∷ rs) is = (is, tt)
-  on_batches (Write write true) [] is = tt
-  on_batches (Write write true) (_ ∷ rs) is = tt
-  on_batches (Write write false) rs is = tt
-  on_batches (Once w) rs is = tt
-  on_batches (ReadWait count) rs is = tt
-  on_batches (Drain count) rs is = tt
-  on_batches (GetStc num) rs is = tt
-
-  at_batches : (o : Option ℕ) (v : Deed) (rs : List Response) → IsDeed batches v → AreBatches batches (played_at o v rs)
-  at_batches None v rs is = tt
-  at_batches (Some on) v rs is = on_batches v rs is
-
-  in_batches : (slots : Slots) (t : Target) (v : Deed) (rs : List Response) → IsDeed batches v → AreBatches batches (played_in slots t v rs)
-  in_batches slots (Node on) v rs is = on_batches v rs is
-  in_batches slots (Slot slot) v rs is = at_batches (slice_index_or slots slot None) v rs is
-  in_batches slots Dvr v rs is = on_batches v rs is
+  in_batches : (slots : Slots) (c : ClientCommand) (rs : List Response) → PlaysOf batches c.verb c.has_batch → AreBatches batches (played_by (first slots c.target c.verb c.has_batch) rs)
+  in_batches slots c rs is = any_first (λ n. AreBatches batches (played_by n rs)) slots c.target c.verb c.has_batch (λ on le. on_batches on c.verb c.has_batch rs is) (λ slot lt. tt) tt
 
   both_batches : (xs ys : List ℕ) → AreBatches batches xs → AreBatches batches ys → AreBatches batches (xs ++ ys)
   both_batches [] ys are also = also
   both_batches (x ∷ xs) ys are also = (are.0, both_batches xs ys are.1 also)
 
-  from_batches : (slots : Slots) (step : ℕ) (cs : List ClientCommand) (rs : List Response) → AreDeeds batches cs → AreBatches batches (played_from slots step cs rs)
+  from_batches : (slots : Slots) (step : ℕ) (cs : List ClientCommand) (rs : List Response) → AreSaid cs → AreBatches batches (played_from slots step cs rs)
   from_batches slots step [] rs are = tt
-  from_batches slots step (c ∷ cs) rs are = go (λ ending next left. from_batches (slots_after ending slots) next cs left are.1) (done slots c.target c.deed step rs) where
+  from_batches slots step (c ∷ cs) rs are = go (λ ending next left. from_batches (slots_after ending slots) next cs left are.1) (done slots c.target c.verb c.has_batch step rs) where
     go : ((ending : Ending) (next : ℕ) (left : List Response) → AreBatches batches (played_from (slots_after ending slots) next cs left))
-        → (d : Doing) → AreBatches batches (played_in slots c.target c.deed rs ++ (elim d [ stands event ↦ [] | through ending next left ↦ played_from (slots_after ending slots) next cs left ]))
-    go deeper (stands e) = both_batches (played_in slots c.target c.deed rs) [] (in_batches slots c.target c.deed rs are.0) tt
+        → (d : Doing) → AreBatches batches (played_by (first slots c.target c.verb c.has_batch) rs ++ (elim d [ stands event ↦ [] | through ending next left ↦ played_from (slots_after ending slots) next cs left ]))
+    go deeper (stands e) = both_batches (played_by (first slots c.target c.verb c.has_batch) rs) [] (in_batches slots c rs are.0) tt
     go deeper (through ending next left) =
-        both_batches (played_in slots c.target c.deed rs) (played_from (slots_after ending slots) next cs left) (in_batches slots c.target c.deed rs are.0) (deeper ending next left)
+        both_batches (played_by (first slots c.target c.verb c.has_batch) rs) (played_from (slots_after ending slots) next cs left) (in_batches slots c rs are.0) (deeper ending next left)
 
   -- the batch of a write, where it has one
   abbrev batch_of : ℕ → Packets
@@ -99,7 +70,7 @@ module _ (batches : Batches) where
   all_there : (writes : List ℕ) → AreBatches batches writes → map batch_of writes ≡ filter_map (batch_at batches) writes
   all_there [] are = refl
   all_there (write ∷ writes) are = go (batch_at batches write) are.0 (all_there writes are.1) where
-    go : (o : Option Packets) → is_some o ≡ true → map batch_of writes ≡ filter_map (batch_at batches) writes
+    go : (o : Option Packets) → IsSome o → map batch_of writes ≡ filter_map (batch_at batches) writes
         → unwrap_or o (record { first = 0; packets = [] }) ∷ map batch_of writes ≡ cons_option o (filter_map (batch_at batches) writes)
     go (Some b) is deeper = ap (λ l. b ∷ l) deeper
     go None is deeper = absurd (cc is)
@@ -122,7 +93,7 @@ module _ (batches : Batches) where
 
 played_batches : (client : ℕ) (script : Scripted) (rs : List Response) → AreBatches (plays_of client script) (played_writes client script rs)
 unfolding played_writes
-played_batches client script rs = from_batches (plays_of client script) no_slots 0 (commands_of client script) rs (all_deeds (plays_of client script) client script.lines)
+played_batches client script rs = from_batches (plays_of client script) no_slots 0 (commands_of client script) rs (are_said (plays_of client script) client script.lines)
 
 -- ------ along a log
 
@@ -208,37 +179,29 @@ module _ (script : Scripted) (client : ℕ) (log : List LogEntry) (events : AreA
 
 -- ------ at most the writes of the commands have passed
 
-abbrev pub worth_of : (worth : ℕ → ℕ) → Deed → ℕ
-worth_of worth (Write write has) = worth write
-worth_of worth _ = 0
-
 module _ (node : ℕ) (worth : ℕ → ℕ) where
-  own_worth : (v : Deed) (ws : List ℕ) → (ws ≡ []) ⊎ (ws ≡ own_write v) → sum_of worth ws ≤ worth_of worth v
+  own_worth : (v : Verb) (ws : List ℕ) → (ws ≡ []) ⊎ (ws ≡ named_by v) → sum_of worth ws ≤ sum_of worth (named_by v)
   own_worth v ws (inl none) = rw none (omega arith)
-  own_worth (Write write has) ws (inr all) = rw all (omega arith)
-  own_worth (Once w) ws (inr all) = rw all (omega arith)
-  own_worth (ReadWait count) ws (inr all) = rw all (omega arith)
-  own_worth (Drain count) ws (inr all) = rw all (omega arith)
-  own_worth (GetStc num) ws (inr all) = rw all (omega arith)
+  own_worth v ws (inr all) = rw all (omega arith)
 
-  all_worth : (slots : Slots) (step : ℕ) (cs : List ClientCommand) (rs : List Response) → sum_of worth (passes_by node (λ m. event_in (progress_from slots step cs m)) rs) ≤ sum_of (λ c. worth_of worth c.deed) cs
+  all_worth : (slots : Slots) (step : ℕ) (cs : List ClientCommand) (rs : List Response) → sum_of worth (passes_by node (λ m. event_in (progress_from slots step cs m)) rs) ≤ sum_of (λ c. sum_of worth (named_by c.verb)) cs
   all_worth slots step [] rs = omega (arith, ap (sum_of worth) (no_passes node rs))
   all_worth slots step (c ∷ cs) rs =
-      let ws : List ℕ = passed_by node (first slots c.target c.deed) step rs in
-      let behind : List ℕ = passes_behind node slots cs (done slots c.target c.deed step rs) in
+      let ws : List ℕ = passed_by node (first slots c.target c.verb c.has_batch) step rs in
+      let behind : List ℕ = passes_behind node slots cs (done slots c.target c.verb c.has_batch step rs) in
       omega (
         arith,
         ap (sum_of worth) (first_and_rest node slots step c cs rs),
         weigh_append worth ws behind,
-        own_worth c.deed ws (done_passes node slots c.target c.deed step rs).0,
-        go (λ ending next left. all_worth (slots_after ending slots) next cs left) (done slots c.target c.deed step rs),
+        own_worth c.verb ws (first_passes node slots c.target c.verb c.has_batch step rs).0,
+        go (λ ending next left. all_worth (slots_after ending slots) next cs left) (done slots c.target c.verb c.has_batch step rs),
       ) where
-        go : ((ending : Ending) (next : ℕ) (left : List Response) → sum_of worth (passes_by node (λ m. event_in (progress_from (slots_after ending slots) next cs m)) left) ≤ sum_of (λ c. worth_of worth c.deed) cs)
-            → (d : Doing) → sum_of worth (passes_behind node slots cs d) ≤ sum_of (λ c. worth_of worth c.deed) cs
+        go : ((ending : Ending) (next : ℕ) (left : List Response) → sum_of worth (passes_by node (λ m. event_in (progress_from (slots_after ending slots) next cs m)) left) ≤ sum_of (λ c. sum_of worth (named_by c.verb)) cs)
+            → (d : Doing) → sum_of worth (passes_behind node slots cs d) ≤ sum_of (λ c. sum_of worth (named_by c.verb)) cs
         go deeper (stands e) = omega arith
         go deeper (through ending next left) = deeper ending next left
 
-  pub passed_worth : (client : ℕ) (script : Scripted) (rs : List Response) → sum_of worth (passed_of node client script rs) ≤ sum_of (λ c. worth_of worth c.deed) (commands_of client script)
+  pub passed_worth : (client : ℕ) (script : Scripted) (rs : List Response) → sum_of worth (passed_of node client script rs) ≤ sum_of (λ c. sum_of worth (named_by c.verb)) (commands_of client script)
   unfolding progress
   passed_worth client script rs = omega (arith, ap (sum_of worth) (by_calls node client script [] [] rs), all_worth no_slots 0 (commands_of client script) rs)
 

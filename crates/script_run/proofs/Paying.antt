@@ -1,14 +1,13 @@
 -- At each moment of a run, the commands and the bytes pay for the calls of a client: a repeat that follows bytes is paid for by
 -- them, and a repeat that follows Again by the entry right behind the read, which is the feeder's or adds no repeat to its own client's.
-use Rattle.script_run.proofs.Imports.{◌≡◌, ◌≢◌, refl, sym, ap, subst, ◌∙◌, ℕ, zero, suc, ◌+◌, ◌*◌, ◌<◌, ◌≤◌, Bool, true, false, nat_eq, List, [], ◌∷◌, ◌++◌, Option, Some, None, length, filter, slice_get, inl, inr, arith, ◌⊎◌, if◌then◌else◌, All, nat_tests, All-weaker, slice_get_within, Has, at_place, one_value, has_at, IsPacket, Ebadf, LogEntry, Sources, act_of, filled_act, filled_entry, HasRead, Response, Refused, Line, Feed, Tick, Target, Verb, clients_in, Scripted, ClientCommand, Event, ClientRequest, Own, Pass, Open, Packets, packets_in, Batches, batch_at, deed_of, call_of, commands_among, ends_drain, pass_of, played, plays_of, all_commands, bytes_in, most_calls, AreAsked, StandsIn, replies, sources, Payers, feeder, others, MayPay, IsPaidBehind, HasDoneSoFar, IsSoFar, commands_for, CallsArePaid, pass_in, pass_at}
-use Rattle.client_script.specs.declared.line.Line.TheVariants.{Command}
+use Rattle.script_run.proofs.Imports.{command_of, named_by, ◌≡◌, ◌≢◌, refl, sym, ap, subst, ◌∙◌, ℕ, zero, suc, ◌+◌, ◌*◌, ◌<◌, ◌≤◌, Bool, true, false, nat_eq, List, [], ◌∷◌, ◌++◌, Option, Some, None, length, filter, slice_get, inl, inr, arith, ◌⊎◌, if◌then◌else◌, All, nat_tests, All-weaker, slice_get_within, Has, at_place, one_value, has_at, IsPacket, Ebadf, LogEntry, Sources, act_of, filled_act, filled_entry, HasRead, Response, Refused, Line, Feed, Tick, Target, Verb, clients_in, Scripted, ClientCommand, Event, ClientRequest, Own, Pass, Open, Packets, packets_in, Batches, batch_at, call_of, commands_among, ends_drain, pass_of, played, plays_of, all_commands, bytes_in, most_calls, AreAsked, StandsIn, replies, sources, Payers, feeder, others, MayPay, IsPaidBehind, HasDoneSoFar, IsSoFar, commands_for, CallsArePaid, pass_in, pass_at, Command}
 use Rattle.script_run.proofs.Lists.{has_filter}
 use Rattle.script_run.proofs.Counting.{total, total_le, total_add, total_same, total_33, total_but, total_one, one_at, but, sum_of, Pool, both, all_pools, HaveTokens, counts_fit, weigh_places, weight_at, weight_got}
 use Rattle.script_run.proofs.ReadReplies.{read_there, next_is_refused}
 use Rattle.script_run.proofs.HistoryBytes.{bytes_fit, feeder_brings, feeder_long, packets_of}
 use Rattle.script_run.proofs.Events.{all_packets, count_of}
 use Rattle.script_run.proofs.Played.{all_few, named_once}
-use Rattle.script_run.proofs.Passing.{passed_worth, worth_all, worth_of}
+use Rattle.script_run.proofs.Passing.{passed_worth, worth_all}
 use Rattle.script_run.proofs.Repeating.{adds, quiet, IsGoing, going, quiet_calls, grows, but_one, calls_and_repeats, by_bytes, by_again, both_kinds, bytes_pay, IsWaiting, waiting}
 
 -- ------ the commands of all clients
@@ -20,7 +19,7 @@ commands_by script lines c = length (commands_among c (plays_of c script) lines)
 one_command : (script : Scripted) (line who : ℕ) (target : Target) (verb : Verb) (lines : List Line) (c : ℕ) → commands_by script (Command line who target verb ∷ lines) c ≤ commands_by script lines c + one_at who c
 one_command script line who target verb lines c = go (nat_eq who c) refl where
   one : ClientCommand
-  one = record { line = line; target = target; deed = deed_of (plays_of c script) verb }
+  one = command_of (plays_of c script) line target verb
 
   go : (b : Bool) → nat_eq who c ≡ b → length ((if b then one ∷ [] else []) ++ commands_among c (plays_of c script) lines) ≤ commands_by script lines c + one_at who c
   go true yea = let here : nat_eq c who ≡ true = grind (arith, nat_tests, yea) in rw here (omega arith)
@@ -52,7 +51,7 @@ write_size batches write = length (packets_in (batch_at batches write))
 
 -- how many packets a client's writes in these lines have
 abbrev pub plays_by : Scripted → (lines : List Line) → ℕ → ℕ
-plays_by script lines c = sum_of (λ (x : ClientCommand). worth_of (write_size (plays_of c script)) x.deed) (commands_among c (plays_of c script) lines)
+plays_by script lines c = sum_of (λ (x : ClientCommand). sum_of (write_size (plays_of c script)) (named_by x.verb)) (commands_among c (plays_of c script) lines)
 
 -- how many packets a call on a node brings
 abbrev brings_on : (node : ℕ) → LogEntry → ℕ

@@ -1,11 +1,8 @@
 -- What a node answers to a read, the bytes of a reply, and what it answers to the call of another behind a read.
-use Rattle.script_run.proofs.Imports.{◌≡◌, refl, sym, ap, subst, ◌∙◌, ℕ, zero, suc, ◌<◌, Bool, true, false, nat_lt, List, [], ◌∷◌, ◌++◌, map, slice_get, Option, Some, None, inl, inr, arith, append_assoc, if◌then◌else◌, reverse, reverse-append, ReadAct, DEMUX_NODES, Errno, Invocation, Response, Done, Busy, Refused, NoMemory, Data, Again, Overflow, TimedOut, Ready, Passed, Entry, History, Since, event, entry_of, has_ended, Rules, demux, dvr, answered_in, ledger_of, ledger_at, ReadTerms, read_terms, with_call, response_unless, refusal_to, response_of_read, expired_of, May, IsLegalFor, OverflowNamesAByte, read_each, ends_drain, bytes_in, LogEntry, Sources, filled, filled_act, filled_entry, HasRead, demux_keeps, dvr_keeps, names_a_byte, readers_call_between, at_map}
+use Rattle.script_run.proofs.Imports.{◌≡◌, refl, sym, ap, subst, ◌∙◌, ℕ, zero, suc, ◌<◌, Bool, true, false, nat_lt, List, [], ◌∷◌, ◌++◌, map, slice_get, Option, Some, None, inl, inr, arith, append_assoc, if◌then◌else◌, reverse, reverse-append, ReadAct, DEMUX_NODES, Errno, Invocation, Response, Done, Busy, Refused, NoMemory, Data, Again, Overflow, TimedOut, Ready, Passed, Entry, History, Since, event, entry_of, has_ended, Rules, demux, dvr, answered_in, ledger_of, ledger_at, ReadTerms, read_terms, with_call, response_unless, refusal_to, response_of_read, expired_of, May, IsLegalFor, OverflowNamesAByte, read_each, ends_drain, bytes_in, LogEntry, Sources, filled, filled_act, filled_entry, HasRead, demux_keeps, dvr_keeps, names_a_byte, readers_call_between, at_map, rules_at, facts, answer}
 use Rattle.std.proofs.Common.{◌⊎◌}
 use Rattle.std.specs.Prelude.{◌≢◌}
 use Rattle.dmx_calls.specs.Invocation as call
-use Rattle.dmx_calls.specs.Rules.{rules_at}
-use Rattle.dmx_calls.specs.Facts.{facts}
-use Rattle.dmx_calls.specs.Answer.{answer}
 
 -- a reply to a read, where the stream has ended or not
 abbrev pub IsReadReply : (ended : Bool) → Response → Type 0

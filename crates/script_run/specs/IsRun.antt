@@ -1,6 +1,6 @@
 -- What it means that 33 histories are those of a run of a script over the packets of a stream.
 use Rattle.std.specs.Prelude.{◌≡◌, ◌≢◌, ◌<◌, ◌≤◌, ◌+◌, ℕ, zero, suc, List, [], ◌∷◌, length, map, filter, sum, take, nat_eq, slice_get, Some, None, Option, All}
-use Rattle.script_run.specs.Imports.{Act, Batches, DEMUX_NODES, Dvr, End as EndAct, Event, Frontend, IsLegalFor, LogEntry, NoMemory, Pass as PassAct, Response, Scripted, Sources, act_of, call_of, clients_in, filled, next_event, played, plays_of, rules_at}
+use Rattle.script_run.specs.Imports.{Act, Batches, DEMUX_NODES, Dvr, End as EndAct, Event, Frontend, IsLegalFor, LogEntry, NoMemory, Response, Scripted, Sources, act_of, call_of, clients_in, filled, next_event, passing, played, plays_of, rules_at}
 
 -- ------ the feeder
 
@@ -18,7 +18,7 @@ pub record Step : Type 0 where
 abbrev pub feeding : (first step : ℕ) → List Batch → List Step
 feeding first step [] = record { step = step; act = EndAct } ∷ []
 feeding first step (b ∷ bs) =
-    record { step = step; act = PassAct Frontend first b.size b.moment } ∷ feeding (first + b.size) (suc step) bs
+    record { step = step; act = passing Frontend first b.size b.moment } ∷ feeding (first + b.size) (suc step) bs
 
 -- the calls of a caller on a node, in the order of the node's history
 abbrev pub steps_of : (who : ℕ) → List LogEntry → List Step

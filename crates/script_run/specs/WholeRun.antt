@@ -11,7 +11,7 @@ IsGiven may (SetPesAct params now) = IsTrue (may now)
 IsGiven may (StartAct now) = IsTrue (may now)
 IsGiven may (ReadAct now count) = IsTrue (may now)
 IsGiven may (PollAct now) = IsTrue (may now)
-IsGiven may (PassAct input first count now) = IsTrue (may now)
+IsGiven may (PassAct input batch now) = IsTrue (may now)
 IsGiven may _ = Unit {0}
 
 -- every batch but the last has `most` packets

@@ -1,14 +1,11 @@
 -- From what a seat has made to what it has done for a request.
-use Rattle.seats.proofs.Imports.{◌≡◌, ◌≢◌, ℕ, suc, ◌+◌, ◌<◌, Bool, true, false, nat_lt, nat_tests, if◌then◌else◌, List, [], ◌∷◌, ◌++◌, length, map, get_or, Option, Some, None, inl, inr, refl, ap, sym, ◌∙◌, subst, arith, length-append, slice_get, map-append, append-nil, append_assoc, append_cancel_left, flat_map-append, slice_get_within, slice_get_read, at_before, response_of, told_entry, LogEntry, act_of, Response, TapChange, Done, Busy, Act, OpenAct, CloseAct, KeepTap, AttachTap, DetachTap, ToldEntry, DEMUX_NODES, Outcome, OutcomeKind, WasDone, WasEmfile, Slot, Open, Close, own_call, Want, Ending, WasMade, Bound, AllBusy, kind_by, Next, Still, Through, CallTask, OpenFrom, after, telling, Ask, OpenDemux, Call, Leave, RefusedAsk, EMFILE, ENOMEM, Tell, told_of, Made, Seat, is_busy, first_free, refusal, told_opened, IsOpenTold, IsClosing, AreClosings, IsAnsweredBy, IsAnswered, MakesCalls, HasMade, MakesOne, DoesCommand, HasDone, KeepsOne, HasAnswered, HasGone, IsBehind, act_by_tap, tap_by, AreMarked, CloseHeld, log_of, told_made, GoesOn, DoneCommand, GoesThrough, IsDone, done_command, calls_in, no_counters, target_of, AreKept, data_read, call_at}
+use Rattle.seats.proofs.Imports.{HandedOver, calls_made, commands_done, ◌≡◌, ◌≢◌, ℕ, suc, ◌+◌, ◌<◌, Bool, true, false, nat_lt, nat_tests, if◌then◌else◌, List, [], ◌∷◌, ◌++◌, length, map, get_or, Option, Some, None, inl, inr, refl, ap, sym, ◌∙◌, subst, arith, slice_get, map-append, append-nil, append_assoc, append_cancel_left, flat_map-append, slice_get_within, slice_get_read, at_before, response_of, told_entry, LogEntry, act_of, Response, TapChange, Done, Busy, Act, OpenAct, CloseAct, KeepTap, AttachTap, DetachTap, ToldEntry, DEMUX_NODES, Outcome, OutcomeKind, WasDone, WasEmfile, Slot, Open, Close, own_call, Want, Ending, WasMade, Bound, AllBusy, kind_by, Next, Still, Through, CallTask, OpenFrom, after, telling, Ask, OpenDemux, Call, Leave, RefusedAsk, EMFILE, ENOMEM, Tell, told_of, Made, Seat, is_busy, first_free, refusal, told_opened, IsOpenTold, IsClosing, AreClosings, IsAnsweredBy, IsAnswered, MakesCalls, HasMade, MakesOne, DoesCommand, HasDone, KeepsOne, HasAnswered, HasGone, IsBehind, act_by_tap, tap_by, AreMarked, CloseHeld, log_of, told_made, GoesOn, DoneCommand, GoesThrough, IsDone, done_command, calls_in, no_counters, target_of, AreKept, data_read, call_at}
 use Rattle.lemmas.proofs.Lists.{one_value, at_last}
 use Rattle.seats.proofs.DoneCommands.{first_on_target}
-use Rattle.seats.proofs.Keeping.{kept_none, kept_one, kept_trans}
+use Rattle.seats.proofs.Going.{made_more}
+use Rattle.seats.proofs.Keeping.{done_more, kept_none, kept_one, kept_trans}
 
 -- ------ the last calls
-
--- nothing was made
-pub made_none : (s : Seat) → HasMade [] s s
-made_none s = record { made = sym (append-nil s.made.items); log = refl; who = refl }
 
 pub made_trans : (a b c : Seat) (xs ys : List Made) → HasMade xs a b → HasMade ys b c → HasMade (xs ++ ys) a c
 made_trans a b c xs ys x y = record {
@@ -114,12 +111,13 @@ after_free node _ low free = (WasMade, refl, refl)
 
 -- nothing was done
 pub has_none : (P : List DoneCommand → Type 0) (s : Seat) → P [] → HasDone P s s
-has_none P s is = record { commands = []; log = sym (append-nil (log_of s)); kept = kept_none (length (log_of s)) s.outcomes.items s.outcomes.items refl; is = is }
+has_none P s is = record { commands = []; handed = refl; log = sym (append-nil (log_of s)); kept = kept_none (commands_done s) (calls_made s) s.outcomes.items s.outcomes.items refl; is = is }
 
 -- one command was
 one_done : (P : List DoneCommand → Type 0) (kind : OutcomeKind) (old new : Seat) (d : DoneCommand) → log_of new ≡ log_of old ++ d.calls → KeepsOne kind old new → kind_by no_counters d.ending ≡ kind → P (d ∷ []) → HasDone P old new
 one_done P kind old new d log k ended is = record {
   commands = d ∷ [];
+  handed = k.0;
   log = log ∙ ap (λ (l : List LogEntry). log_of old ++ l) (sym (append-nil d.calls));
   kept = kept_one kind old new d k log ended;
   is = is;
@@ -162,8 +160,10 @@ closings_more n m a b c e x y =
     let log = ap (λ (l : List LogEntry). l ++ calls_in y.commands) x.log ∙ append_assoc (log_of a) (calls_in x.commands) (calls_in y.commands) in
     record {
       commands = x.commands ++ y.commands;
+      handed = y.handed ∙ x.handed;
       log = y.log ∙ (log ∙ ap (λ (l : List LogEntry). log_of a ++ l) (sym (calls_both x.commands y.commands)));
-      kept = kept_trans (length (log_of a)) (length (log_of b)) x.commands y.commands a.outcomes.items b.outcomes.items c.outcomes.items x.kept y.kept (ap length x.log ∙ length-append (log_of a) (calls_in x.commands));
+      kept = kept_trans (commands_done a) (commands_done b) (calls_made a) (calls_made b) x.commands y.commands a.outcomes.items b.outcomes.items c.outcomes.items x.kept y.kept
+          (done_more a b x.commands x.handed x.kept) (made_more a b (calls_in x.commands) x.handed x.log);
       is = subst (λ (k : ℕ). AreClosings k (x.commands ++ y.commands)) next (x.commands, y.commands, refl, x.is, y.is);
     }
 
@@ -243,15 +243,17 @@ full now n old mid new t o b all log k told =
 
 -- what is so of the commands is so of a request
 pub done_as : (P Q : List DoneCommand → Type 0) (old new : Seat) → ((ds : List DoneCommand) → P ds → Q ds) → HasDone P old new → HasDone Q old new
-done_as P Q old new so d = record { commands = d.commands; log = d.log; kept = d.kept; is = so d.commands d.is }
+done_as P Q old new so d = record { commands = d.commands; handed = d.handed; log = d.log; kept = d.kept; is = so d.commands d.is }
 
 -- where what it keeps was the same before
-done_from : (P : List DoneCommand → Type 0) (old mid new : Seat) → log_of mid ≡ log_of old → mid.outcomes.items ≡ old.outcomes.items → HasDone P mid new → HasDone P old new
-done_from P old mid new same told d = record {
+done_from : (P : List DoneCommand → Type 0) (old mid new : Seat) → mid.handed ≡ old.handed → log_of mid ≡ log_of old → mid.outcomes.items ≡ old.outcomes.items → HasDone P mid new → HasDone P old new
+done_from P old mid new was same told d = record {
   commands = d.commands;
+  handed = d.handed ∙ was;
   log = d.log ∙ ap (λ (l : List LogEntry). l ++ calls_in d.commands) same;
-  kept = subst (λ (l : List LogEntry). AreKept (length l) d.commands old.outcomes.items new.outcomes.items) same
-      (subst (λ (os : List Outcome). AreKept (length (log_of mid)) d.commands os new.outcomes.items) told d.kept);
+  kept = subst (λ (h : HandedOver). AreKept (h.commands + length old.outcomes.items) (h.calls + length (log_of old)) d.commands old.outcomes.items new.outcomes.items) was
+      (subst (λ (l : List LogEntry). AreKept (mid.handed.commands + length old.outcomes.items) (mid.handed.calls + length l) d.commands old.outcomes.items new.outcomes.items) same
+      (subst (λ (os : List Outcome). AreKept (mid.handed.commands + length os) (mid.handed.calls + length (log_of mid)) d.commands os new.outcomes.items) told d.kept));
   is = d.is;
 }
 
@@ -293,10 +295,10 @@ module _ (ask : Ask) (now : ℕ) where
       → GoesOn old new → (ask ≡ Leave → HasGone mid new) → HasDone (λ ds. IsAnswered ask now ds t bytes) mid new → HasAnswered ask now old new t bytes
   unfolding done_from
   has_answered old mid new t bytes same told held goes leaves d =
-      let mine = calls_in d.commands in let done = done_from (λ ds. IsAnswered ask now ds t bytes) old mid new same told d in
+      let mine = calls_in d.commands in let done = done_from (λ ds. IsAnswered ask now ds t bytes) old mid new (sym d.handed ∙ goes.handed) same told d in
       record {
         done = done;
-        made = subst (λ (l : List LogEntry). MakesCalls (length (log_of old)) old.client l new.client) (append_cancel_left (log_of old) goes.calls mine (sym goes.log ∙ done.log)) goes.made;
+        made = subst (λ (l : List LogEntry). MakesCalls (calls_made old) old.client l new.client) (append_cancel_left (log_of old) goes.calls mine (sym goes.log ∙ done.log)) goes.made;
         gone = λ leave gone m. let g = leaves leave in
             let marked : AreMarked (gone ++ log_of mid) mid.held = subst (AreMarked (gone ++ log_of mid)) (sym held) (subst (λ (l : List LogEntry). AreMarked (gone ++ l) old.held) (sym same) m) in
             record { held = subst (λ (l : List LogEntry). CloseHeld (gone ++ l) mine) same (g.held gone mine marked d.log); left = g.left };

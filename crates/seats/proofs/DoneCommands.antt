@@ -1,6 +1,5 @@
 -- Each command that a request spells is done by its calls, as a script's command is.
-use Rattle.seats.proofs.Imports.{◌≡◌, ◌≢◌, ℕ, zero, suc, ◌+◌, ◌≤◌, Bool, false, nat_lt, eq-eqb, ne_eqb, List, [], ◌∷◌, ◌++◌, length, take, Some, IsTrue, refl, ap, sym, ◌∙◌, subst, arith, slice_get, if◌then◌else◌, dite, ℕ_discrete, DEMUX_NODES, KeepTap, AttachTap, DetachTap, LogEntry, Act, act_of, Response, TapChange, Done, Busy, Again, Node, Dvr, Want, Open, Close, Section, Pes, Add, Remove, Size, Once, Event, ClientRequest, Ending, WasMade, Bound, AllBusy, Next, Still, Through, Task, CallTask, OpenFrom, AttachTask, DetachTask, Batches, Doing, stands, through, Slots, no_slots, done, first, after, event_of, telling, doing, if_next, are_done, own_call, call_of, Counters, kind_by, IsEvent, replies, IsGiven, DoneCommand, GoesThrough, IsDone, no_counters, target_of}
-use Rattle.client_script.specs.declared.line.Want.TheVariants.{Start, Stop, Read, Poll}
+use Rattle.seats.proofs.Imports.{◌≡◌, ◌≢◌, ℕ, zero, suc, ◌+◌, ◌≤◌, Bool, false, nat_lt, eq-eqb, ne_eqb, List, [], ◌∷◌, ◌++◌, length, take, Some, IsTrue, refl, ap, sym, ◌∙◌, subst, arith, slice_get, if◌then◌else◌, dite, ℕ_discrete, DEMUX_NODES, KeepTap, AttachTap, DetachTap, LogEntry, Act, act_of, Response, TapChange, Done, Busy, Again, Node, Dvr, Want, Open, Close, Section, Pes, Add, Remove, Size, Once, Event, ClientRequest, Ending, WasMade, Bound, AllBusy, Next, Still, Through, Task, CallTask, OpenFrom, AttachTask, DetachTask, Batches, Doing, stands, through, Slots, no_slots, done, first, after, event_of, telling, doing, if_next, own_call, call_of, Counters, kind_by, IsEvent, replies, IsGiven, DoneCommand, GoesThrough, IsDone, no_counters, target_of, Start, Stop, Read, Poll}
 
 -- ------ what a command does by the replies to these calls
 
@@ -163,24 +162,24 @@ given_call may Poll now is = is
 pub record IsFitted (may : ℕ → Bool) (d : DoneCommand) : Type 0 where
   pub some : 1 ≤ length d.calls
   pub kind : IsPlainEnding d.ending
-  pub fits : (slots : Slots) → Fits may (done slots d.target (Once d.want)) d.ending d.calls
+  pub fits : (slots : Slots) → Fits may (done slots d.target (Once d.want) false) d.ending d.calls
 
 goes_some : (now : ℕ) (t : Task) (ending : Ending) (es : List LogEntry) → GoesThrough now (Still t) ending es → 1 ≤ length es
 goes_some now t ending [] g = absurd g
 goes_some now t ending (e ∷ es) g = omega arith
 
-pub done_fitted : (may : ℕ → Bool) (now : ℕ) (d : DoneCommand) (t : Task) → ((slots : Slots) → first slots d.target (Once d.want) ≡ Still t) → IsPlain may now (Still t) → IsDone now d → IsFitted may d
+pub done_fitted : (may : ℕ → Bool) (now : ℕ) (d : DoneCommand) (t : Task) → ((slots : Slots) → first slots d.target (Once d.want) false ≡ Still t) → IsPlain may now (Still t) → IsDone now d → IsFitted may d
 done_fitted may now d t same plain is =
     let g : GoesThrough now (Still t) d.ending d.calls = subst (λ n. GoesThrough now n d.ending d.calls) (same no_slots) (is no_slots) in
     record {
       some = goes_some now t d.ending d.calls g;
       kind = goes_kind may now (Still t) d.ending d.calls plain g;
-      fits = λ slots. fits_as may (done slots d.target (Once d.want)) (doing (Still t)) d.ending d.calls
-          (λ step rs. are_done slots d.target (Once d.want) step rs ∙ ap (λ n. doing n step rs) (same slots)) (goes_fits may now (Still t) d.ending d.calls plain g);
+      fits = λ slots. fits_as may (done slots d.target (Once d.want) false) (doing (Still t)) d.ending d.calls
+          (λ step rs. ap (λ n. doing n step rs) (same slots)) (goes_fits may now (Still t) d.ending d.calls plain g);
     }
 
 -- a node as a script names it
-pub first_on_target : (slots : Slots) (node : ℕ) (want : Want) → first slots (target_of node) (Once want) ≡ Still (CallTask node want)
+pub first_on_target : (slots : Slots) (node : ℕ) (want : Want) → first slots (target_of node) (Once want) false ≡ Still (CallTask node want)
 first_on_target slots node want = dite (ℕ_discrete node DEMUX_NODES)
-    (λ here. ap (λ b. first slots (if b then Dvr else Node node) (Once want)) (eq-eqb node DEMUX_NODES here) ∙ ap (λ n. Still (CallTask n want)) (sym here))
-    (λ not. ap (λ b. first slots (if b then Dvr else Node node) (Once want)) (ne_eqb node DEMUX_NODES not))
+    (λ here. ap (λ b. first slots (if b then Dvr else Node node) (Once want) false) (eq-eqb node DEMUX_NODES here) ∙ ap (λ n. Still (CallTask n want)) (sym here))
+    (λ not. ap (λ b. first slots (if b then Dvr else Node node) (Once want) false) (ne_eqb node DEMUX_NODES not))

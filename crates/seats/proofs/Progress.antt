@@ -1,5 +1,5 @@
 -- How far a client is whose commands were done one after another.
-use Rattle.seats.proofs.Imports.{◌≡◌, ◌≢◌, ◌⊎◌, ⊎_elim, ℕ, zero, suc, ◌+◌, ◌<◌, ◌≤◌, Bool, false, List, [], ◌∷◌, ◌++◌, length, map, take, Some, None, inl, inr, refl, ap, sym, ◌∙◌, subst, arith, slice_get, length-append, map-append, take-append-le, slice_get_within, take-append-add, Outcome, OutcomeKind, LogEntry, Response, Again, ClientCommand, Once, Event, stands, Slots, done, Standing, Ended, Progress, with_ended, slots_after, progress_from, waits_after, Counters, kind_by, outcome_by, progress_of, waits_not, replies, IsGiven, DoneCommand, no_counters, calls_in, line_behind, commands_by, outcomes_by}
+use Rattle.seats.proofs.Imports.{◌≡◌, ◌≢◌, ◌⊎◌, ⊎_elim, ℕ, zero, suc, ◌+◌, ◌<◌, ◌≤◌, Bool, false, List, [], ◌∷◌, ◌++◌, length, map, take, Some, None, inl, inr, refl, ap, sym, ◌∙◌, subst, arith, slice_get, length-append, map-append, take-append-le, slice_get_within, take-append-add, Outcome, OutcomeKind, LogEntry, Response, Again, ClientCommand, Once, Event, stands, Slots, done, Standing, Ended, Progress, with_ended, slots_after, progress_from, waits_after, Counters, kind_by, outcome_by, ahead, waits_not, replies, IsGiven, DoneCommand, no_counters, calls_in, line_behind, commands_by, outcomes_by}
 use Rattle.seats.proofs.DoneCommands.{IsFitted, IsEventOf}
 
 -- each of these was done
@@ -34,7 +34,7 @@ in_rest xs ys k a at = ⊎_elim (λ here. absurd (let low = slice_get_within xs 
 
 module _ (may : ℕ → Bool) (slots : Slots) (count step : ℕ) (d : DoneCommand) (is : IsFitted may d) (cs : List ClientCommand) where
   abbrev c : ClientCommand
-  c = record { line = line_behind count; target = d.target; deed = Once d.want }
+  c = record { line = line_behind count; target = d.target; verb = Once d.want; has_batch = false }
 
   abbrev after : Slots
   after = slots_after d.ending slots
@@ -49,12 +49,12 @@ module _ (may : ℕ → Bool) (slots : Slots) (count step : ℕ) (d : DoneComman
   goes_on : (more : List LogEntry) → progress_from slots step (c ∷ cs) (replies (d.calls ++ more)) ≡ with_ended ended (progress_from after next cs (replies more))
   goes_on more =
       ap (λ rs. progress_from slots step (c ∷ cs) rs) (map-append (λ (e : LogEntry). e.response) d.calls more)
-      ∙ ap (λ x. progress_of slots step c cs x) ((is.fits slots).ends step (replies more))
+      ∙ ap (λ x. ahead c.line step slots cs x) ((is.fits slots).ends step (replies more))
 
   -- it stands before one of its calls
-  stands_at : (event : Event) (rs : List Response) → done slots d.target (Once d.want) step rs ≡ stands event
+  stands_at : (event : Event) (rs : List Response) → done slots d.target (Once d.want) false step rs ≡ stands event
       → progress_from slots step (c ∷ cs) rs ≡ record { ended = []; standing = Some (record { line = line_behind count; from = step; event = event }) }
-  stands_at event rs at = ap (λ x. progress_of slots step c cs x) at
+  stands_at event rs at = ap (λ x. ahead c.line step slots cs x) at
 
 -- ------ all of them
 

@@ -1,14 +1,13 @@
 -- What was answered on a line is what the commands that it spells do.
-use Rattle.seats.proofs.Imports.{◌≡◌, ℕ, zero, suc, ◌+◌, Bool, List, [], ◌∷◌, ◌++◌, map, take, Option, Some, None, IsTrue, All, refl, ap, sym, ◌∙◌, subst, arith, slice_get, option_map, map-append, slice_get_within, DEMUX_NODES, LogEntry, act_of, Response, Scripted, Target, Slot, Want, Open, Close, ClientCommand, commands_of, own_call, plays_of, Standing, Ended, Progress, progress_from, no_slots, waits_on, waits_after, outcome_by, counters_after, last_counts, AreAsked, IsEvent, replies, IsGiven, ask_of, Ask, OpenDemux, Call, Leave, RefusedAsk, Tell, AreClosings, IsAnsweredBy, IsPlayed, LinesArePlayed, DoneCommand, done_command, calls_in, target_of, commands_by, outcomes_by, Turn, IsTurn, spelled, take_next, add-one, ⊎_elim, Once, Still, Task, CallTask, OpenFrom, Slots, first, first_free, IsOneCommand, IsFirstTold, IsOpenTold, spelled_by}
+use Rattle.seats.proofs.Imports.{false, ◌≡◌, ℕ, zero, suc, ◌+◌, Bool, List, [], ◌∷◌, ◌++◌, map, take, Option, Some, None, IsTrue, All, refl, ap, sym, ◌∙◌, subst, arith, slice_get, option_map, map-append, slice_get_within, DEMUX_NODES, LogEntry, act_of, Response, Scripted, Target, Slot, Want, Open, Close, ClientCommand, commands_of, own_call, plays_of, Standing, Ended, Progress, progress_from, no_slots, waits_on, waits_after, outcome_by, counters_after, last_counts, AreAsked, IsEvent, replies, IsGiven, ask_of, Ask, OpenDemux, Call, Leave, RefusedAsk, Tell, AreClosings, IsAnsweredBy, IsPlayed, LinesArePlayed, DoneCommand, done_command, calls_in, target_of, commands_by, outcomes_by, Turn, IsTurn, spelled, take_next, add-one, ⊎_elim, Once, Still, Task, CallTask, OpenFrom, Slots, first, first_free, IsOneCommand, IsFirstTold, IsOpenTold, spelled_by, progress}
 use Rattle.lemmas.proofs.Lists.{at_place}
-use Rattle.client_core.specs.Events.{progress}
 use Rattle.seats.proofs.DoneCommands.{IsPlain, done_fitted, first_on_target, given_call}
 use Rattle.seats.proofs.Progress.{AreFitted, fitted_both, outcomes_are, Stands, stands_before}
 
 -- ------ what was answered
 
 fitted_one : (may : ℕ → Bool) (now : ℕ) (target : Target) (want : Want) (told : List LogEntry → Type 0) (ds : List DoneCommand) (t : Task)
-    → ((slots : Slots) → first slots target (Once want) ≡ Still t) → IsPlain may now (Still t) → IsOneCommand now target want told ds → AreFitted may ds
+    → ((slots : Slots) → first slots target (Once want) false ≡ Still t) → IsPlain may now (Still t) → IsOneCommand now target want told ds → AreFitted may ds
 fitted_one may now target want told ds t same plain one =
     subst (AreFitted may) (sym one.2) (done_fitted may now (done_command target want one.0 one.1) t same plain one.3, tt)
 

@@ -1,5 +1,5 @@
 -- The turns of a line.
-use Rattle.seats.proofs.Imports.{◌≡◌, ◌+◌, ℕ, Bool, true, false, List, [], ◌∷◌, ◌++◌, length, IsTrue, refl, ap, sym, ◌∙◌, subst, append-nil, append_assoc, flat_map-append, SourceEnd, SinkEnd, LogEntry, ask_of, Ask, REQUEST_LEN, Tell, Seat, IsAnswered, Outcome, Caller, HasAnswered, Takes, RunsOut, Writes, BreaksOff, log_of, reply_bytes, DoneCommand, calls_in, AreKept, Turn, calls_of, spelled_by, MakesTurns, MakesTurn, IsAsked, HasTurned}
+use Rattle.seats.proofs.Imports.{calls_made, commands_done, ◌≡◌, ◌+◌, ℕ, Bool, true, false, List, [], ◌∷◌, ◌++◌, length, IsTrue, refl, ap, sym, ◌∙◌, subst, append-nil, append_assoc, flat_map-append, SourceEnd, SinkEnd, LogEntry, ask_of, Ask, REQUEST_LEN, Tell, Seat, IsAnswered, Caller, HasAnswered, Takes, RunsOut, Writes, BreaksOff, log_of, reply_bytes, DoneCommand, calls_in, AreKept, Turn, calls_of, spelled_by, MakesTurns, MakesTurn, IsAsked, HasTurned}
 use Rattle.seats.proofs.Doing.{calls_both}
 use Rattle.seats.proofs.Keeping.{kept_none}
 
@@ -22,9 +22,8 @@ makes_both before c m d (t ∷ ts) us a b =
 
 module _ {T : Type 0} (source : T → SourceEnd) (sink : T → SinkEnd) (may : ℕ → Bool) where
   -- no whole request was read
-  pub turned_none : (before after : T) (held : List Bool) (c : Caller) (log : List LogEntry) (told : List Outcome) → RunsOut REQUEST_LEN (source before) (source after)
-      → HasTurned source sink may false before after held c c log log told told
-  turned_none before after held c log told out = ([], out, sym (append-nil log), kept_none (length log) told told refl, refl)
+  pub turned_none : (before after : T) (s : Seat) → RunsOut REQUEST_LEN (source before) (source after) → HasTurned source sink may false before after s s
+  turned_none before after s out = ([], out, sym (append-nil (log_of s)), kept_none (commands_done s) (calls_made s) s.outcomes.items s.outcomes.items refl, refl)
 
   module _ (ask : Ask) (now : ℕ) (old new : Seat) (request : List ℕ) (t : Tell) (bytes : List ℕ) (before asked after : T) (is : ask ≡ ask_of request) (long : length request ≡ REQUEST_LEN)
       (given : IsTrue (may now)) (taken : Takes (source before) (source asked) request) (a : HasAnswered ask now old new t bytes) where
@@ -35,19 +34,19 @@ module _ {T : Type 0} (source : T → SourceEnd) (sink : T → SinkEnd) (may : �
     unfolding turn
     its_ask = record { turn = record { long = long; moment = given; is = subst (λ (k : Ask). IsAnswered k now a.done.commands t bytes) is a.done.is }; taken = taken }
 
-    its_made : MakesTurn old.held (log_of old) old.client turn new.client
+    its_made : MakesTurn old turn new.client
     unfolding turn
     its_made = record { made = a.made; gone = λ leaving. a.gone (is ∙ leaving) }
 
     -- its reply was written whole, or not
     pub turned_one : (on : Bool) → (on ≡ true → Writes (sink asked) (sink after) (reply_bytes t bytes)) → (on ≡ false → BreaksOff (sink asked) (sink after) (reply_bytes t bytes))
-        → HasTurned source sink may on before after old.held old.client new.client (log_of old) (log_of new) old.outcomes.items new.outcomes.items
+        → HasTurned source sink may on before after old new
     unfolding turn
     turned_one true whole cut = (turn, record { asked = asked; is = its_ask; told = whole refl }, a.done.log, a.done.kept, its_made)
     turned_one false whole cut = (
       turn ∷ [],
       record { asked = asked; is = its_ask; told = cut refl },
       a.done.log ∙ ap (λ (l : List LogEntry). log_of old ++ l) (sym (calls_one turn)),
-      subst (λ (ds : List DoneCommand). AreKept (length (log_of old)) ds old.outcomes.items new.outcomes.items) (sym (append-nil a.done.commands)) a.done.kept,
+      subst (λ (ds : List DoneCommand). AreKept (commands_done old) (calls_made old) ds old.outcomes.items new.outcomes.items) (sym (append-nil a.done.commands)) a.done.kept,
       its_made,
     )

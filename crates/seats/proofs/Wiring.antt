@@ -1,6 +1,6 @@
 -- Reads and writes of a line, one behind another.
-use Rattle.seats.proofs.Imports.{◌≡◌, ◌+◌, ◌<◌, ◌≤◌, inl, inr, ℕ, Bool, true, false, List, [], ◌∷◌, ◌++◌, length, take, drop, Result, Ok, Err, is_ok, OnOk, OnErr, refl, ap, sym, ◌∙◌, subst, arith, length-append, take-append-drop, length-take-le, Appends-trans, Appends-kept, Consumes-kept, Consumes-trans, Appends, Consumes, IsAtEnd, raised, SourceEnd, SinkEnd, Takes, HasStopped, RunsOut, Writes, BreaksOff}
-use Rattle.std.proofs.Common.{length-drop, append_assoc}
+use Rattle.seats.proofs.Imports.{◌≡◌, ◌+◌, ◌<◌, ◌≤◌, inl, inr, ℕ, Bool, true, false, List, [], ◌++◌, length, take, Result, Ok, Err, is_ok, OnOk, OnErr, ap, sym, ◌∙◌, subst, arith, length-append, length-take-le, Appends-trans, Consumes-kept, Consumes, IsAtEnd, raised, SourceEnd, SinkEnd, RunsOut, Writes, BreaksOff}
+use Rattle.std.proofs.Common.{append_assoc}
 use Rattle.std.specs.Prelude.{Option, Some, None}
 use Rattle.std.specs.Io.KnownBytes.{Keeps}
 
@@ -37,18 +37,6 @@ pub runs_out : (n m : ℕ) (a b : SourceEnd) → RunsOut n a b → n ≡ m → R
 runs_out n m a b out same = subst (λ (k : ℕ). RunsOut k a b) same out
 
 -- ------ writes
-
--- a write failed behind the first n bytes
-pub breaks_off : (n : ℕ) (a b c : SinkEnd) (bytes : List ℕ) → n < length bytes → Appends a.written b.written (take n bytes) → b.faults ≡ a.faults
-    → Keeps b.written c.written → c.faults ≡ raised b.faults → BreaksOff a c bytes
-breaks_off n a b c bytes more written steady kept failed = record {
-  front = take n bytes;
-  lost = drop n bytes;
-  whole = sym (take-append-drop n bytes);
-  some = let long = length-drop n bytes in omega (arith, long, more);
-  written = Appends-kept a.written b.written c.written (take n bytes) written kept;
-  failed = failed ∙ ap raised steady;
-}
 
 -- both were written
 pub writes_both : (a b c : SinkEnd) (h d : List ℕ) → Writes a b h → Writes b c d → Writes a c (h ++ d)

@@ -4,7 +4,7 @@ use Rattle.seats.specs.Imports.{Act, Caller, Entry, IsSameCaller, LogEntry, Make
 
 -- no packets pass by this call
 abbrev pub PassesNone : Act → Type 0
-PassesNone (PassAct input first count now) = ⊥
+PassesNone (PassAct input batch now) = ⊥
 PassesNone _ = Unit {0}
 
 -- A caller has made one call, and is d then: its entry stands in the history of the node of this log entry, at its place,

@@ -1,5 +1,5 @@
 -- What a seat does: the calls by which its last calls have grown, and the commands that it has done by them.
-use Rattle.std.specs.Prelude.{◌≡◌, ◌≤◌, ◌++◌, ◌∷◌, [], ℕ, true, nat_lt, if◌then◌else◌, List, length, map, slice_get, Option, Some, None}
+use Rattle.std.specs.Prelude.{◌≡◌, ◌≤◌, ◌++◌, ◌∷◌, [], ℕ, true, nat_lt, if◌then◌else◌, List, map, slice_get, Option, Some, None}
 use Rattle.seats.specs.Imports.{Act, Attach as AttachAct, DEMUX_NODES, Detach as DetachAct, Done, LogEntry, OutcomeKind, Response, TapChange, response_of}
 use Rattle.dmx_calls.specs.declared.reply.Tap.TheVariants.{Keep as KeepTap, Attach as AttachTap, Detach as DetachTap}
 use Rattle.seats.specs.declared.serve_frames.ask.Ask.{Ask}
@@ -10,7 +10,7 @@ use Rattle.seats.specs.declared.seat.Seat.{Seat}
 use Rattle.seats.specs.Answered.{IsAnswered}
 use Rattle.seats.specs.Calls.{MakesCalls}
 use Rattle.seats.specs.Holding.{HasLeft, AreMarked, CloseHeld, GivesBackMarked}
-use Rattle.seats.specs.Seated.{log_of, told_made}
+use Rattle.seats.specs.Seated.{calls_made, commands_done, log_of, told_made}
 use Rattle.seats.specs.Spelled.{DoneCommand, calls_in, outcome_at, AreKept}
 
 -- these were put behind its last calls, and its log is the same
@@ -59,15 +59,15 @@ pub record DoesCommand (on : ℕ) (does : Act) (place : ℕ) (old new : Seat) : 
 -- what is told of its commands has grown by one, which was done by all calls since, and ended so
 abbrev pub KeepsOne : OutcomeKind → (old new : Seat) → Type 0
 KeepsOne kind old new =
-    new.outcomes.items
-    ≡ old.outcomes.items
-    ++ outcome_at (length old.outcomes.items) (length (log_of old)) (length (log_of new)) kind ∷ []
+    (new.handed ≡ old.handed)
+    × (new.outcomes.items ≡ old.outcomes.items ++ outcome_at (commands_done old) (calls_made old) (calls_made new) kind ∷ [])
 
 -- It has done commands of which this holds: its log has grown by their calls, and what is told of commands by what became of them.
 pub record HasDone (P : List DoneCommand → Type 0) (old new : Seat) : Type 0 where
   pub commands : List DoneCommand
+  pub handed : new.handed ≡ old.handed
   pub log : log_of new ≡ log_of old ++ calls_in commands
-  pub kept : AreKept (length (log_of old)) commands old.outcomes.items new.outcomes.items
+  pub kept : AreKept (commands_done old) (calls_made old) commands old.outcomes.items new.outcomes.items
   pub is : P commands
 
 -- ------ nodes
@@ -93,5 +93,5 @@ MarksNoMore old new = (node : ℕ) → slice_get new.held node ≡ Some true →
 -- A request is answered by commands, whose calls its client has made. By a request to leave it gives back what it has.
 pub record HasAnswered (ask : Ask) (now : ℕ) (old new : Seat) (t : Tell) (bytes : List ℕ) : Type 0 where
   pub done : HasDone (λ ds. IsAnswered ask now ds t bytes) old new
-  pub made : MakesCalls (length (log_of old)) old.client (calls_in done.commands) new.client
+  pub made : MakesCalls (calls_made old) old.client (calls_in done.commands) new.client
   pub gone : ask ≡ Leave → GivesBackMarked old.held (log_of old) (calls_in done.commands) new.client

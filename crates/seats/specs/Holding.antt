@@ -1,7 +1,7 @@
 -- Which nodes are a caller's, by its calls and by what its passes have seen.
 use Rattle.std.specs.Prelude.{◌≡◌, ◌≢◌, ◌≤◌, ℕ, Bool, true, false, List, [], ◌∷◌, ◌++◌, fold, nat_eq, reverse, slice_get, Some, if◌then◌else◌}
 use Rattle.seats.specs.Imports.{Act, Caller, DEMUX_NODES, Entry, KnowsItsCalls, LogEntry, Response, TableId, View, caller_of, is_accepted, owner}
-use Rattle.dmx_calls.specs.declared.log.Act.TheVariants.{Open, Close}
+use Rattle.dmx_calls.specs.declared.call.Call.TheVariants.{Open, Close}
 
 -- By what its pass has seen of a node, a caller isn't the owner. What others call changes nothing of this.
 abbrev pub HasLeft : (node : ℕ) → Caller → Type 0

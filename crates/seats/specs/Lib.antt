@@ -5,7 +5,7 @@ pub mod Doing
 pub mod Holding
 pub mod Inside
 pub mod Line
-pub mod Numbered
+pub mod Kept
 pub mod Scripts
 pub mod Seated
 pub mod Served

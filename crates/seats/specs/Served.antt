@@ -6,14 +6,8 @@ use Rattle.seats.specs.declared.run.Desk.{Desk}
 use Rattle.seats.specs.declared.seat.Seat.{Seat}
 use Rattle.seats.specs.Calls.{MakesCalls}
 use Rattle.seats.specs.Holding.{HasLeft}
-use Rattle.seats.specs.Seated.{log_of, AreOnNodes, IsFit, IsReady}
+use Rattle.seats.specs.Seated.{AreOnNodes, IsFit}
 use Rattle.seats.specs.Turns.{HasAnsweredAll}
-
--- It is ready, and keeps no call and nothing of any command.
-pub record IsReadyToHand (locks : List TableId) (s : Seat) : Type 0 where
-  pub ready : IsReady locks s
-  pub none : log_of s ≡ []
-  pub told : s.outcomes.items ≡ []
 
 -- each of these has served its line, as this relates what it was to what it is
 pub record HaveSat {D : Type 0} (sat : D → D → Type 0) (old new : List D) : Type 0 where

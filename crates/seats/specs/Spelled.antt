@@ -1,5 +1,5 @@
 -- The commands of a script that the requests of a line spell, with the calls by which they are done.
-use Rattle.std.specs.Prelude.{◌≡◌, ◌++◌, ◌+◌, ◌-◌, ◌^◌, ℕ, nat_eq, nat_lt, if◌then◌else◌, List, [], ◌∷◌, length, None}
+use Rattle.std.specs.Prelude.{false, ◌≡◌, ◌++◌, ◌+◌, ◌-◌, ◌^◌, ℕ, nat_eq, nat_lt, if◌then◌else◌, List, [], ◌∷◌, length, None}
 use Rattle.seats.specs.Imports.{Batches, ClientCommand, Counters, DEMUX_NODES, Dvr, Ending, LogEntry, Next, Node, Once, Outcome, OutcomeKind, Slots, Still, Target, Task, Through, Want, act_of, after, call_of, event_of, first, flat_map, kind_by}
 
 -- a command that was done: on what, what was asked, the calls that were made for it, and how it ended
@@ -36,7 +36,7 @@ GoesThrough now (Still task) ending (e ∷ es) = IsCallOf now task e × GoesThro
 
 -- it was done by its calls at this moment, as a client does it, whatever nodes its slots are bound to
 abbrev pub IsDone : (now : ℕ) → DoneCommand → Type 0
-IsDone now d = (slots : Slots) → GoesThrough now (first slots d.target (Once d.want)) d.ending d.calls
+IsDone now d = (slots : Slots) → GoesThrough now (first slots d.target (Once d.want) false) d.ending d.calls
 
 -- ------ what is told of them
 
@@ -48,7 +48,7 @@ line_behind count = if nat_lt count (2 ^ 32 - 1) then count + 1 else 2 ^ 32 - 1
 abbrev pub commands_by : (count : ℕ) → List DoneCommand → List ClientCommand
 commands_by count [] = []
 commands_by count (d ∷ ds) =
-    record { line = line_behind count; target = d.target; deed = Once d.want } ∷ commands_by (count + 1) ds
+    record { line = line_behind count; target = d.target; verb = Once d.want; has_batch = false } ∷ commands_by (count + 1) ds
 
 -- what became of a command behind so many, with the number of its first call and the one behind its last
 abbrev pub outcome_at : (count from to : ℕ) → OutcomeKind → Outcome
@@ -65,6 +65,6 @@ outcomes_by count step (d ∷ ds) =
     outcome_at count step (step + length d.calls) (kind_by no_counters d.ending)
     ∷ outcomes_by (count + 1) (step + length d.calls) ds
 
--- what is told of commands has grown by these, which were done behind so many calls
-abbrev pub AreKept : (step : ℕ) → List DoneCommand → (was now : List Outcome) → Type 0
-AreKept step commands was now = now ≡ was ++ outcomes_by (length was) step commands
+-- what is told of commands has grown by these, which were done behind so many commands and calls
+abbrev pub AreKept : (count step : ℕ) → List DoneCommand → (was now : List Outcome) → Type 0
+AreKept count step commands was now = now ≡ was ++ outcomes_by count step commands

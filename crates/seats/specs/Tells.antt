@@ -1,5 +1,5 @@
 -- What is told in reply (this project's own; the numbers of errors are those of Linux).
-use Rattle.std.specs.Prelude.{ℕ, ◌+◌, Bool, true, false, List, [], ◌++◌, if◌then◌else◌}
+use Rattle.std.specs.Prelude.{ℕ, ◌+◌, Bool, false, List, [], ◌++◌, if◌then◌else◌}
 use Rattle.seats.specs.Imports.{Again, Busy, Data, Done, Ebadf, Ebusy, Einval, Enospc, Errno, NoMemory, Overflow, Passed, PollError, Ready, Refused, Response, TimedOut, little_bytes}
 use Rattle.dmx_calls.specs.declared.reply.PollError.TheVariants.{Quiet, Overflow as OverflowPending, TimedOut as TimeoutPending}
 use Rattle.seats.specs.declared.serve_frames.tell.Tell.{Tell}

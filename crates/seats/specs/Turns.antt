@@ -9,6 +9,8 @@ use Rattle.seats.specs.Answered.{IsAnswered, AreClosings}
 use Rattle.seats.specs.Calls.{MakesCalls}
 use Rattle.seats.specs.Holding.{GivesBack, GivesBackMarked}
 use Rattle.seats.specs.Line.{Takes, RunsOut, Writes, BreaksOff}
+use Rattle.seats.specs.declared.seat.Seat.{Seat}
+use Rattle.seats.specs.Seated.{calls_made, commands_done, log_of}
 use Rattle.seats.specs.Spelled.{DoneCommand, calls_in, AreKept}
 use Rattle.seats.specs.Told.{reply_bytes}
 
@@ -50,17 +52,17 @@ MakesTurns before c (t ∷ ts) d =
     (m : Caller) × MakesCalls (length before) c (calls_in t.commands) m × (IsLeaving t → GivesBack before (calls_in t.commands) m)
     × MakesTurns (before ++ calls_in t.commands) m ts d
 
--- A caller makes the calls of this turn behind those of a log, and is d then. By a request to leave it gives back what it has, by the
--- nodes that it has marked as held.
-pub record MakesTurn (held : List Bool) (log : List LogEntry) (c : Caller) (t : Turn) (d : Caller) : Type 0 where
-  pub made : MakesCalls (length log) c (calls_in t.commands) d
-  pub gone : IsLeaving t → GivesBackMarked held log (calls_in t.commands) d
+-- The client of a seat makes the calls of this turn, and is d then. By a request to leave it gives back what it has, by the nodes
+-- that the seat has marked as held.
+pub record MakesTurn (s : Seat) (t : Turn) (d : Caller) : Type 0 where
+  pub made : MakesCalls (calls_made s) s.client (calls_in t.commands) d
+  pub gone : IsLeaving t → GivesBackMarked s.held (log_of s) (calls_in t.commands) d
 
 -- the same of the last turn of a line, if there is one
-abbrev pub MakesLast : (held : List Bool) → (log : List LogEntry) → Caller → List Turn → Caller → Type 0
-MakesLast held log c [] d = d ≡ c
-MakesLast held log c (t ∷ []) d = MakesTurn held log c t d
-MakesLast held log c (t ∷ u ∷ ts) d = ⊥
+abbrev pub MakesLast : Seat → List Turn → Caller → Type 0
+MakesLast s [] d = d ≡ s.client
+MakesLast s (t ∷ []) d = MakesTurn s t d
+MakesLast s (t ∷ u ∷ ts) d = ⊥
 
 module _ {T : Type 0} (source : T → SourceEnd) (sink : T → SinkEnd) (may : ℕ → Bool) where
   -- the request is taken from the line
@@ -91,16 +93,15 @@ module _ {T : Type 0} (source : T → SourceEnd) (sink : T → SinkEnd) (may : �
   IsLast line (t ∷ []) end = IsCutOff t line end
   IsLast line (t ∷ u ∷ ts) end = ⊥
 
-  -- The next request is answered: by these calls, which the client makes, the log has grown, and what is told of commands by those
-  -- that it spells. Where that is the end, no request was read, or the reply wasn't written whole.
-  abbrev pub HasTurned : (on : Bool) → (before after : T) → (held : List Bool) → (c d : Caller) → (old new : List LogEntry)
-      → (was now : List Outcome) → Type 0
-  HasTurned true before after held c d old new was now =
-      (t : Turn) × IsTold t before after × (new ≡ old ++ calls_in t.commands)
-      × AreKept (length old) t.commands was now × MakesTurn held old c t d
-  HasTurned false before after held c d old new was now =
-      (ts : List Turn) × IsLast before ts after × (new ≡ old ++ calls_of ts) × AreKept (length old) (spelled_by ts) was now
-      × MakesLast held old c ts d
+  -- The next request is answered: by these calls, which the client makes, the seat's log has grown, and what is told of commands by
+  -- those that it spells. Where that is the end, no request was read, or the reply wasn't written whole.
+  abbrev pub HasTurned : (on : Bool) → (before after : T) → (old new : Seat) → Type 0
+  HasTurned true before after old new =
+      (t : Turn) × IsTold t before after × (log_of new ≡ log_of old ++ calls_in t.commands)
+      × AreKept (commands_done old) (calls_made old) t.commands old.outcomes.items new.outcomes.items × MakesTurn old t new.client
+  HasTurned false before after old new =
+      (ts : List Turn) × IsLast before ts after × (log_of new ≡ log_of old ++ calls_of ts)
+      × AreKept (commands_done old) (calls_made old) (spelled_by ts) old.outcomes.items new.outcomes.items × MakesLast old ts new.client
 
   -- The requests of a line were answered, one after another, up to the line's end or the first read or write that fails, and then all
   -- nodes closed: by the calls for these, which the client makes, the log has grown, and what is told of commands by those that the
@@ -114,7 +115,7 @@ module _ {T : Type 0} (source : T → SourceEnd) (sink : T → SinkEnd) (may : �
     pub leaving : List DoneCommand
     pub closed : AreClosings (DEMUX_NODES + 1) leaving
     pub log : new ≡ old ++ calls_in (spelled (turns ++ last) leaving)
-    pub kept : AreKept (length old) (spelled (turns ++ last) leaving) was now
+    pub kept : AreKept (length was) (length old) (spelled (turns ++ last) leaving) was now
     -- by the calls behind its requests it gives back what it has, as by each request to leave
     pub then : Caller
     pub made : MakesTurns old c (turns ++ last) then

@@ -1,12 +1,11 @@
 // A seat at its line: it hands its calls over to a journal, and keeps none.
-ghost use Rattle.std.specs.Prelude.{◌≡◌, ◌<◌, ◌≤◌, ◌+◌, ◌^◌, [], ℕ, List, length, IfOk, OnOk, OnErr};
+ghost use Rattle.std.specs.Prelude.{◌≡◌, ◌<◌, ◌≤◌, ◌+◌, ◌^◌, [], ℕ, List, OnOk, OnErr};
 ghost use Rattle.atomic_table.specs.Seated.{TableId};
-ghost use Rattle.seats.specs.Numbered.{numbered, outcomes_behind, FitBehind};
-ghost use Rattle.seats.specs.Seated.{log_of, IsFit, HasRoom};
-ghost use Rattle.seats.specs.Served.{IsReadyToHand, HasServed};
+ghost use Rattle.seats.specs.Seated.{calls_made, commands_done, log_of, IsFit, HasRoom, IsReadyToHand};
+ghost use Rattle.seats.specs.Served.{HasServed};
 
-use crate::journal::{Before, Journal, JournalLine};
-use crate::seat::Seat;
+use crate::journal::{Journal, JournalLine};
+use crate::seat::{HandedOver, Seat};
 use adapter::Adapter;
 use emu_io::{Clock, Sink, Source};
 use machine::steps::Steps;
@@ -17,19 +16,13 @@ use std::sync::Wait;
 use std::sync::ledger::{Blank, Ledger};
 
 impl Seat {
-    // Hands over the calls that it keeps, and what became of its commands, before which it has handed over so many. It answers
-    // how many it has handed over in all.
-    fn hand_over<J: Journal>(
-        &mut self,
-        alloc: Global,
-        journal: &mut J,
-        before: Before,
-    ) -> Result<Before, NoMemory>
-        requires few { FitBehind before (length (log_of self.old)) self.old.outcomes.items }
-        ensures took { IfOk result (λ now. J.took (numbered before.calls (log_of self.old)) (outcomes_behind before.commands before.calls self.old.outcomes.items) journal.old journal.new) }
-        ensures count { IfOk result (λ now. (now.calls ≡ before.calls + length (log_of self.old)) × (now.commands ≡ before.commands + length self.old.outcomes.items)) }
+    // Hands over the calls that it keeps, and what became of its commands.
+    fn hand_over<J: Journal>(&mut self, alloc: Global, journal: &mut J) -> Result<(), NoMemory>
+        requires few { (calls_made self.old ≤ 2 ^ 40) × (commands_done self.old ≤ 2 ^ 40) }
+        ensures took { OnOk result (J.took (log_of self.old) self.old.outcomes.items journal.old journal.new) }
         ensures none { OnOk result ((log_of self.new ≡ []) × (self.new.outcomes.items ≡ [])) }
-        ensures kept { OnErr result (J.took [] [] journal.old journal.new × (log_of self.new ≡ log_of self.old) × (self.new.outcomes.items ≡ self.old.outcomes.items)) }
+        ensures kept { OnErr result (J.took [] [] journal.old journal.new × (log_of self.new ≡ log_of self.old) × (self.new.outcomes.items ≡ self.old.outcomes.items) × (self.new.handed ≡ self.old.handed)) }
+        ensures count { (calls_made self.new ≡ calls_made self.old) × (commands_done self.new ≡ commands_done self.old) }
         ensures client { self.new.client ≡ self.old.client }
         ensures fit { (locks : List TableId) → IsFit locks self.old → IsFit locks self.new }
         ensures held { self.new.held ≡ self.old.held }
@@ -37,15 +30,16 @@ impl Seat {
     {
         journal.hear(&self.made);
         self.settle(alloc, journal.last())?;
-        let now = Before {
-            calls: before.calls + self.log.len() as u64,
-            commands: before.commands + self.outcomes.len() as u64,
+        let now = HandedOver {
+            calls: self.handed.calls + self.log.len() as u64,
+            commands: self.handed.commands + self.outcomes.len() as u64,
         };
         let calls = mem::replace(&mut self.log, Vec::new(alloc));
-        match journal.take(before, calls, &self.outcomes) {
+        match journal.take(calls, &self.outcomes) {
             Ok(()) => {
+                self.handed = now;
                 self.outcomes.clear();
-                Ok(now)
+                Ok(())
             }
             Err(calls) => {
                 self.log = calls;
@@ -55,13 +49,13 @@ impl Seat {
     }
 
     // Hands over all that is left; where there is no memory for that, the journal is told so.
-    fn hand_over_last<J: Journal>(&mut self, alloc: Global, journal: &mut J, before: Before)
-        requires few { FitBehind before (length (log_of self.old)) self.old.outcomes.items }
-        ensures took { J.took (numbered before.calls (log_of self.old)) (outcomes_behind before.commands before.calls self.old.outcomes.items) journal.old journal.new }
+    fn hand_over_last<J: Journal>(&mut self, alloc: Global, journal: &mut J)
+        requires few { (calls_made self.old ≤ 2 ^ 40) × (commands_done self.old ≤ 2 ^ 40) }
+        ensures took { J.took (log_of self.old) self.old.outcomes.items journal.old journal.new }
         ensures client { self.new.client ≡ self.old.client }
         ensures fit { (locks : List TableId) → IsFit locks self.old → IsFit locks self.new }
     {
-        if self.hand_over(alloc, journal, before).is_err() {
+        if self.hand_over(alloc, journal).is_err() {
             journal.miss();
         }
     }
@@ -83,19 +77,13 @@ impl Seat {
         requires ready { IsReadyToHand adapter.now self.old }
         ensures { HasServed T.Source.end T.Sink.end (C.may_give clock.now) J.took adapter.now at.old at.new self.old self.new }
     {
-        let mut before = Before {
-            calls: 0,
-            commands: 0,
-        };
         'requests: for _ in rt.forever() {
             if !self.turn(rt, alloc, adapter, &mut at.line, clock, steps) {
                 self.leave(rt, adapter, steps);
-                self.hand_over_last(alloc, &mut at.journal, before);
+                self.hand_over_last(alloc, &mut at.journal);
                 return;
             }
-            if let Ok(now) = self.hand_over(alloc, &mut at.journal, before) {
-                before = now;
-            }
+            let _ = self.hand_over(alloc, &mut at.journal);
         }
         unreachable!()
     }

@@ -32,9 +32,9 @@ mod serve;
 pub mod serve_frames;
 
 pub use answers::Answered;
-pub use journal::{Before, Forgotten, Journal, JournalLine, KeptJournal};
+pub use journal::{Forgotten, Journal, JournalLine, KeptJournal};
 pub use laws::lines_are_played;
 pub use made::Made;
 pub use making::desks_of;
 pub use run::{Desk, Sitting, sit_all};
-pub use seat::{MOST_CALLS, Seat};
+pub use seat::{HandedOver, MOST_CALLS, Seat};

@@ -1,5 +1,5 @@
 // The threads of the seats.
-ghost use Rattle.std.specs.Prelude.{◌≡◌, ◌<◌, ℕ, Bool, List, All};
+ghost use Rattle.std.specs.Prelude.{◌<◌, ℕ, Bool, List, All};
 ghost use Rattle.atomic_table.specs.Seated.{TableId};
 ghost use Rattle.seats.specs.Served.{HaveSat};
 
@@ -36,7 +36,8 @@ pub trait Sitting {
 }
 
 impl<T: Source + Sink + Drop, J: Journal + Drop> Sitting for Desk<JournalLine<T, J>> {
-    ghost use Rattle.seats.specs.Served.{IsReadyToHand, HasServed};
+    ghost use Rattle.seats.specs.Seated.{IsReadyToHand};
+    ghost use Rattle.seats.specs.Served.{HasServed};
 
     ghost ready = { λ locks d. IsReadyToHand locks d.seat };
 

@@ -1,6 +1,6 @@
 // A seat and its calls.
-ghost use Rattle.std.specs.Prelude.{◌≡◌, ◌≢◌, ◌<◌, ◌≤◌, ◌+◌, ◌^◌, ◌++◌, ◌∷◌, [], ℕ, true, List, Some, length, map, option_map, slice_get, vec_capacity, OnOk, IfOk, IfSome};
-ghost use Rattle.seats.specs.Imports.{DEMUX_NODES as nodes, TableId, act_of, invocation_of, is_accepted as is_accepted_by, response_of, told_entry};
+ghost use Rattle.std.specs.Prelude.{◌≡◌, ◌≢◌, ◌<◌, ◌≤◌, ◌+◌, ◌^◌, ◌++◌, ◌∷◌, [], ℕ, true, List, Some, length, option_map, slice_get, vec_capacity, OnOk, IfOk, IfSome};
+ghost use Rattle.seats.specs.Imports.{DEMUX_NODES as nodes, TableId, act_of, invocation_of, is_accepted as is_accepted_by, response_of};
 ghost use Rattle.dmx_calls.specs.Invocation as asks;
 ghost use Rattle.seats.specs.Calls.{PassesNone};
 ghost use Rattle.seats.specs.Doing.{MakesOne, DoesCommand, MarksNoMore, act_by_tap, tap_by};
@@ -20,6 +20,15 @@ use std::sync::ledger::Ledger;
 /// The most calls of a request: an Open or a Close of each of the 33 nodes, and what each reply asks of the dvr node.
 pub const MOST_CALLS: usize = 66;
 
+/// How many calls a seat has handed over to its journal, and what became of how many commands.
+#[derive(Clone, Copy, Debug, PartialEq, Eq, Drop)]
+pub struct HandedOver {
+    /// How many calls.
+    pub calls: u64,
+    /// How many commands.
+    pub commands: u64,
+}
+
 /// A client of the adapter with its calls so far. It serves one program after another.
 #[derive(Drop)]
 pub struct Seat {
@@ -27,11 +36,13 @@ pub struct Seat {
     pub client: Client,
     /// Its number as a caller.
     pub who: u32,
-    /// Its calls, on whatever node, in their order, but for the last ones.
+    /// What it has handed over.
+    pub handed: HandedOver,
+    /// Its calls behind these, on whatever node, in their order, but for the last ones.
     pub log: Vec<Entry>,
     /// Its last calls, behind these: those for which no memory was taken yet.
     pub made: Vec<Made>,
-    /// What it was asked for and did by calls, in their order, each as a command of a script.
+    /// What it was asked for and did by calls behind what it has handed over, in their order, each as a command of a script.
     pub outcomes: Vec<Outcome>,
     /// The nodes that the program has.
     pub held: [bool; NODES as usize],
@@ -79,8 +90,8 @@ fn has_then(had: bool, act: &Act, reply: &Reply) -> bool
     }
 }
 
-/// The number of the line of a command behind so many.
-pub(crate) fn line_behind(count: usize) -> u32
+// The number of the line of a command behind so many.
+fn line_behind(count: usize) -> u32
     ensures { result ≡ line_behind_by count }
 {
     if count < u32::MAX as usize {
@@ -98,6 +109,10 @@ impl Seat {
         Ok(Seat {
             client,
             who,
+            handed: HandedOver {
+                calls: 0,
+                commands: 0,
+            },
             log: Vec::new(alloc),
             made: Vec::with_capacity(alloc, MOST_CALLS)?,
             outcomes: Vec::with_capacity(alloc, MOST_CALLS)?,
@@ -107,10 +122,10 @@ impl Seat {
 
     // How many calls it has made.
     pub(crate) fn count(&self) -> u64
-        requires few { length self.now.log.items + length self.now.made.items ≤ 2 ^ 40 }
-        ensures { result ≡ length self.now.log.items + length self.now.made.items }
+        requires few { self.now.handed.calls + (length self.now.log.items + length self.now.made.items) ≤ 2 ^ 40 }
+        ensures { result ≡ self.now.handed.calls + (length self.now.log.items + length self.now.made.items) }
     {
-        self.log.len() as u64 + self.made.len() as u64
+        self.handed.calls + (self.log.len() as u64 + self.made.len() as u64)
     }
 
     // Makes a call, for which there is room, and keeps it. It answers what the reply asks of the dvr node.
@@ -138,7 +153,7 @@ impl Seat {
         ensures fewer { invocation_of call ≢ asks.Open → MarksNoMore self.old self.new }
         ensures free { invocation_of call ≡ asks.Close → slice_get self.new.held node ≢ Some true }
     {
-        let act = Act::of(&call);
+        let act = call.act();
         let step = self.count();
         let (place, answer) = self.client.call(rt, adapter, node, call, steps);
         let next = told_dvr(node, &answer.reply);
@@ -189,16 +204,17 @@ impl Seat {
 
     /// Keeps how a command ended, for which there is room; so many calls were made before its first.
     pub fn keep(&mut self, from: u64, kind: OutcomeKind)
-        requires few { length self.old.log.items + length self.old.made.items ≤ 2 ^ 40 }
+        requires few { self.old.handed.calls + (length self.old.log.items + length self.old.made.items) ≤ 2 ^ 40 }
+        requires paid { self.old.handed.commands + length self.old.outcomes.items + 1 ≤ self.old.handed.calls + (length self.old.log.items + length self.old.made.items) }
         requires room { length self.old.outcomes.items + 1 ≤ vec_capacity self.old.outcomes }
         ensures fit { (locks : List TableId) → IsFit locks self.old → IsFit locks self.new }
         ensures goes { GoesOn self.old self.new }
         ensures one { length self.new.outcomes.items ≡ length self.old.outcomes.items + 1 }
-        ensures told { self.new.outcomes.items ≡ self.old.outcomes.items ++ outcome_at (length self.old.outcomes.items) from (length self.old.log.items + length self.old.made.items) kind ∷ [] }
+        ensures told { self.new.outcomes.items ≡ self.old.outcomes.items ++ outcome_at (self.old.handed.commands + length self.old.outcomes.items) from (self.old.handed.calls + (length self.old.log.items + length self.old.made.items)) kind ∷ [] }
         ensures room { vec_capacity self.new.outcomes ≡ vec_capacity self.old.outcomes }
-        ensures rest { (self.new.client ≡ self.old.client) × (self.new.who ≡ self.old.who) × (self.new.log ≡ self.old.log) × (self.new.made ≡ self.old.made) × (self.new.held ≡ self.old.held) }
+        ensures rest { (self.new.client ≡ self.old.client) × (self.new.who ≡ self.old.who) × (self.new.log ≡ self.old.log) × (self.new.made ≡ self.old.made) × (self.new.held ≡ self.old.held) × (self.new.handed ≡ self.old.handed) }
     {
-        let line = line_behind(self.outcomes.len());
+        let line = line_behind(self.handed.commands as usize + self.outcomes.len());
         let to = self.count();
         self.outcomes.push_reserved(Outcome {
             line,
@@ -214,7 +230,7 @@ impl Seat {
         ensures same { log_of self.new ≡ log_of self.old }
         ensures room { vec_capacity self.new.made ≡ vec_capacity self.old.made }
         ensures more { length self.new.made.items ≤ length self.old.made.items }
-        ensures rest { (self.new.client ≡ self.old.client) × (self.new.who ≡ self.old.who) × (self.new.outcomes ≡ self.old.outcomes) × (self.new.held ≡ self.old.held) }
+        ensures rest { (self.new.client ≡ self.old.client) × (self.new.who ≡ self.old.who) × (self.new.outcomes ≡ self.old.outcomes) × (self.new.held ≡ self.old.held) × (self.new.handed ≡ self.old.handed) }
     {
         let before = self.log.len();
         match keep_all(alloc, self.who, last, &self.made, &mut self.log) {

@@ -1,7 +1,7 @@
 // A seat at its line: requests come in, and replies go out.
-ghost use Rattle.std.specs.Prelude.{◌≡◌, ◌<◌, ◌≤◌, ◌+◌, ◌-◌, ℕ, true, false, length, OnOk, OnErr, IfSome};
+ghost use Rattle.std.specs.Prelude.{◌≡◌, ◌<◌, ◌≤◌, ◌+◌, ◌-◌, true, false, length, OnOk, OnErr, IfSome};
 ghost use Rattle.seats.specs.Line.{Takes, RunsOut, Writes, BreaksOff};
-ghost use Rattle.seats.specs.Seated.{log_of, IsFit, GoesOn, MayLeave};
+ghost use Rattle.seats.specs.Seated.{IsFit, GoesOn, MayLeave};
 ghost use Rattle.seats.specs.Told.{reply_bytes, data_read, call_at};
 ghost use Rattle.seats.specs.Turns.{HasTurned};
 
@@ -86,7 +86,7 @@ impl Seat {
         ensures fit { IsFit adapter.now self.new }
         ensures room { MayLeave self.new }
         ensures goes { GoesOn self.old self.new }
-        ensures turned { HasTurned T.Source.end T.Sink.end (C.may_give clock.now) result line.old line.new self.old.held self.old.client self.new.client (log_of self.old) (log_of self.new) self.old.outcomes.items self.new.outcomes.items }
+        ensures turned { HasTurned T.Source.end T.Sink.end (C.may_give clock.now) result line.old line.new self.old self.new }
     {
         let mut bytes = [0u8; REQUEST_LEN];
         if !fill(line, &mut bytes) {

@@ -1,9 +1,5 @@
 -- What an assembler keeps stands for the packets pushed, packet by packet and section by section.
-use Rattle.section_parse.proofs.Imports.{◌≡◌, ℕ, ◌+◌, ◌*◌, ◌≤◌, ◌&&◌, subst, suc, Bool, true, false, List, [], ◌∷◌, ◌++◌, length, drop, Option, Some, None, refl, sym, ◌∙◌, arith, append_assoc, length-append, length-drop, append-nil, length-take, sum_by-append, fold-append, All, fold, sum_by, unit_start, carried, is_usable, pointer_field, is_pointed, pointed, Assembly, Assembled, cleared, without_first, all_given, sections_of_open, longer, opened, repeats_last, joins_last, taken, after_packet, length_of, bytes_kept, sections_from, sections_to_come}
-use Rattle.ts_packet.specs.Clean.{without_repeats_after, clean}
-use Rattle.section_parse.specs.Segments.{runs}
-use Rattle.section_parse.specs.Sections.{sections}
-use Rattle.section_parse.specs.Inside.Keeping.{kept}
+use Rattle.section_parse.proofs.Imports.{◌≡◌, ℕ, ◌+◌, ◌*◌, ◌≤◌, ◌&&◌, subst, suc, Bool, true, false, List, [], ◌∷◌, ◌++◌, length, drop, Option, Some, None, refl, sym, ◌∙◌, arith, append_assoc, length-append, length-drop, append-nil, length-take, sum_by-append, fold-append, All, fold, sum_by, unit_start, carried, is_usable, pointer_field, is_pointed, pointed, Assembly, Assembled, cleared, without_first, all_given, sections_of_open, longer, opened, repeats_last, joins_last, taken, after_packet, length_of, bytes_kept, sections_from, sections_to_come, without_repeats_after, clean, runs, sections, kept}
 use Rattle.section_parse.proofs.Reading.{open-left, open-bytes}
 use Rattle.section_parse.proofs.Steps.{to_come-taken, first-step, repeat-step, break-step, unit-step, more-step, kept-unusable, kept-repeat, kept-break, kept-unit, kept-more}
 

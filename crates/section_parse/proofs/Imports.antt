@@ -1,10 +1,13 @@
 -- The words of others that the proofs of this crate use.
 pub use Rattle.lemmas.proofs.Lists.{not_all}
 pub use Rattle.section_parse.specs.Inside.Held.{Advances, Held, between, bytes_of, is_drained, unless_stopped, unread}
-pub use Rattle.section_parse.specs.Inside.Keeping.{Assembled, Assembly, after_packet, all_given, bytes_kept, cleared, is_stopped, joins_last, left_of_open, length_of, longer, opened, repeats_last, sections_behind, sections_from, sections_of_open, sections_of_runs, sections_to_come, taken, without_first}
+pub use Rattle.section_parse.specs.Inside.Keeping.{Assembled, Assembly, all_given, bytes_kept, cleared, is_stopped, joins_last, left_of_open, length_of, longer, opened, repeats_last, sections_behind, sections_from, sections_of_open, sections_of_runs, sections_to_come, taken, without_first}
+unfoldable pub use Rattle.section_parse.specs.Inside.Keeping.{after_packet, kept, left_after}
 pub use Rattle.section_parse.specs.Laws.{IsApart, SectionsAreWhole, SectionsFitThePackets, SectionsLieEndToEnd, SectionsRecover, SectionsStay}
-pub use Rattle.section_parse.specs.Sections.{IsSection, has_section, read_sections, section_length, sections, sections_of_run}
-pub use Rattle.section_parse.specs.Segments.{in_front, is_pointed, pointed, pointer_field, rest_of_segment, segments}
+pub use Rattle.section_parse.specs.Sections.{IsSection, has_section, section_length, sections_of_run}
+unfoldable pub use Rattle.section_parse.specs.Sections.{read_sections, sections, sections_after}
+pub use Rattle.section_parse.specs.Segments.{in_front, is_pointed, pointed, pointer_field}
+unfoldable pub use Rattle.section_parse.specs.Segments.{rest_of_segment, segments, runs}
 pub use Rattle.std.proofs.Common.{Bool, List, None, Option, Some, [], ap, append_assoc, arith, drop, false, get_or, inl, inr, length, length-append, length-drop, map, not, refl, subst, suc, sym, take, true, zero, ℕ, ◌&&◌, ◌*◌, ◌++◌, ◌+◌, ◌-◌, ◌<◌, ◌||◌, ◌∙◌, ◌∷◌, ◌≡◌, ◌≢◌, ◌≤◌, ◌⊎◌}
 pub use Rattle.std.proofs.Math.Seq.{drop-append_seam, take-append_seam}
 pub use Rattle.std.proofs.lemmas.Bool.{cases_lt}
@@ -18,4 +21,5 @@ pub use Rattle.std.specs.Option.{option_map}
 pub use Rattle.std.specs.Prelude.{IfSome, MatchOption, if◌then◌else◌, min, slice_get}
 pub use Rattle.ts_packet.proofs.CleanLemmas.{clean-apart, clean-append, last-clean, without-repeat}
 pub use Rattle.ts_packet.specs.Clean.{carried, is_usable, joins, repeats}
+unfoldable pub use Rattle.ts_packet.specs.Clean.{clean, without_repeats_after}
 pub use Rattle.ts_packet.specs.Fields.{IsPacket, has_adaptation, has_payload, payload_start, unit_start}

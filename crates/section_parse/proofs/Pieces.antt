@@ -108,13 +108,6 @@ announced-more b p c n len d f e a = go (cases_lt len (length c))
         let has : has_section (c ++ []) ≡ true = announced-has c [] len a (omega (arith, length-append c [])) in
         absurd (let k : has_section b ≡ true = (rw (append-nil c, same) at has) in let z = sym k ∙ d in cc)
 
--- the two steps together
-filled-two : (b p : List ℕ) (n m : ℕ) → ((b ++ take n p) ++ take m (drop n p)) ++ drop m (drop n p) ≡ b ++ p
-filled-two b p n m = moved (b ++ take n p) (drop n p) m ∙ moved b p n
-
-section-of : (c p d : List ℕ) (m len : ℕ) → Announced c len → Filled c p len m → d ≡ c ++ take m p → d ++ drop m p ≡ c ++ p → section_length (c ++ p) ≡ section_length c
-section-of c p d m len a f e h = section_length-append c p a.header
-
 pub advance-short : (b c d : List ℕ) (k from to n m len : ℕ) (packet : List ℕ) → Filled b (between from to packet) 3 n → c ≡ b ++ take n (between from to packet)
     → Announced c len → Filled c (between (from + n) to packet) len m → d ≡ c ++ take m (between (from + n) to packet) → k ≡ length d → k < len
     → Advances (Some (b ++ between from to packet)) None (Some (take k d ++ between (from + n + m) to packet))

@@ -1,8 +1,5 @@
 -- The laws of sections over whole lists of packets.
-use Rattle.section_parse.proofs.Imports.{if◌then◌else◌, ◌≡◌, ℕ, ◌+◌, ◌≤◌, Bool, true, false, List, [], ◌∷◌, ◌++◌, length, take, drop, Some, None, refl, sym, ap, ◌∙◌, arith, length-drop, get_or, append-nil, flat_map-append, All-append, All-nil, filter-append, All, filter, flat_map, fold, last_or, IsPacket, has_adaptation, carried, is_usable, joins, clean-append, last-clean, clean-apart, in_front, segments, section_length, has_section, sections_of_run, IsSection, sections_to_come, cleared, SectionsLieEndToEnd, SectionsStay, IsApart, SectionsRecover, SectionsAreWhole, SectionsFitThePackets}
-use Rattle.ts_packet.specs.Clean.{without_repeats_after, clean}
-use Rattle.section_parse.specs.Segments.{runs}
-use Rattle.section_parse.specs.Sections.{read_sections, sections}
+use Rattle.section_parse.proofs.Imports.{if◌then◌else◌, ◌≡◌, ℕ, ◌+◌, ◌≤◌, Bool, true, false, List, [], ◌∷◌, ◌++◌, length, take, drop, Some, None, refl, sym, ap, ◌∙◌, arith, length-drop, get_or, append-nil, flat_map-append, All-append, All-nil, filter-append, All, filter, flat_map, fold, last_or, IsPacket, has_adaptation, carried, is_usable, joins, clean-append, last-clean, clean-apart, in_front, segments, section_length, has_section, sections_of_run, IsSection, sections_to_come, cleared, SectionsLieEndToEnd, SectionsStay, IsApart, SectionsRecover, SectionsAreWhole, SectionsFitThePackets, without_repeats_after, clean, runs, read_sections, sections}
 use Rattle.section_parse.proofs.Reading.{read-first, read-none, each-is}
 use Rattle.section_parse.proofs.Assembled.{AreFew, next_kept, keeps-all}
 

@@ -1,8 +1,6 @@
 -- Which calls leave the packets of a node and its end as they were.
-use Rattle.serial_core.proofs.Imports.{◌≡◌, refl, ap, ◌∙◌, ℕ, Bool, true, false, [], ◌∷◌, Option, Some, None, ◌||◌, Invocation, Response, Passed, is_accepted, History, event, entry_of, is_end, has_ended, Rules, has_ended_refused, has_ended_after, ClientRequest, Own, Batches, batch_at, Packets, Open, call_of, pass_of, from_frontend}
+use Rattle.serial_core.proofs.Imports.{◌≡◌, refl, ap, ◌∙◌, ℕ, Bool, true, false, [], ◌∷◌, Option, Some, None, ◌||◌, Invocation, Response, Passed, is_accepted, History, event, entry_of, is_end, has_ended, Rules, has_ended_refused, has_ended_after, ClientRequest, Own, Batches, batch_at, Packets, Open, call_of, pass_of, from_frontend, facts, answer}
 use Rattle.dmx_calls.specs.Invocation as call
-use Rattle.dmx_calls.specs.Facts.{facts}
-use Rattle.dmx_calls.specs.Answer.{answer}
 use Rattle.client_core.specs.declared.event.ClientRequest.TheVariants.{Pass}
 
 -- ------ calls of the feeder and of clients

@@ -1,7 +1,6 @@
 -- Wherever the serial run of a script has come: its nodes, its feeder and its clients.
-use Rattle.serial_core.proofs.Imports.{◌≡◌, ◌≢◌, refl, sym, ap, subst, ◌∙◌, ℕ, ◌+◌, ◌<◌, ◌≤◌, Bool, true, false, nat_eq, List, [], ◌∷◌, ◌++◌, Option, Some, None, length, length-append, take, drop, min, ◌⊎◌, inl, inr, arith, length-take-le, length-drop, IsSome, is_some, if◌then◌else◌, slice_get, slice_index_or, All, nat_tests, length-map, length-set, get_or-set_same, get_or-set_other, drop-drop, All-nil, get_or-map-range_with_len, at_last, DEMUX_NODES, Frontend, Invocation, Response, Again, is_accepted, entry_of, rules_at, PassAct, IsFrom, LogEntry, act_of, IsInRange, Scripted, Event, Batches, call_of, plays_of, Standing, progress, next_event, waits_after, waits_on, sources, steps_of, last_counts, next_is_numbered, same_some, from_client, by_caller, Node, uncalled, history_of, answer_by, answered, Run, begun, fed_to_all, passed, ended, turned, ticked, node_at, replies_of, reply_to, called, after_waiting, IsSerialRun, IsMoment}
+use Rattle.serial_core.proofs.Imports.{◌≡◌, ◌≢◌, refl, sym, ap, subst, ◌∙◌, ℕ, ◌+◌, ◌<◌, ◌≤◌, Bool, true, false, nat_eq, List, [], ◌∷◌, ◌++◌, Option, Some, None, length, length-append, take, drop, min, ◌⊎◌, inl, inr, arith, length-take-le, length-drop, IsSome, is_some, if◌then◌else◌, slice_get, slice_index_or, All, nat_tests, length-map, length-set, get_or-set_same, get_or-set_other, drop-drop, All-nil, get_or-map-range_with_len, at_last, DEMUX_NODES, Frontend, Invocation, Response, Again, is_accepted, entry_of, rules_at, passing, IsFrom, LogEntry, act_of, IsInRange, Scripted, Event, Batches, call_of, plays_of, Standing, progress, next_event, waits_after, waits_on, sources, steps_of, last_counts, next_is_numbered, same_some, from_client, by_caller, Node, uncalled, history_of, answer_by, answered, Run, begun, fed_to_all, passed, ended, turned, ticked, node_at, replies_of, reply_to, called, after_waiting, IsSerialRun, IsMoment, has_ended}
 use Rattle.dmx_calls.specs.Invocation as call
-use Rattle.dmx_calls.specs.Tenure.{has_ended}
 use Rattle.serial_core.proofs.Answering.{end_answer, end_stays, ends, no_end}
 use Rattle.serial_core.proofs.Logs.{fed_at, called_at, IsCalledAt, entries_of, entries_at, entry_for, entries_answered}
 use Rattle.serial_core.proofs.Sound.{IsSound, answer_open, sound_answered}
@@ -85,7 +84,7 @@ module _ (script : Scripted) (batch : ℕ) (packets : List (List ℕ)) (clients 
         sound = λ node le. let s = p.sound node le in fed_sound r.has_ended node c r p.nodes le of (end_stays 0 c (answer_by 0 c (node_at node r)) (history_of (node_at node r)) refl ∙ s.ended) s;
         fed = subst (λ b. AreFed batch (λ node. entries_at node (fed_to_all c r)) (r.turns + 1) (r.first + size) b) (sym unended)
             (fed_pass batch (λ node. entries_at node r) (λ node. entries_at node (fed_to_all c r)) r.turns r.first size r.moment some within before
-            (λ node le. (entry_for 0 r.turns c (node_at node r), fed_entries node c r p.nodes le, refl, refl, ap (λ n. PassAct Frontend r.first n r.moment) long)));
+            (λ node le. (entry_for 0 r.turns c (node_at node r), fed_entries node c r p.nodes le, refl, refl, ap (λ n. passing Frontend r.first n r.moment) long)));
         made = λ client lt. fed_made r.has_ended client c r p.nodes (p.made client lt);
         silent = p.silent;
       }

@@ -1,5 +1,5 @@
 -- All packets pass each node in the same batches, one after another, and then End.
-use Rattle.serial_core.proofs.Imports.{◌≡◌, ◌≢◌, sym, ap, ◌∙◌, ℕ, suc, ◌+◌, ◌≤◌, Bool, true, false, nat_eq, List, [], ◌∷◌, ◌++◌, length, map, append-nil, arith, length-append, sum, All, map-append, sum_by-append, sum_by-cons, All-nil, All-cons, All-append, nat_tests, Frontend, DEMUX_NODES, PassAct, EndAct, LogEntry, Batch, Step, feeding, steps_of, one_if, filter_more, by_caller}
+use Rattle.serial_core.proofs.Imports.{◌≡◌, ◌≢◌, sym, ap, ◌∙◌, ℕ, suc, ◌+◌, ◌≤◌, Bool, true, false, nat_eq, List, [], ◌∷◌, ◌++◌, length, map, append-nil, arith, length-append, sum, All, map-append, sum_by-append, sum_by-cons, All-nil, All-cons, All-append, nat_tests, Frontend, DEMUX_NODES, passing, EndAct, LogEntry, Batch, Step, feeding, steps_of, one_if, filter_more, by_caller}
 
 -- ------ the feeder's calls in a log
 
@@ -21,7 +21,7 @@ none_fed h x not =
 -- the passes of these batches
 abbrev pub passes_of : (first step : ℕ) → List Batch → List Step
 passes_of first step [] = []
-passes_of first step (b ∷ bs) = record { step = step; act = PassAct Frontend first b.size b.moment } ∷ passes_of (first + b.size) (suc step) bs
+passes_of first step (b ∷ bs) = record { step = step; act = passing Frontend first b.size b.moment } ∷ passes_of (first + b.size) (suc step) bs
 
 abbrev pub sizes_of : List Batch → ℕ
 sizes_of bs = sum (map (λ b. b.size) bs)
@@ -34,17 +34,17 @@ size_first : (b : Batch) (bs : List Batch) → sizes_of (b ∷ bs) ≡ b.size + 
 size_first b bs = sum_by-cons (λ n. n) b.size (map (λ b. b.size) bs)
 
 pub passes_more : (first step : ℕ) (bs : List Batch) (b : Batch)
-    → passes_of first step (bs ++ b ∷ []) ≡ passes_of first step bs ++ record { step = step + length bs; act = PassAct Frontend (first + sizes_of bs) b.size b.moment } ∷ []
+    → passes_of first step (bs ++ b ∷ []) ≡ passes_of first step bs ++ record { step = step + length bs; act = passing Frontend (first + sizes_of bs) b.size b.moment } ∷ []
 passes_more first step [] b =
     let f : first ≡ first + sizes_of [] = omega arith in
     let s : step ≡ step + length {A = Batch} [] = omega arith in
-    ap (λ n. record { step = n; act = PassAct Frontend first b.size b.moment } ∷ []) s ∙ ap (λ n. record { step = step + 0; act = PassAct Frontend n b.size b.moment } ∷ []) f
+    ap (λ n. record { step = n; act = passing Frontend first b.size b.moment } ∷ []) s ∙ ap (λ n. record { step = step + 0; act = passing Frontend n b.size b.moment } ∷ []) f
 passes_more first step (c ∷ bs) b =
     let f : first + c.size + sizes_of bs ≡ first + sizes_of (c ∷ bs) = omega (arith, size_first c bs) in
     let s : suc step + length bs ≡ step + length (c ∷ bs) = omega arith in
-    ap (λ l. record { step = step; act = PassAct Frontend first c.size c.moment } ∷ l) (passes_more (first + c.size) (suc step) bs b
-    ∙ ap (λ n. passes_of (first + c.size) (suc step) bs ++ record { step = n; act = PassAct Frontend (first + c.size + sizes_of bs) b.size b.moment } ∷ []) s
-    ∙ ap (λ n. passes_of (first + c.size) (suc step) bs ++ record { step = step + length (c ∷ bs); act = PassAct Frontend n b.size b.moment } ∷ []) f)
+    ap (λ l. record { step = step; act = passing Frontend first c.size c.moment } ∷ l) (passes_more (first + c.size) (suc step) bs b
+    ∙ ap (λ n. passes_of (first + c.size) (suc step) bs ++ record { step = n; act = passing Frontend (first + c.size + sizes_of bs) b.size b.moment } ∷ []) s
+    ∙ ap (λ n. passes_of (first + c.size) (suc step) bs ++ record { step = step + length (c ∷ bs); act = passing Frontend n b.size b.moment } ∷ []) f)
 
 abbrev pub end_of : (step : ℕ) → Bool → List Step
 end_of step true = record { step = step; act = EndAct } ∷ []
@@ -54,7 +54,7 @@ pub all_fed : (first step : ℕ) (bs : List Batch) → feeding first step bs ≡
 all_fed first step [] = let s : step ≡ step + length {A = Batch} [] = omega arith in ap (λ n. record { step = n; act = EndAct } ∷ []) s
 all_fed first step (b ∷ bs) =
     let s : suc step + length bs ≡ step + length (b ∷ bs) = omega arith in
-    ap (λ l. record { step = step; act = PassAct Frontend first b.size b.moment } ∷ l) (all_fed (first + b.size) (suc step) bs ∙ ap (λ n. passes_of (first + b.size) (suc step) bs ++ end_of n true) s)
+    ap (λ l. record { step = step; act = passing Frontend first b.size b.moment } ∷ l) (all_fed (first + b.size) (suc step) bs ∙ ap (λ n. passes_of (first + b.size) (suc step) bs ++ end_of n true) s)
 
 -- ------ so far
 
@@ -69,7 +69,7 @@ pub record AreFed (most : ℕ) (logs : ℕ → List LogEntry) (turns first : ℕ
 module _ (most : ℕ) (logs after : ℕ → List LogEntry) where
   -- a batch passes
   pub fed_pass : (turns first size moment : ℕ) → 1 ≤ size → size ≤ most → AreFed most logs turns first false
-      → ((node : ℕ) → node ≤ DEMUX_NODES → (x : LogEntry) × (after node ≡ logs node ++ x ∷ []) × (x.who ≡ 0) × (x.step ≡ turns) × (x.act ≡ PassAct Frontend first size moment))
+      → ((node : ℕ) → node ≤ DEMUX_NODES → (x : LogEntry) × (after node ≡ logs node ++ x ∷ []) × (x.who ≡ 0) × (x.step ≡ turns) × (x.act ≡ passing Frontend first size moment))
       → AreFed most after (turns + 1) (first + size) false
   fed_pass turns first size moment some within f each =
       let b : Batch = record { size = size; moment = moment } in
@@ -80,7 +80,7 @@ module _ (most : ℕ) (logs after : ℕ → List LogEntry) where
         counted = omega (arith, f.counted, length-append f.batches (b ∷ []));
         on_each = λ node le. on node (each node le) (f.on_each node le);
       } where
-        on : (node : ℕ) → (x : LogEntry) × (after node ≡ logs node ++ x ∷ []) × (x.who ≡ 0) × (x.step ≡ turns) × (x.act ≡ PassAct Frontend first size moment)
+        on : (node : ℕ) → (x : LogEntry) × (after node ≡ logs node ++ x ∷ []) × (x.who ≡ 0) × (x.step ≡ turns) × (x.act ≡ passing Frontend first size moment)
             → steps_of 0 (logs node) ≡ passes_of 0 0 f.batches ++ []
             → steps_of 0 (after node) ≡ passes_of 0 0 (f.batches ++ record { size = size; moment = moment } ∷ []) ++ []
         on node (x, more, who, step, act) before =
@@ -89,7 +89,7 @@ module _ (most : ℕ) (logs after : ℕ → List LogEntry) where
             ap (steps_of 0) more ∙ more_fed (logs node) x who
             ∙ ap (λ l. l ++ record { step = x.step; act = x.act } ∷ []) (before ∙ append-nil (passes_of 0 0 f.batches))
             ∙ ap (λ n. passes_of 0 0 f.batches ++ record { step = n; act = x.act } ∷ []) s
-            ∙ ap (λ a. passes_of 0 0 f.batches ++ record { step = 0 + length f.batches; act = a } ∷ []) (act ∙ ap (λ n. PassAct Frontend n size moment) p)
+            ∙ ap (λ a. passes_of 0 0 f.batches ++ record { step = 0 + length f.batches; act = a } ∷ []) (act ∙ ap (λ n. passing Frontend n size moment) p)
             ∙ sym (passes_more 0 0 f.batches (record { size = size; moment = moment }))
             ∙ sym (append-nil (passes_of 0 0 (f.batches ++ record { size = size; moment = moment } ∷ [])))
 

@@ -2,11 +2,11 @@
 pub use Rattle.client_core.proofs.Ended.{ended_waits_not}
 pub use Rattle.client_core.proofs.GoesOn.{last_counts, none_waits as before_first}
 pub use Rattle.client_core.proofs.Numbering.{AreThrough, next_is_numbered, through_more, through_next}
-pub use Rattle.client_core.specs.Commands.{commands_among, commands_in, pass_of}
-pub use Rattle.client_core.specs.Deeds.{batch_at, deed_of}
-pub use Rattle.client_core.specs.Events.{Standing, next_event, no_slots, progress, progress_from, standing_at, waits_after}
+pub use Rattle.client_core.specs.Commands.{command_of, commands_among, commands_in, pass_of}
+pub use Rattle.client_core.specs.Plays.{batch_at}
+pub use Rattle.client_core.specs.Events.{Standing, next_event, no_slots, progress_from, standing_at, waits_after}
+unfoldable pub use Rattle.client_core.specs.Events.{progress}
 pub use Rattle.client_core.specs.declared.command.ClientCommand.{ClientCommand}
-pub use Rattle.client_core.specs.declared.deed.Deed.{Deed}
 pub use Rattle.client_core.specs.declared.event.ClientRequest.{ClientRequest}
 pub use Rattle.client_core.specs.declared.event.ClientRequest.TheVariants.{Own}
 pub use Rattle.client_core.specs.declared.stop.Stop.TheVariants.{TooLong}
@@ -18,14 +18,17 @@ pub use Rattle.dmx_calls.proofs.Reading.{read_each}
 pub use Rattle.dmx_calls.proofs.Telling.{fills}
 pub use Rattle.dmx_calls.proofs.Weaving.{in_place-append, woven-call, woven-fed}
 pub use Rattle.dmx_calls.specs.Answer.{ReadTerms, answer_by as dmx_answer, done_dropping, expired_of, open_response, read_terms, refusal_to, response_of_read, response_to, response_unless, with_call}
-pub use Rattle.dmx_calls.specs.Facts.{Facts, Ledger, facts}
+unfoldable pub use Rattle.dmx_calls.specs.Answer.{answer}
+pub use Rattle.dmx_calls.specs.Facts.{Facts, Ledger}
+unfoldable pub use Rattle.dmx_calls.specs.Facts.{facts}
 pub use Rattle.dmx_calls.specs.Histories.{AreInPlace, feeder_acts, feeder_entry, woven_nodes}
 pub use Rattle.dmx_calls.specs.History.{event}
 pub use Rattle.dmx_calls.specs.Invocation.{AddPid, Attach, Close, Detach, End, Pass, Poll, Read, RemovePid, SetFilter, SetPes, SetSize, Start, Stop}
 pub use Rattle.dmx_calls.specs.Log.{IsFrom, Sources, filled_entry}
 pub use Rattle.dmx_calls.specs.Response.{NoMemory, TapChange, is_accepted}
 pub use Rattle.dmx_calls.specs.Rules.{Rules, dvr}
-pub use Rattle.dmx_calls.specs.Tenure.{has_ended, is_end}
+pub use Rattle.dmx_calls.specs.Tenure.{is_end}
+unfoldable pub use Rattle.dmx_calls.specs.Tenure.{has_ended, dvr_size, owner, params, pids, setting, size, size_or, tenure}
 pub use Rattle.dmx_calls.specs.declared.log.Entry.{Entry, Entry as CodeEntry}
 pub use Rattle.dmx_calls.specs.declared.node.NodeKind.{NodeKind}
 pub use Rattle.dmx_calls.specs.declared.reply.Errno.{Errno}
@@ -48,7 +51,7 @@ pub use Rattle.script_run.specs.IsRun.{AreAsked, Batch, InTurn, IsEvent, Step, f
 pub use Rattle.script_run.specs.SoFar.{HasDoneSoFar, IsFedSoFar, IsOver, IsPaidBehind, IsSoFar, feeder}
 pub use Rattle.serial_core.specs.Budget.{AreBegun, IsBegun, IsMoment, IsOnTheWay, IsWithinBudget, no_call, one_call}
 pub use Rattle.serial_core.specs.Examples.{DrainedOutcomes, DrainedRun, PlayedOutcomes, PlayedRun, WaitedOutcomes, WaitedRun}
-pub use Rattle.serial_core.specs.Imports.{Act, Again, AreNumbered, Batches, Command, Core, DEMUX_NODES, Draws, End as EndAct, Event, Feed, Frontend, History, Invocation, IsAfter, IsDone, IsInRange, IsLegalFor, IsPacket, IsTooLong, Line, LogEntry, May, OfStream, Open, Pass as PassAct, Passed, Pulling, Pulls, Response, Scripted, SourceEnd, Tick, TooMany, act_of, bytes_written, call_of, clients_in, clients_of, commands_of, cut, entry_of, filled, has_failed, head_of, histories_of, invocation_of, most_calls, next_of_line, outcomes, plays_of, range_with_len, replies, response_of, rules_at, sources, told_entry, told_head, waits_on, woven}
+pub use Rattle.serial_core.specs.Imports.{Act, Again, AreNumbered, Batches, Command, Core, DEMUX_NODES, Draws, End as EndAct, Event, Feed, Frontend, History, Invocation, IsAfter, IsDone, IsInRange, IsLegalFor, IsPacket, IsTooLong, Line, LogEntry, May, OfStream, Open, Passed, Pulling, Pulls, Response, Scripted, SourceEnd, Tick, TooMany, act_of, bytes_written, call_of, clients_in, clients_of, commands_of, cut, entry_of, filled, has_failed, head_of, histories_of, invocation_of, most_calls, next_of_line, outcomes, passing, plays_of, range_with_len, replies, response_of, rules_at, sources, told_entry, told_head, waits_on, woven}
 pub use Rattle.serial_core.specs.Inside.Legal.{AreLegal, from_frontend, packets_through}
 pub use Rattle.serial_core.specs.Inside.Lines.{AllOverrunBy, AreAfter, AreInBudget, ComesByLines, IsFrontBy, IsLineBy, IsWholeBy, OverrunsBy, calls_by}
 pub use Rattle.serial_core.specs.Inside.Moving.{ComesBy, ComesByCalls, HasDrawn, IsAt, IsDoneBy, IsReady, IsSound, MadeAtMost, Moves, one_if}
@@ -57,7 +60,8 @@ pub use Rattle.serial_core.specs.Laws.{HistoriesAreLegal, IsOne, PacketsPass, Tr
 pub use Rattle.serial_core.specs.Left.{AreFreshCores, IsFreshRunner, IsLeftBy, histories_in}
 pub use Rattle.serial_core.specs.Nodes.{Node, Told, answer_by, answered, history_in, history_of, log_in, log_of, uncalled}
 pub use Rattle.serial_core.specs.Runs.{HaveSerialRuns, IsAccountedRun, SerialRunsAreRuns}
-pub use Rattle.serial_core.specs.SerialRun.{AreDone, IsSerialRun, IsWorked, Run, after_waiting, all_passed, and_on, batch_sizes, begun, called, calls, ended, fed, fed_to_all, finished, made, node_at, passed, replies_of, reply_to, through, ticked, tried_command, tried_lines, turned}
+pub use Rattle.serial_core.specs.SerialRun.{AreDone, IsSerialRun, IsWorked, Run, after_waiting, all_passed, and_on, batch_sizes, begun, called, calls, ended, fed_to_all, finished, made, node_at, passed, replies_of, reply_to, through, ticked, tried_command, tried_lines, turned}
+pub use Rattle.serial_core.specs.SerialRun.{fed}
 pub use Rattle.serial_core.specs.declared.node.AnyCore.{AnyCore}
 pub use Rattle.serial_core.specs.declared.node.AnyCore.TheVariants.{Demux, Dvr}
 pub use Rattle.serial_core.specs.declared.nodes.Nodes.{Nodes}

@@ -5,11 +5,9 @@ pub mod FedOn
 pub mod Going
 pub mod Moving
 pub mod Batches
-pub mod Turning
 pub mod Replies
 pub mod Answering
 pub mod Keeping
-pub mod Throughout
 pub mod Logs
 pub mod Sound
 pub mod Making
@@ -20,6 +18,5 @@ pub mod Commanding
 pub mod Lawful
 pub mod Lining
 pub mod Ending
-pub mod Existing
 mod Worked
 pub mod Imports

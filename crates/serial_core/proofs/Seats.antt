@@ -1,8 +1,7 @@
 -- What one call does to a node with its entries.
-use Rattle.serial_core.proofs.Imports.{◌≡◌, refl, sym, ap, subst, ◌∙◌, ℕ, ◌+◌, List, [], ◌∷◌, ◌++◌, length, map, length-append, add-one, arith, map-append, NodeKind, Invocation, Close, SetFilter, SetPes, AddPid, RemovePid, Start, Stop, SetSize, Read, Poll, Pass, End, Attach, Detach, Passed, History, entry_of, Rules, rules_at, Facts, facts, dmx_answer, with_call, Act, LogEntry, act_of, feeder_entry, woven, AreInPlace, in_place-append, woven-call, woven-fed, CodeEntry, told_entry, SerialNode, AnyCore, Demux, Dvr, Node, Told, history_in, history_of, uncalled, answer_by, answered, log_in, log_of, IsFeeding, IsSeat, StandsAt, entries_in}
+use Rattle.serial_core.proofs.Imports.{◌≡◌, refl, sym, ap, subst, ◌∙◌, ℕ, ◌+◌, List, [], ◌∷◌, ◌++◌, length, map, length-append, add-one, arith, map-append, NodeKind, Invocation, Close, SetFilter, SetPes, AddPid, RemovePid, Start, Stop, SetSize, Read, Poll, Pass, End, Attach, Detach, Passed, History, entry_of, Rules, rules_at, Facts, facts, dmx_answer, with_call, Act, LogEntry, act_of, feeder_entry, woven, AreInPlace, in_place-append, woven-call, woven-fed, CodeEntry, told_entry, SerialNode, AnyCore, Demux, Dvr, Node, Told, history_in, history_of, uncalled, answer_by, answered, log_in, log_of, IsFeeding, IsSeat, StandsAt, entries_in, answer}
 use Rattle.dmx_calls.specs.declared.node.NodeKind.TheVariants as kind
 use Rattle.dmx_calls.specs.Invocation.{Open}
-use Rattle.dmx_calls.specs.Answer.{answer}
 use Rattle.serial_core.proofs.Logs.{log_number}
 
 -- ------ the feeder's calls are answered Passed

@@ -1,8 +1,6 @@
 -- Each node's history is legal, finds memory, brings the packets of its callers, and its end or not; and its log tells it.
-use Rattle.serial_core.proofs.Imports.{◌≡◌, ◌≢◌, refl, sym, ap, subst, ◌∙◌, ℕ, ◌≤◌, Bool, true, false, nat_eq, List, [], ◌∷◌, Option, Some, None, length, map, reverse, inl, inr, if◌then◌else◌, slice_get, map-append, reverse-append, Errno, Invocation, Response, NoMemory, Again, TapChange, History, entry_of, has_ended, Rules, rules_at, Ledger, Facts, ReadTerms, read_terms, with_call, response_unless, refusal_to, response_to, response_of_read, expired_of, open_response, done_dropping, IsLegalFor, IsFrom, LogEntry, Sources, act_of, filled, filled_entry, read_each, fills, Told, Node, history_in, history_of, answer_by, answered, log_in, at_end}
+use Rattle.serial_core.proofs.Imports.{◌≡◌, ◌≢◌, refl, sym, ap, subst, ◌∙◌, ℕ, ◌≤◌, Bool, true, false, nat_eq, List, [], ◌∷◌, Option, Some, None, length, map, reverse, inl, inr, if◌then◌else◌, slice_get, map-append, reverse-append, Errno, Invocation, Response, NoMemory, Again, TapChange, History, entry_of, has_ended, Rules, rules_at, Ledger, Facts, ReadTerms, read_terms, with_call, response_unless, refusal_to, response_to, response_of_read, expired_of, open_response, done_dropping, IsLegalFor, IsFrom, LogEntry, Sources, act_of, filled, filled_entry, read_each, fills, Told, Node, history_in, history_of, answer_by, answered, log_in, at_end, facts, answer}
 use Rattle.dmx_calls.specs.Invocation as call
-use Rattle.dmx_calls.specs.Facts.{facts}
-use Rattle.dmx_calls.specs.Answer.{answer}
 use Rattle.serial_core.proofs.Logs.{entries_of, log_number}
 
 -- ------ an answer is never want of memory, and Again says whether the stream has ended

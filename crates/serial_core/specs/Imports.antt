@@ -1,6 +1,6 @@
 -- The words of others that the definitions and clauses of this crate use.
 pub use Rattle.client_core.specs.Commands.{IsRequestInRange, IsRequestOf, call_of, commands_of, plays_of}
-pub use Rattle.client_core.specs.Deeds.{Batches}
+pub use Rattle.client_core.specs.Plays.{Batches}
 pub use Rattle.client_core.specs.Events.{next_of_line, waits_on}
 pub use Rattle.client_core.specs.Inside.Core.{Core, IsAfter}
 pub use Rattle.client_core.specs.Outcomes.{outcomes}
@@ -20,12 +20,12 @@ pub use Rattle.dmx_calls.specs.Histories.{histories_of, pass_act, woven}
 pub use Rattle.dmx_calls.specs.History.{Entry, History, entry_of}
 pub use Rattle.dmx_calls.specs.Invocation.{Invocation}
 pub use Rattle.dmx_calls.specs.Legal.{IsLegalFor, May}
-pub use Rattle.dmx_calls.specs.Log.{Act, LogEntry, act_of, filled}
+pub use Rattle.dmx_calls.specs.Log.{Act, LogEntry, act_of, filled, passing}
 pub use Rattle.dmx_calls.specs.Response.{Again, Data, Done, Passed, Response}
 pub use Rattle.dmx_calls.specs.Rules.{rules_at}
 pub use Rattle.dmx_calls.specs.declared.histories.Fed.{Fed}
 pub use Rattle.dmx_calls.specs.declared.limits.TheConstants.{DEMUX_NODES}
-pub use Rattle.dmx_calls.specs.declared.log.Act.TheVariants.{End, Pass}
+pub use Rattle.dmx_calls.specs.declared.call.Call.TheVariants.{End}
 pub use Rattle.dmx_calls.specs.declared.outcome.Outcome.{Outcome}
 pub use Rattle.dmx_calls.specs.declared.params.Input.TheVariants.{Frontend}
 pub use Rattle.dmx_calls.specs.declared.params.Output.TheVariants.{TsdemuxTap}

@@ -1,6 +1,6 @@
 // The 33 nodes of a run, and the calls of its feeder.
 ghost use Rattle.std.specs.Prelude.{◌≡◌, true, false, ℕ, ◌+◌, ◌-◌, ◌<◌, ◌≤◌, ◌^◌, List, [], ◌∷◌, ◌++◌, length, map, IfOk, OnOk, IsSome};
-ghost use Rattle.serial_core.specs.Imports.{Act as ToldAct, DEMUX_NODES as nodes, End as EndAct, Frontend, IsAfter, IsRequestInRange, IsRequestOf, Pass as PassAct, Response, Scripted, histories_of, range_with_len};
+ghost use Rattle.serial_core.specs.Imports.{Act as ToldAct, DEMUX_NODES as nodes, End as EndAct, Frontend, IsAfter, IsRequestInRange, IsRequestOf, Response, Scripted, histories_of, passing, range_with_len};
 ghost use Rattle.dmx_calls.specs.Invocation as asks;
 ghost use Rattle.serial_core.specs.Nodes.{Node as RunNode, answered, uncalled};
 ghost use Rattle.serial_core.specs.SerialRun.{Run, begun, ended, fed_to_all, made, reply_to};
@@ -49,7 +49,7 @@ fn fresh_seats(alloc: Global) -> Result<Vec<SerialNode>, NoMemory>
 fn pass_all<L: Ledger>(seats: &mut [SerialNode], batch: &Batch, now: u64, steps: &mut Steps<L>)
     requires few { AreUnder seats.old (2 ^ 50 - 1) }
     ensures at { (acts : List ToldAct) (ns : List RunNode) → Pairs (IsSeat acts) seats.old ns
-        → Pairs (IsSeat (acts ++ PassAct Frontend batch.now.first (length batch.now.packets) now ∷ [])) seats.new
+        → Pairs (IsSeat (acts ++ passing Frontend batch.now.first (length batch.now.packets) now ∷ [])) seats.new
         (map (answered 0 (length acts) (asks.Pass Frontend batch.now.first batch.now.packets now)) ns) }
     ensures rises { (most : ℕ) → AreUnder seats.old most → AreUnder seats.new (most + 1) }
 {

@@ -1,13 +1,13 @@
 // A node of a run, with the entries of its clients.
 ghost use Rattle.std.specs.Prelude.{◌≡◌, ℕ, ◌+◌, ◌<◌, ◌^◌, List, [], ◌∷◌, ◌++◌, length, IfOk, OnOk, IsSome};
-ghost use Rattle.serial_core.specs.Imports.{Act as ToldAct, End as EndAct, Frontend, IsAfter, Pass as PassAct, Response, Scripted, entry_of, invocation_of, response_of};
+ghost use Rattle.serial_core.specs.Imports.{Act as ToldAct, End as EndAct, Frontend, IsAfter, Response, Scripted, entry_of, invocation_of, passing, response_of};
 ghost use Rattle.dmx_calls.specs.Invocation as asks;
 ghost use Rattle.serial_core.specs.Nodes.{Node as RunNode, answer_by, answered, history_of};
 ghost use Rattle.serial_core.specs.Inside.Standing.{IsSeat, StandsAt, entries_in};
 
 use crate::node::AnyCore;
 use client_core::{ClientCore, unless_no_memory};
-use dmx_calls::{Act, Call, Entry, KeptAct, Reply, SharedReply};
+use dmx_calls::{Call, Entry, KeptAct, Reply, SharedReply};
 use machine::steps::Steps;
 use std::alloc::{AllocError as NoMemory, Global};
 use std::sync::ledger::Ledger;
@@ -58,7 +58,7 @@ impl SerialNode {
     pub fn pass<L: Ledger>(&mut self, batch: &Batch, now: u64, steps: &mut Steps<L>)
         requires few { entries_in self.old.core < 2 ^ 50 }
         ensures at { (acts : List ToldAct) (n : RunNode) → IsSeat acts self.old n
-            → IsSeat (acts ++ PassAct Frontend batch.now.first (length batch.now.packets) now ∷ []) self.new
+            → IsSeat (acts ++ passing Frontend batch.now.first (length batch.now.packets) now ∷ []) self.new
             (answered 0 (length acts) (asks.Pass Frontend batch.now.first batch.now.packets now) n) }
         ensures node { self.new.node ≡ self.old.node }
         ensures entries { self.new.entries ≡ self.old.entries }
@@ -102,7 +102,7 @@ impl SerialNode {
         ensures rises { entries_in self.new.core ≡ entries_in self.old.core + 1 }
     {
         let place = self.core.entries();
-        let act = Act::of(&call);
+        let act = call.act();
         let reply = self.hear(who, call, steps)?;
         let act = KeptAct::keep(alloc, act)?;
         let kept = SharedReply::of(alloc, self.entries.last(), reply)?;

@@ -4,20 +4,19 @@ pub use Rattle.adapter.proofs.Lists.{at_end, at_place, one_value, set_elsewhere,
 pub use Rattle.adapter.specs.Callers.{AreFreshCallers, IsSameCaller}
 pub use Rattle.adapter.specs.Merging.{AreOnNodes as AreEntriesOnNodes}
 pub use Rattle.adapter.specs.Nodes.{IsLegalAt}
-pub use Rattle.client_core.specs.Commands.{commands_among, commands_in, plays_of}
-pub use Rattle.client_core.specs.Deeds.{Batches, deed_of}
+pub use Rattle.client_core.specs.Commands.{command_of, commands_among, commands_in, plays_of}
+pub use Rattle.client_core.specs.Plays.{Batches, plays_batch}
 pub use Rattle.client_core.specs.Events.{Ended, Progress, next_event, no_slots, progress_from}
+unfoldable pub use Rattle.client_core.specs.Events.{progress}
 pub use Rattle.client_core.specs.Outcomes.{outcome_by, outcome_of, outcomes}
 pub use Rattle.client_core.specs.Stc.{Exchange, exchanges_after, stc, with_reply}
 pub use Rattle.client_core.specs.declared.command.ClientCommand.{ClientCommand}
-pub use Rattle.client_core.specs.declared.deed.Deed.{Deed}
-pub use Rattle.client_core.specs.declared.deed.Deed.TheVariants.{Drain, GetStc, Once, ReadWait, Write}
+pub use Rattle.client_script.specs.declared.line.Verb.TheVariants.{GetStc, Once}
 pub use Rattle.client_core.specs.declared.event.Event.{Event}
 pub use Rattle.client_script.specs.Script.{clients_in, clients_of, plain}
 pub use Rattle.client_script.specs.declared.line.Line.{Line}
 pub use Rattle.client_script.specs.declared.line.Line.TheVariants.{Command as CommandLine}
 pub use Rattle.client_script.specs.declared.line.Target.TheVariants.{Dvr}
-pub use Rattle.client_script.specs.declared.line.Verb.{Verb}
 pub use Rattle.client_script.specs.declared.line.Want.{Want}
 pub use Rattle.dmx_calls.specs.Accounted.{IsAccounted}
 pub use Rattle.dmx_calls.specs.History.{History}
@@ -35,19 +34,18 @@ pub use Rattle.feed_pull.specs.declared.fault.Reading.{Reading}
 pub use Rattle.feed_pull.specs.declared.fault.Reading.TheVariants.{TooMany}
 pub use Rattle.script_run.specs.IsRun.{HasDone, IsEvent, IsRun, replies, sources}
 pub use Rattle.script_run.specs.WholeRun.{IsGiven}
-pub use Rattle.seats.proofs.Numbering.{as_step, numbered_both}
 pub use Rattle.seats.proofs.Played.{answers_idle, answers_played}
 pub use Rattle.seats.specs.Calls.{MakesCalls}
-pub use Rattle.seats.specs.Numbered.{HasKept, numbered}
+pub use Rattle.seats.specs.Kept.{HasKept}
 pub use Rattle.seats.specs.Scripts.{IsPlayed}
-pub use Rattle.seats.specs.Seated.{AreReady}
-pub use Rattle.seats.specs.Served.{HasServed, HaveServed, IsReadyToHand}
+pub use Rattle.seats.specs.Seated.{AreReady, IsReadyToHand}
+pub use Rattle.seats.specs.Served.{HasServed, HaveServed}
 pub use Rattle.seats.specs.Spelled.{DoneCommand}
 pub use Rattle.seats.specs.declared.seat.Seat.{Seat}
 pub use Rattle.serve_top.specs.Imports.{Appends, AreAllCallers, AreOnNodes, Caller, DEMUX_NODES, Desk, Dvr as FromDvr, Fed, FeederWorker, Frontend, Going, HasAnsweredAll, HasFedAll, HasFedToEnd, HasLeft, HaveCalled, IsWholeRun, JournalLine, KeptJournal, LogEntry, NoMemory, Of188, Outcome, PassesNone, Pulls, Scripted, SinkEnd, SourceEnd, Sources, TableId, TellWhatWasCalled, commands_by, commands_of, cut, flat_map, flat_map-append, has_failed, head_of, is_in, report_of, spelled, told_entry, told_head}
 pub use Rattle.serve_top.specs.Inside.Keeping.{AreKeptLines, HasNothing}
 pub use Rattle.serve_top.specs.Inside.Writing.{written_none, written_then}
-pub use Rattle.serve_top.specs.Journaled.{AreServed, IsHandedOver, IsLeftBy, IsNewFeeder}
+pub use Rattle.serve_top.specs.Journaled.{AreServed, IsLeftBy, IsNewFeeder}
 pub use Rattle.serve_top.specs.Lines.{HasWritten, call_line, fed_line}
 pub use Rattle.serve_top.specs.Read.{HasReadTo, HasReadTooOften}
 pub use Rattle.serve_top.specs.Reported.{FindMemory, HasReported, IsRunOf, IsServed, every, fed_by}
@@ -55,14 +53,11 @@ pub use Rattle.serve_top.specs.declared.journals.Handed.{Handed}
 pub use Rattle.serve_top.specs.declared.journals.ReportParts.{ReportParts}
 pub use Rattle.serve_top.specs.declared.rung.Rung.{Rung}
 pub use Rattle.serve_top.specs.declared.server.NoReport.TheVariants.{Failed, TooLong}
-pub use Rattle.serve_top.specs.declared.written.WrittenLines.{WrittenLines}
 pub use Rattle.std.proofs.Common.{Bool, Err, Global, List, None, Option, Result, Some, Vec, [], ap, arith, eq-eqb, false, fold, inl, inr, length, length-append, map, max, nat_lt, ne_eqb, refl, replicate, reverse, rules, set, subst, suc, sym, take, true, zero, ℕ, ⊎_elim, ◌++◌, ◌+◌, ◌<◌, ◌^◌, ◌∙◌, ◌∷◌, ◌≡◌, ◌≢◌, ◌≤◌}
 pub use Rattle.std.proofs.lemmas.Bool.{cases_lt}
 pub use Rattle.std.proofs.lemmas.Bool.Decides.{nat_tests}
-pub use Rattle.std.proofs.lemmas.Iterator.Adapters.{YieldsList-from_vec}
-pub use Rattle.std.proofs.lemmas.Iterator.Consumers.{YieldsList-end}
-pub use Rattle.std.proofs.lemmas.List.{append-nil, append_assoc, get_or-replicate, length-map, length-reverse, length-set, map-append, reverse-append, same_lists}
-pub use Rattle.std.proofs.lemmas.List.Elements.{All-append, All-cons, All-head, All-map, All-nil, All-tail}
+pub use Rattle.std.proofs.lemmas.List.{append-nil, append_assoc, get_or-replicate, length-map, length-reverse, length-set, map-append, reverse-append, same_lists, take_all, take_more}
+pub use Rattle.std.proofs.lemmas.List.Elements.{All-append, All-cons, All-head, All-nil, All-tail}
 pub use Rattle.std.proofs.lemmas.Simd.{map-map}
 pub use Rattle.std.proofs.lemmas.Option.{get_or_from_slice_get, slice_get-get_or, slice_get-map, slice_get_within}
 pub use Rattle.std.specs.Prelude.{All, IsSome, get_or, if◌then◌else◌, option_map, slice_get, slice_index_or}

@@ -1,9 +1,15 @@
 -- What was called for the requests of the lines is a run of the script of their commands.
-use Rattle.serve_top.proofs.Imports.{◌≡◌, ◌≢◌, ℕ, zero, suc, ◌+◌, ◌<◌, ◌≤◌, Bool, true, false, nat_lt, set, List, [], ◌∷◌, length, take, Option, Some, None, refl, ap, sym, ◌∙◌, subst, arith, slice_get, get_or, IsSome, nat_tests, append-nil, length-set, slice_get_within, slice_get-get_or, dite, ℕ_discrete, at_place, one_value, set_there, set_elsewhere, Caller, Fed, Outcome, Input, IsAccounted, History, IsLegalFor, LogEntry, Sources, filled, rules_at, Response, NoMemory, Scripted, plain, clients_in, ClientCommand, Event, commands_of, plays_of, next_event, outcomes, IsRun, IsEvent, HasDone, replies, sources, IsGiven, IsWholeRun, HasFedAll, HasWorked, AreWorked, BringFrom, HasLogged, HaveCalled, IsPlayed, every, fed_by, FindMemory, IsRunOf}
+use Rattle.serve_top.proofs.Imports.{◌≡◌, ◌≢◌, ℕ, zero, suc, ◌+◌, ◌<◌, ◌≤◌, Bool, true, false, nat_lt, set, List, [], ◌∷◌, length, take, Option, Some, None, refl, ap, sym, ◌∙◌, subst, arith, slice_get, get_or, IsSome, nat_tests, append-nil, length-set, slice_get_within, slice_get-get_or, dite, ℕ_discrete, at_place, one_value, set_there, set_elsewhere, Caller, Fed, Outcome, Input, IsAccounted, History, IsLegalFor, LogEntry, Sources, filled, rules_at, Response, NoMemory, Scripted, plain, clients_in, ClientCommand, Event, commands_of, plays_of, next_event, outcomes, IsRun, IsEvent, HasDone, replies, sources, IsGiven, IsWholeRun, HasFedAll, HasWorked, AreWorked, BringFrom, HasLogged, HaveCalled, IsPlayed, every, fed_by, FindMemory, IsRunOf, Frontend, FromDvr, Line}
 use Rattle.dmx_calls.proofs.Filled.{same_filled}
 use Rattle.std.proofs.Common.{All}
-use Rattle.serve_top.proofs.Filled.{same_sources}
 use Rattle.serve_top.proofs.Scripting.{AreCalls, lines_of, lines_at, clients_low, behind_none, question, asked_last, asked_others, asked_own, asked_clients, next_same, outcomes_same, none_next, question_next, Parted, parted_at}
+
+-- ------ The histories of a script that writes nothing are filled with the same packets, whatever its lines are
+
+pub same_sources : (xs ys : List Line) (stream : List (List ℕ)) (who : ℕ) (input : Input) → sources (plain xs) stream who input ≡ sources (plain ys) stream who input
+same_sources xs ys stream who Frontend = refl
+same_sources xs ys stream zero FromDvr = refl
+same_sources xs ys stream (suc client) FromDvr = refl
 
 -- a fact of each member
 pub every_member : {A : Type 0} (P : A → Type 0) (xs : List A) → ((i : ℕ) (x : A) → slice_get xs i ≡ Some x → P x) → All P xs

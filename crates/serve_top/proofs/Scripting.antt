@@ -1,45 +1,34 @@
 -- A script of which each client has given commands.
-use Rattle.serve_top.proofs.Imports.{◌≡◌, ◌≢◌, ℕ, zero, suc, ◌+◌, ◌<◌, ◌≤◌, eq-eqb, ne_eqb, List, [], ◌∷◌, ◌++◌, length, map, take, replicate, fold, max, Option, Some, None, refl, ap, sym, ◌∙◌, subst, arith, slice_get, option_map, if◌then◌else◌, append-nil, flat_map-append, dite, ℕ_discrete, Outcome, Response, Scripted, plain, clients_of, clients_in, Line, CommandLine, Dvr, Verb, Want, ClientCommand, Deed, Once, ReadWait, Drain, GetStc, Write, Event, Batches, deed_of, commands_in, commands_among, commands_of, plays_of, Ended, Progress, progress_from, no_slots, next_event, outcome_by, outcome_of, outcomes, Exchange, with_reply, exchanges_after, stc, DoneCommand, commands_by}
-use Rattle.client_script.specs.declared.line.Verb.TheVariants as verb
-use Rattle.client_core.specs.Events.{progress}
+use Rattle.serve_top.proofs.Imports.{command_of, plays_batch, false, ◌≡◌, ◌≢◌, ℕ, zero, suc, ◌+◌, ◌<◌, ◌≤◌, eq-eqb, ne_eqb, List, [], ◌∷◌, ◌++◌, length, map, take, replicate, fold, max, Option, Some, None, refl, ap, sym, ◌∙◌, subst, arith, slice_get, option_map, if◌then◌else◌, append-nil, flat_map-append, dite, ℕ_discrete, Outcome, Response, Scripted, plain, clients_of, clients_in, Line, CommandLine, Dvr, Want, ClientCommand, Once, GetStc, Event, Batches, commands_in, commands_among, commands_of, plays_of, Ended, Progress, progress_from, no_slots, next_event, outcome_by, outcome_of, outcomes, Exchange, with_reply, exchanges_after, stc, DoneCommand, commands_by, progress}
 
 -- ------ the lines of one client
 
 -- each of these commands is one call
 abbrev pub AreCalls : List ClientCommand → Type 0
 AreCalls [] = Unit {0}
-AreCalls (c ∷ cs) = ((want : Want) × (c.deed ≡ Once want)) × AreCalls cs
+AreCalls (c ∷ cs) = ((want : Want) × (c.verb ≡ Once want) × (c.has_batch ≡ false)) × AreCalls cs
 
 -- those that a line spells are
 pub spelled_calls : (count : ℕ) (ds : List DoneCommand) → AreCalls (commands_by count ds)
 spelled_calls count [] = tt
-spelled_calls count (d ∷ ds) = ((d.want, refl), spelled_calls (count + 1) ds)
-
--- the verb by which a script asks for it
-abbrev pub verb_of : Deed → Verb
-verb_of (Once want) = verb.Once want
-verb_of (ReadWait count) = verb.ReadWait count
-verb_of (Drain count) = verb.Drain count
-verb_of (GetStc num) = verb.GetStc num
-verb_of (Write write has_batch) = verb.Write write
-
-call_verb : (batches : Batches) (deed : Deed) (want : Want) → deed ≡ Once want → deed_of batches (verb_of deed) ≡ deed
-call_verb batches deed want is = subst (λ (d : Deed). deed_of batches (verb_of d) ≡ d) (sym is) refl
+spelled_calls count (d ∷ ds) = ((d.want, refl, refl), spelled_calls (count + 1) ds)
 
 abbrev pub line_of : (client : ℕ) → ClientCommand → Line
-line_of client c = CommandLine c.line client c.target (verb_of c.deed)
-
-abbrev with_deed : ClientCommand → Deed → ClientCommand
-with_deed c deed = record { line = c.line; target = c.target; deed = deed }
+line_of client c = CommandLine c.line client c.target c.verb
 
 -- the command that its line has
 abbrev read : Batches → ClientCommand → ClientCommand
-read batches c = with_deed c (deed_of batches (verb_of c.deed))
+read batches c = command_of batches c.line c.target c.verb
+
+-- it is that of one call
+read_again : (batches : Batches) (c : ClientCommand) (want : Want) → c.verb ≡ Once want → c.has_batch ≡ false → read batches c ≡ c
+read_again batches c want is none =
+    ap (λ b. record { line = c.line; target = c.target; verb = c.verb; has_batch = b }) (ap (plays_batch batches) is ∙ sym none)
 
 pub own_lines : (client : ℕ) (batches : Batches) (cs : List ClientCommand) → AreCalls cs → commands_among client batches (map (line_of client) cs) ≡ cs
 own_lines client batches [] are = refl
 own_lines client batches (c ∷ cs) are =
-    let same : read batches c ≡ c = ap (λ (d : Deed). with_deed c d) (call_verb batches c.deed are.0.0 are.0.1) in
+    let same : read batches c ≡ c = read_again batches c are.0.0 are.0.1 are.0.2 in
     ap (λ b. (if b then read batches c ∷ [] else []) ++ commands_among client batches (map (line_of client) cs)) (eq-eqb client client refl)
     ∙ (ap (λ (x : ClientCommand). x ∷ commands_among client batches (map (line_of client) cs)) same
     ∙ ap (λ (l : List ClientCommand). c ∷ l) (own_lines client batches cs are.1))
@@ -128,27 +117,27 @@ behind_none f (suc n) k low most = dite (ℕ_discrete n k)
 
 -- with a question of the last client, which is no call
 abbrev pub asked_last : (last : ℕ) → List Line → Scripted
-asked_last last lines = plain (lines ++ CommandLine 1 last Dvr (verb.GetStc 0) ∷ [])
+asked_last last lines = plain (lines ++ CommandLine 1 last Dvr (GetStc 0) ∷ [])
 
 abbrev pub question : ClientCommand
-question = record { line = 1; target = Dvr; deed = GetStc 0 }
+question = record { line = 1; target = Dvr; verb = GetStc 0; has_batch = false }
 
 -- what is played is the same in each script that writes nothing
 pub asked_others : (last k : ℕ) (lines : List Line) → last ≢ k → commands_of k (asked_last last lines) ≡ commands_of k (plain lines)
 asked_others last k lines not =
     let batches : Batches = plays_of k (plain lines) in
-    among_both k batches lines (CommandLine 1 last Dvr (verb.GetStc 0) ∷ [])
+    among_both k batches lines (CommandLine 1 last Dvr (GetStc 0) ∷ [])
     ∙ (ap (λ b. commands_among k batches lines ++ ((if b then question ∷ [] else []) ++ [])) (ne_eqb last k not) ∙ append-nil (commands_among k batches lines))
 
 pub asked_own : (last : ℕ) (lines : List Line) → commands_of last (plain lines) ≡ [] → commands_of last (asked_last last lines) ≡ question ∷ []
 asked_own last lines none =
     let batches : Batches = plays_of last (plain lines) in
-    among_both last batches lines (CommandLine 1 last Dvr (verb.GetStc 0) ∷ [])
+    among_both last batches lines (CommandLine 1 last Dvr (GetStc 0) ∷ [])
     ∙ (ap (λ b. commands_among last batches lines ++ ((if b then question ∷ [] else []) ++ [])) (eq-eqb last last refl) ∙ ap (λ (l : List ClientCommand). l ++ question ∷ []) none)
 
 pub asked_clients : (last : ℕ) (lines : List Line) → clients_in (plain lines) ≤ last → clients_in (asked_last last lines) ≡ last + 1
 asked_clients last lines low =
-    most_both 0 lines (CommandLine 1 last Dvr (verb.GetStc 0) ∷ []) ∙ is where
+    most_both 0 lines (CommandLine 1 last Dvr (GetStc 0) ∷ []) ∙ is where
       is : max (clients_in (plain lines)) (last + 1) ≡ last + 1
       is = omega (arith, low)
 

@@ -1,5 +1,5 @@
 -- How the stream was read.
-use Rattle.serve_top.proofs.Imports.{◌≡◌, ◌≢◌, inl, inr, ℕ, ◌+◌, ◌≤◌, ◌<◌, ◌^◌, List, [], ◌++◌, length, refl, sym, ap, ◌∙◌, arith, cases_lt, SourceEnd, Reading, Going, TooMany, Pulling, Pulls, has_failed, Follows, Draws, HasReadTo, HasReadTooOften}
+use Rattle.serve_top.proofs.Imports.{◌≡◌, ◌≢◌, inl, inr, ℕ, ◌+◌, ◌≤◌, ◌^◌, List, [], ◌++◌, refl, arith, cases_lt, SourceEnd, Reading, Going, TooMany, Pulling, Pulls, has_failed, Follows, Draws, HasReadTo, HasReadTooOften}
 use Rattle.feed_pull.specs.declared.fault.Reading.TheVariants.{Ended, Failed}
 
 -- reading that has stopped, and not since too many reads were made

@@ -1,9 +1,8 @@
 // Who is told of what happens, beside what is kept of it.
-ghost use Rattle.std.specs.Prelude.{◌≡◌, [], ◌∷◌, ◌++◌};
 
 use dmx_calls::limits::NODES;
 use dmx_calls::{Entry, Fed, Outcome};
-use seats::{Before, Forgotten, Journal, Made};
+use seats::{Forgotten, Journal, Made};
 use std::alloc::AllocError as NoMemory;
 use std::sync::Arc;
 use ts_batch::Batch;
@@ -54,13 +53,8 @@ impl<E: Ears + Drop, J: Journal + Drop> Journal for Rung<E, J> {
         self.kept.hear(calls)
     }
 
-    fn take(
-        &mut self,
-        before: Before,
-        calls: Vec<Entry>,
-        told: &[Outcome],
-    ) -> Result<(), Vec<Entry>> {
-        self.kept.take(before, calls, told)
+    fn take(&mut self, calls: Vec<Entry>, told: &[Outcome]) -> Result<(), Vec<Entry>> {
+        self.kept.take(calls, told)
     }
 
     fn last(&self) -> Option<&Entry> {

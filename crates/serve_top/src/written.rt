@@ -8,7 +8,7 @@ use dmx_calls::limits::NODES;
 use dmx_calls::{Entry, Fed, Outcome};
 use emu_io::Sink;
 use report_text::{add_end, add_entry, add_head, write_all};
-use seats::{Before, Journal, Made};
+use seats::{Journal, Made};
 use std::alloc::{AllocError as NoMemory, Global};
 use text_forms::{write_decimal, write_node};
 use ts_batch::Batch;
@@ -88,16 +88,9 @@ impl<K: Sink + Drop> Journal for WrittenLines<K> {
 
     fn hear(&mut self, _calls: &[Made]) {}
 
-    fn take(
-        &mut self,
-        before: Before,
-        calls: Vec<Entry>,
-        _told: &[Outcome],
-    ) -> Result<(), Vec<Entry>> {
-        let mut step = before.calls;
-        'calls: for call in calls {
-            self.put(&Entry { step, ..call });
-            step += 1;
+    fn take(&mut self, calls: Vec<Entry>, _told: &[Outcome]) -> Result<(), Vec<Entry>> {
+        'calls: for call in &calls {
+            self.put(call);
         }
         Ok(())
     }

@@ -9,8 +9,7 @@ pub use Rattle.lemmas.proofs.Lists.{has_left, has_right}
 pub use Rattle.lemmas.specs.Lists.{Has}
 pub use Rattle.node_lock.specs.Passes.{AreFresh, IsFresh, IsSamePass}
 pub use Rattle.node_lock.specs.declared.view.View.{View}
-pub use Rattle.seats.specs.Seated.{AreReady}
-pub use Rattle.seats.specs.Served.{IsReadyToHand}
+pub use Rattle.seats.specs.Seated.{AreReady, IsReadyToHand}
 pub use Rattle.seats.specs.declared.run.Desk.{Desk}
 pub use Rattle.std.proofs.Common.{Err, Global, IfOk, List, Ok, Result, Some, Vec, [], ap, arith, codes, inl, inr, length, length-append, map, refl, rules, slice_get, subst, sym, ℕ, ⊎_elim, ◌++◌, ◌+◌, ◌<◌, ◌^◌, ◌∙◌, ◌∷◌, ◌≡◌, ◌≢◌, ◌⊎◌}
 pub use Rattle.std.proofs.lemmas.List.Elements.{All-pop}

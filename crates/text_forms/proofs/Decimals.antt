@@ -1,6 +1,5 @@
 -- A number that is written in decimal digits is read again.
-use Rattle.text_forms.proofs.Imports.{◌≡◌, ◌<◌, ◌≤◌, ◌^◌, refl, ℕ, zero, suc, [], ◌∷◌, true, false, length, get_or, Some, arith, nat_tests, IsNumeralModel, FoldsDigits, numerals_by_fold, tells_all_ascii_digits, digits_decimal, digits_value-decimal, decimal_nonempty, first_decimal, decimal_digit, decimal, all_ascii_digits, has_leading_zero, is_number, value_of, number_between}
-use Rattle.text_forms.specs.Numbers.{value_after}
+use Rattle.text_forms.proofs.Imports.{◌≡◌, ◌<◌, ◌≤◌, ◌^◌, refl, ℕ, zero, suc, [], ◌∷◌, true, false, length, get_or, Some, arith, nat_tests, IsNumeralModel, FoldsDigits, numerals_by_fold, tells_all_ascii_digits, digits_decimal, digits_value-decimal, decimal_nonempty, first_decimal, decimal_digit, decimal, all_ascii_digits, has_leading_zero, is_number, value_of, number_between, value_after}
 
 folds : FoldsDigits value_after
 unfolding value_after

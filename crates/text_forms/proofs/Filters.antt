@@ -1,6 +1,5 @@
 -- What stays a filter of sixteen places of bytes.
-use Rattle.text_forms.proofs.Imports.{refl, ◌∙◌, ◌<◌, replicate, arith, length-set, All-replicate, All-set, All, SectionFilter, Place, HasBytes, IsFilter}
-use Rattle.filter_match.specs.Places.{with_place}
+use Rattle.text_forms.proofs.Imports.{refl, ◌∙◌, ◌<◌, replicate, arith, length-set, All-replicate, All-set, All, SectionFilter, Place, HasBytes, IsFilter, with_place}
 
 -- a filter with one more place is a filter
 pub with_place-IsFilter : (f : SectionFilter) (place : Place) → IsFilter f → HasBytes place → IsFilter (with_place f place)

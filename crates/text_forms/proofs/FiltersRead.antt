@@ -1,8 +1,6 @@
 -- A filter that is written is read again.
-use Rattle.text_forms.proofs.Imports.{◌≡◌, ◌<◌, ◌≤◌, ◌+◌, refl, ap, ◌∙◌, ℕ, zero, suc, List, [], ◌∷◌, ◌++◌, Bool, true, false, length, take, map, fold, replicate, get_or, Some, codes, arith, append_assoc, append-nil, set, set-append_seam, nat_tests, length-map, take_all, take_more, length-take-le, All-get_or, All-nil, All-push, All-map, All-filter, length-filter_both, not, All, filter, flat_map, SectionFilter, Place, place_at, filter_with, HasBytes, is_zero, place_text, place_named, filter_place_text, filter_text, filter_places, filter_words, IsFilter}
-use Rattle.filter_match.specs.Places.{with_place}
+use Rattle.text_forms.proofs.Imports.{◌≡◌, ◌<◌, ◌≤◌, ◌+◌, refl, ap, ◌∙◌, ℕ, zero, suc, List, [], ◌∷◌, ◌++◌, Bool, true, false, length, take, map, fold, replicate, get_or, Some, codes, arith, append_assoc, append-nil, set, set-append_seam, nat_tests, length-map, take_all, take_more, length-take-le, All-get_or, All-nil, All-push, All-map, All-filter, length-filter_both, not, All, filter, flat_map, SectionFilter, Place, place_at, filter_with, HasBytes, is_zero, place_text, place_named, filter_place_text, filter_text, filter_places, filter_words, IsFilter, with_place, places_named}
 use Rattle.filter_match.specs.Match.{numbers_below}
-use Rattle.text_forms.specs.Places.{places_named}
 use Rattle.text_forms.proofs.PlacesRead.{place_named-place_text}
 
 -- so many numbers from i on

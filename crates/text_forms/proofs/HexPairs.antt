@@ -1,6 +1,5 @@
 -- A byte that is written in two digits is read again.
-use Rattle.text_forms.proofs.Imports.{◌≡◌, ◌<◌, ◌+◌, ◌*◌, ◌/◌, ◌%◌, ap, ℕ, Some, arith, nat_tests, digit_text}
-use Rattle.text_forms.specs.Hex.{hex_digit, hex_byte}
+use Rattle.text_forms.proofs.Imports.{◌≡◌, ◌<◌, ◌+◌, ◌*◌, ◌/◌, ◌%◌, ap, ℕ, Some, arith, nat_tests, digit_text, hex_digit, hex_byte}
 
 pub hex_digit-digit_text : (value : ℕ) → value < 16 → hex_digit (digit_text value) ≡ Some value
 unfolding hex_digit

@@ -1,6 +1,5 @@
 -- Words of hexadecimal digits, pair by pair, and that bytes in such digits are read again.
-use Rattle.text_forms.proofs.Imports.{◌≡◌, ◌≢◌, ◌<◌, ◌≤◌, ◌+◌, ◌-◌, ◌/◌, ◌%◌, refl, ap, sym, ◌∙◌, ℕ, zero, suc, List, [], ◌∷◌, ◌++◌, length, take, drop, get_or, Bool, true, false, Option, Some, None, arith, append_assoc, append-nil, length-append, nat_tests, All-head, All-tail, take_all, ◌==◌, All, option_map, hex_byte, digit_text, hex_text}
-use Rattle.text_forms.specs.Hex.{hex_bytes}
+use Rattle.text_forms.proofs.Imports.{◌≡◌, ◌≢◌, ◌<◌, ◌≤◌, ◌+◌, ◌-◌, refl, ap, sym, ◌∙◌, ℕ, zero, suc, List, [], ◌∷◌, ◌++◌, length, take, drop, get_or, Bool, true, false, Option, Some, None, arith, append_assoc, append-nil, length-append, nat_tests, All-head, All-tail, take_all, ◌==◌, All, option_map, hex_byte, hex_text, hex_bytes}
 use Rattle.text_forms.proofs.HexPairs.{hex_byte-byte_text}
 
 pub pair_some : (high low byte left : ℕ) (rest : List ℕ) → hex_byte high low ≡ Some byte → hex_bytes (suc left) (high ∷ low ∷ rest) ≡ option_map (λ bytes. byte ∷ bytes) (hex_bytes left rest)
@@ -67,9 +66,6 @@ one_read most all done now digits behind byte is few pair longer =
     let room : most - length done ≡ suc (most - length now) = omega (arith, few, long) in
     is ∙ ap (λ n. option_map (λ more. done ++ more) (hex_bytes n digits)) room ∙ ap (λ o. option_map (λ more. done ++ more) o) (pair (most - length now))
     ∙ two_maps done byte (hex_bytes (most - length now) behind) ∙ ap (λ d. option_map (λ more. d ++ more) (hex_bytes (most - length now) behind)) (sym longer)
-
-pub none_read : (most : ℕ) (all : Option (List ℕ)) (done digits : List ℕ) → IsReading most all done digits → ((left : ℕ) → hex_bytes left digits ≡ None) → all ≡ None
-none_read most all done digits is none = is ∙ ap (λ o. option_map (λ more. done ++ more) o) (none (most - length done))
 
 -- what the tests of a full row and of an empty slice say
 full : (n most : ℕ) (b : Bool) → b ≡ (n == most) → b ≡ true → n ≡ most

@@ -13,9 +13,16 @@ pub use Rattle.std.proofs.lemmas.List.Filters.{length-filter_both}
 pub use Rattle.std.proofs.lemmas.Str.Parse.{FoldsDigits, IsNumeralModel, numerals_by_fold, tells_all_ascii_digits}
 pub use Rattle.std.specs.Char.{is_ascii_digit}
 pub use Rattle.std.specs.Prelude.{nat_lt, not, ◌&&◌, ◌==◌}
-pub use Rattle.text_forms.specs.Hex.{byte_text, digit_text, hex_byte, hex_bytes, hex_text}
+pub use Rattle.text_forms.specs.Hex.{byte_text, digit_text, hex_text}
+unfoldable pub use Rattle.text_forms.specs.Hex.{hex_byte, hex_bytes, hex_digit}
 pub use Rattle.text_forms.specs.Imports.{All, Input, Output, Place, SectionFilter, all_ascii_digits, decimal, filter, filter_with, flat_map, list_all, numbers_below, option_map, place_at}
 pub use Rattle.text_forms.specs.Names.{client_named, client_text, demux_named, demux_text, slot_named, slot_text}
-pub use Rattle.text_forms.specs.Numbers.{has_leading_zero, is_number, number_between, value_after, value_of}
-pub use Rattle.text_forms.specs.Places.{HasBytes, IsFilter, filter_place_text, filter_places, filter_text, filter_words, is_zero, place_named, place_text}
+unfoldable pub use Rattle.text_forms.specs.Names.{node_named, node_text, numbered, who_named, who_text}
+pub use Rattle.text_forms.specs.Numbers.{has_leading_zero, is_number, number_between, value_of}
+unfoldable pub use Rattle.text_forms.specs.Numbers.{value_after}
+pub use Rattle.text_forms.specs.Places.{HasBytes, IsFilter, filter_place_text, filter_places, filter_text, filter_words, is_zero, place_text}
+unfoldable pub use Rattle.text_forms.specs.Places.{place_named, place_with, places_named}
 pub use Rattle.text_forms.specs.Words.{is_word}
+unfoldable pub use Rattle.text_forms.specs.Words.{input_named, output_named}
+unfoldable pub use Rattle.dmx_calls.specs.Names.{input_text, output_text}
+unfoldable pub use Rattle.filter_match.specs.Places.{with_place}

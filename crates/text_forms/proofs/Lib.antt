@@ -1,4 +1,3 @@
-pub mod Below
 pub mod Decimals
 pub mod Filters
 pub mod FiltersRead
@@ -6,7 +5,6 @@ pub mod HexPairs
 pub mod HexWords
 pub mod NamesRead
 pub mod PlacesRead
-pub mod Values
 pub mod Visible
 pub mod WordsRead
 pub mod Short

@@ -1,6 +1,5 @@
 -- Names that are written are read again.
-use Rattle.text_forms.proofs.Imports.{◌≡◌, ◌<◌, ◌≤◌, ◌+◌, ◌-◌, refl, ap, ℕ, List, [], ◌∷◌, Bool, true, false, Some, codes, arith, nat_tests, ◌==◌, ◌&&◌, all_ascii_digits, is_ascii_digit, decimal, number_between, is_word, client_text, client_named, demux_text, demux_named, slot_text, slot_named}
-use Rattle.text_forms.specs.Names.{numbered, who_text, who_named, node_text, node_named}
+use Rattle.text_forms.proofs.Imports.{◌≡◌, ◌<◌, ◌≤◌, ◌+◌, ◌-◌, refl, ap, ℕ, List, [], ◌∷◌, Bool, true, false, Some, codes, arith, nat_tests, ◌==◌, ◌&&◌, all_ascii_digits, is_ascii_digit, decimal, number_between, is_word, client_text, client_named, demux_text, demux_named, slot_text, slot_named, numbered, who_text, who_named, node_text, node_named}
 use Rattle.text_forms.proofs.Decimals.{decimal-digits, number_between-decimal}
 
 pub client_named-client_text : (client : ℕ) → client ≤ 7 → client_named (client_text client) ≡ Some client

@@ -1,6 +1,5 @@
 -- The places of a filter that are written are read again.
-use Rattle.text_forms.proofs.Imports.{◌≡◌, ◌≤◌, ◌-◌, ◌/◌, ◌%◌, refl, ℕ, List, ◌++◌, length, take, drop, Some, codes, arith, length-append, take-append_seam, drop-append_seam, decimal, Place, hex_byte, digit_text, byte_text, number_between, HasBytes, place_text}
-use Rattle.text_forms.specs.Places.{place_with, place_named}
+use Rattle.text_forms.proofs.Imports.{◌≡◌, ◌≤◌, ◌-◌, ◌/◌, ◌%◌, refl, ℕ, List, ◌++◌, length, take, drop, Some, codes, arith, length-append, take-append_seam, drop-append_seam, decimal, Place, hex_byte, digit_text, byte_text, number_between, HasBytes, place_text, place_with, place_named}
 use Rattle.text_forms.proofs.Decimals.{number_between-decimal}
 use Rattle.text_forms.proofs.HexPairs.{hex_byte-byte_text}
 

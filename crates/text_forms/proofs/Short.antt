@@ -1,6 +1,5 @@
 -- The words of inputs and outputs are short.
-use Rattle.text_forms.proofs.Imports.{◌≤◌, length, arith, Input, Frontend, Dvr, Output, Decoder, Tap, TsTap, TsdemuxTap}
-use Rattle.dmx_calls.specs.Names.{input_text, output_text}
+use Rattle.text_forms.proofs.Imports.{◌≤◌, length, arith, Input, Frontend, Dvr, Output, Decoder, Tap, TsTap, TsdemuxTap, input_text, output_text}
 
 pub short_input : (input : Input) → length (input_text input) ≤ 20
 unfolding input_text

@@ -1,8 +1,7 @@
 -- The bytes of words stand behind the space in ASCII: they are no spaces and no line feeds.
-use Rattle.text_forms.proofs.Imports.{◌≡◌, ◌<◌, ◌^◌, ◌/◌, ◌%◌, refl, ℕ, List, [], ◌∷◌, ◌++◌, Bool, true, codes, arith, nat_tests, All-nil, All-cons, All-append, All, list_all, ◌&&◌, nat_lt, all_ascii_digits, decimal, is_ascii_digit, Input, Output, Place, digit_text, byte_text, hex_text, place_text}
+use Rattle.text_forms.proofs.Imports.{◌≡◌, ◌<◌, ◌^◌, ◌/◌, ◌%◌, refl, ℕ, List, [], ◌∷◌, ◌++◌, Bool, true, codes, arith, nat_tests, All-nil, All-cons, All-append, All, list_all, ◌&&◌, nat_lt, all_ascii_digits, decimal, is_ascii_digit, Input, Output, Place, digit_text, byte_text, hex_text, place_text, input_text, output_text}
 use Rattle.dmx_calls.specs.declared.params.Input.TheVariants as input
 use Rattle.dmx_calls.specs.declared.params.Output.TheVariants as output
-use Rattle.dmx_calls.specs.Names.{input_text, output_text}
 use Rattle.text_forms.proofs.Decimals.{decimal-digits}
 
 -- a byte behind the space, which is byte 32

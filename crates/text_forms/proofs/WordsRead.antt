@@ -1,9 +1,7 @@
 -- The words of inputs and outputs are read again, and have no space.
-use Rattle.text_forms.proofs.Imports.{◌≡◌, refl, Some, Input, Output}
+use Rattle.text_forms.proofs.Imports.{◌≡◌, refl, Some, Input, Output, input_text, output_text, input_named, output_named}
 use Rattle.dmx_calls.specs.declared.params.Input.TheVariants as input
 use Rattle.dmx_calls.specs.declared.params.Output.TheVariants as output
-use Rattle.dmx_calls.specs.Names.{input_text, output_text}
-use Rattle.text_forms.specs.Words.{input_named, output_named}
 
 pub input_named-input_text : (i : Input) → input_named (input_text i) ≡ Some i
 unfolding input_named input_text

@@ -14,7 +14,8 @@ pub use Rattle.std.proofs.lemmas.Option.{slice_get_within, unwrap_or-slice_get}
 pub use Rattle.std.specs.List.{list_any}
 pub use Rattle.std.specs.Prelude.{All, Some, slice_get, unwrap_or}
 pub use Rattle.ts_batch.specs.Inside.IsIndex.{IsIndex, IsRun, has_run}
-pub use Rattle.ts_batch.specs.Places.{is_in, names, places_from, places_of}
+pub use Rattle.ts_batch.specs.Places.{is_in, names, places_of}
+unfoldable pub use Rattle.ts_batch.specs.Places.{places_from}
 pub use Rattle.ts_batch.specs.declared.index.Index.{Index}
 pub use Rattle.ts_batch.specs.declared.index.Run.{Run}
 pub use Rattle.ts_packet.specs.Fields.{pid_of}

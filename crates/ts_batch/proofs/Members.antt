@@ -1,6 +1,5 @@
 -- A place is listed just where its packet is named.
-use Rattle.ts_batch.proofs.Imports.{◌≡◌, ℕ, zero, suc, ◌+◌, ◌<◌, Bool, true, false, nat_eq, List, [], ◌∷◌, length, get_or, replicate, refl, sym, ap, ◌∙◌, arith, list_any, nat_tests}
-use Rattle.ts_batch.specs.Places.{places_from}
+use Rattle.ts_batch.proofs.Imports.{◌≡◌, ℕ, zero, suc, ◌+◌, ◌<◌, Bool, true, false, nat_eq, List, [], ◌∷◌, length, get_or, replicate, refl, sym, ap, ◌∙◌, arith, list_any, nat_tests, places_from}
 
 module _ (test : List ℕ → Bool) where
   pub places-below : (k : ℕ) (packets : List (List ℕ)) (n d : ℕ) → n < length (places_from k test packets) → get_or (places_from k test packets) n d < k + length packets

@@ -1,6 +1,5 @@
 -- Places, packet by packet.
-use Rattle.ts_batch.proofs.Imports.{◌≡◌, ℕ, zero, suc, ◌+◌, ◌-◌, ◌<◌, ◌≤◌, Bool, true, false, ◌||◌, nat_eq, List, [], ◌∷◌, ◌++◌, length, get_or, take, drop, slice_range, refl, sym, ap, ◌∙◌, arith, append_assoc, append-nil, inl, inr, All, drop_more, drop_all, take_all, take-append-le, drop-append-le, length-append, length-drop, drop-append_seam, list_any-append, All-append, nat_tests, cases_eq, or-true, or-false, pid_of, ALL_PACKETS, Run, Index, names, places_of, has_run, IsRun, IsIndex}
-use Rattle.ts_batch.specs.Places.{places_from}
+use Rattle.ts_batch.proofs.Imports.{◌≡◌, ℕ, zero, suc, ◌+◌, ◌-◌, ◌<◌, ◌≤◌, Bool, true, false, ◌||◌, nat_eq, List, [], ◌∷◌, ◌++◌, length, get_or, take, drop, slice_range, refl, sym, ap, ◌∙◌, arith, append_assoc, append-nil, inl, inr, All, drop_more, drop_all, take_all, take-append-le, drop-append-le, length-append, length-drop, drop-append_seam, list_any-append, All-append, nat_tests, cases_eq, or-true, or-false, pid_of, ALL_PACKETS, Run, Index, names, places_of, has_run, IsRun, IsIndex, places_from}
 
 module _ (test : List ℕ → Bool) (items : List ℕ) (packets : List (List ℕ)) (i : ℕ) (d : List ℕ) (within : i < length packets) where
   -- a packet that passes

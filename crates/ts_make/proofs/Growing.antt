@@ -6,7 +6,7 @@ use Rattle.rand_pcg.specs.Pcg.{pcg32, multiplier_64}
 use Rattle.ts_make.specs.declared.kind.Kind.{Kind}
 use Rattle.ts_make.specs.declared.kind.Kind.TheVariants.{Association, Video, Audio, Service, Null}
 use Rattle.ts_make.specs.Made.{kind_of, pid_of, generator, word, packets_of, packets, packet, packet_at, payload}
-use Rattle.ts_make.specs.Inside.Counting.{AreSmall, counter_in, risen, counters_of, all_zero}
+use Rattle.ts_make.specs.Inside.Counting.{counter_in, risen, counters_of, all_zero}
 
 pub generator-next : (number n : ℕ) → generator number (n + 1) ≡ (pcg32 (generator number n)).1
 unfolding generator
@@ -53,9 +53,6 @@ counters-next number n Video e = rw (counted number 0 n Video e, counted number 
 counters-next number n Audio e = rw (counted number 0 n Audio e, counted number 256 n Audio e, counted number 257 n Audio e, counted number 512 n Audio e, counted number 8191 n Audio e, mod-next (packets_of number 257 n)) refl
 counters-next number n Service e = rw (counted number 0 n Service e, counted number 256 n Service e, counted number 257 n Service e, counted number 512 n Service e, counted number 8191 n Service e, mod-next (packets_of number 512 n)) refl
 counters-next number n Null e = rw (counted number 0 n Null e, counted number 256 n Null e, counted number 257 n Null e, counted number 512 n Null e, counted number 8191 n Null e, mod-next (packets_of number 8191 n)) refl
-
-pub are-small : (number n : ℕ) → AreSmall (counters_of number n)
-are-small number n = record { association = omega arith; video = omega arith; audio = omega arith; service = omega arith; null = omega arith }
 
 -- the generator before its first word
 pub generator-none : (number : ℕ) → started 64 multiplier_64 number 109 ≡ generator number 0

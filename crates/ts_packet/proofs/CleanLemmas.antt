@@ -1,6 +1,5 @@
 -- The laws of clean packets.
-use Rattle.ts_packet.proofs.Imports.{if◌then◌else◌, ◌≡◌, ℕ, Bool, true, false, List, [], ◌∷◌, ◌++◌, Option, Some, None, refl, ap, ◌∙◌, arith, eqb, last_or, pointwise, bytes_decides, second_so, counter_of, carried, repeats}
-use Rattle.ts_packet.specs.Clean.{without_repeats_after}
+use Rattle.ts_packet.proofs.Imports.{if◌then◌else◌, ◌≡◌, ℕ, Bool, true, false, List, [], ◌∷◌, ◌++◌, Option, Some, None, refl, ap, ◌∙◌, arith, eqb, last_or, pointwise, bytes_decides, second_so, counter_of, carried, repeats, without_repeats_after}
 
 -- the parts of a repeat
 pub repeats-counter : (p q : List ℕ) → repeats p q ≡ true → counter_of p ≡ counter_of q

@@ -12,7 +12,9 @@ pub use Rattle.std.specs.Int.{bit_at}
 pub use Rattle.std.specs.List.{flat_map, last_or}
 pub use Rattle.std.specs.Prelude.{if◌then◌else◌}
 pub use Rattle.ts_packet.specs.Clean.{carried, repeats}
-pub use Rattle.ts_packet.specs.Cut.{Cut, cut, in_bytes, join, only_rest, packet_before, skip_before}
+unfoldable pub use Rattle.ts_packet.specs.Clean.{without_repeats_after}
+pub use Rattle.ts_packet.specs.Cut.{Cut, join, only_rest, packet_before, skip_before}
+unfoldable pub use Rattle.ts_packet.specs.Cut.{cut, in_bytes, cut_after}
 pub use Rattle.ts_packet.specs.Cutting.{Cuts, Cutting, IsRest, bytes_counted, fresh}
 pub use Rattle.ts_packet.specs.Fields.{IsPacket, counter_of}
 pub use Rattle.ts_packet.specs.Pieces.{IsCutOf, IsMadeOf, IsPiece, Piece, bytes_of, packet, skipped}

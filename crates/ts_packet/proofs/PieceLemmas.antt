@@ -1,6 +1,5 @@
 -- A stream is made of its packets and skipped bytes, then a rest, in one way.
-use Rattle.ts_packet.proofs.Imports.{◌≡◌, ◌≢◌, ℕ, zero, suc, ◌+◌, ◌-◌, ◌≤◌, List, [], ◌∷◌, ◌++◌, length, take, drop, get_or, refl, sym, ap, inl, inr, ◌∙◌, arith, length-append, append_assoc, take-append_seam, take-add, All-nil, All-cons, All-head, All-tail, flat_map, append_cancel_left, take-append-drop, length-take-le, length-drop, cases_eq, cases_lt, in_bytes, IsRest, IsPacket, Piece, packet, skipped, IsPiece, bytes_of, IsMadeOf, IsCutOf, PacketSize}
-use Rattle.ts_packet.specs.Cut.{cut_after}
+use Rattle.ts_packet.proofs.Imports.{◌≡◌, ◌≢◌, ℕ, zero, suc, ◌+◌, ◌-◌, ◌≤◌, List, [], ◌∷◌, ◌++◌, length, take, drop, get_or, refl, sym, ap, inl, inr, ◌∙◌, arith, length-append, append_assoc, take-append_seam, take-add, All-nil, All-cons, All-head, All-tail, flat_map, append_cancel_left, take-append-drop, length-take-le, length-drop, cases_eq, cases_lt, in_bytes, IsRest, IsPacket, Piece, packet, skipped, IsPiece, bytes_of, IsMadeOf, IsCutOf, PacketSize, cut_after}
 use Rattle.ts_packet.proofs.CutLemmas.{at_least, cut_after-skip, cut_after-packet, cut_after-rest}
 
 -- the pieces of what stands behind the first n bytes

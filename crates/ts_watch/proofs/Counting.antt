@@ -1,8 +1,5 @@
 -- How the counts of a list of packets change with one packet behind it.
-use Rattle.ts_watch.proofs.Imports.{if◌then◌else◌, ◌≡◌, ℕ, ◌+◌, ◌-◌, ◌≤◌, ◌==◌, Bool, true, false, List, [], ◌∷◌, ◌++◌, length, Option, Some, None, refl, sym, ◌∙◌, arith, length-append, append-nil, filter-append, filter, last_or, pid_of, error_bit, has_payload, is_usable, repeats, joins, is_of, is_error_of, clean-append, last-clean, AreAlike, Seen, kept_of}
-use Rattle.ts_packet.specs.Clean.{without_repeats_after, clean}
-use Rattle.ts_packet.specs.Counts.{breaks_after, counts}
-use Rattle.ts_watch.specs.Watching.{after}
+use Rattle.ts_watch.proofs.Imports.{if◌then◌else◌, ◌≡◌, ℕ, ◌+◌, ◌-◌, ◌≤◌, ◌==◌, Bool, true, false, List, [], ◌∷◌, ◌++◌, length, Option, Some, None, refl, sym, ◌∙◌, arith, length-append, append-nil, filter-append, filter, last_or, pid_of, error_bit, has_payload, is_usable, repeats, joins, is_of, is_error_of, clean-append, last-clean, AreAlike, Seen, kept_of, without_repeats_after, clean, breaks_after, counts, after}
 
 -- one packet behind a list
 filter-yes : (f : List ℕ → Bool) (ps : List (List ℕ)) (p : List ℕ) → f p ≡ true → filter f (ps ++ p ∷ []) ≡ filter f ps ++ p ∷ []

@@ -1,6 +1,5 @@
 -- Laws of heads.
-use Rattle.ts_watch.proofs.Imports.{if◌then◌else◌, nat_lt, ◌≡◌, ℕ, ◌+◌, ◌<◌, ◌≤◌, Bool, true, false, List, [], ◌∷◌, ◌++◌, refl, arith, suc, add-one, nat_tests, Cut, cut, IsTally, counts, Tally, PacketSize, Head, told_head, tally_of, row_of}
-use Rattle.ts_watch.specs.Head.{rows_below, head_of}
+use Rattle.ts_watch.proofs.Imports.{if◌then◌else◌, nat_lt, ◌≡◌, ℕ, ◌+◌, ◌<◌, ◌≤◌, Bool, true, false, List, [], ◌∷◌, ◌++◌, refl, arith, suc, add-one, nat_tests, Cut, cut, IsTally, counts, Tally, PacketSize, Head, told_head, tally_of, row_of, rows_below, head_of}
 
 rows-by : (n : ℕ) (packets : List (List ℕ)) (b : Bool) → nat_lt 0 (counts packets n).packets ≡ b → rows_below (suc n) packets ≡ (if b then rows_below n packets ++ (n, row_of packets n) ∷ [] else rows_below n packets)
 unfolding rows_below

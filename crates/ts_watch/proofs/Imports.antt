@@ -10,13 +10,17 @@ pub use Rattle.std.specs.List.{filter, last_or, sum_by}
 pub use Rattle.std.specs.Prelude.{if◌then◌else◌, nat_lt}
 pub use Rattle.ts_packet.proofs.CleanLemmas.{AreAlike, clean-append, last-clean}
 pub use Rattle.ts_packet.specs.Clean.{is_usable, joins, repeats}
-pub use Rattle.ts_packet.specs.Counts.{counts, is_error_of, is_of}
+unfoldable pub use Rattle.ts_packet.specs.Clean.{clean, without_repeats_after}
+pub use Rattle.ts_packet.specs.Counts.{is_error_of, is_of}
+unfoldable pub use Rattle.ts_packet.specs.Counts.{counts, breaks_after}
 pub use Rattle.ts_packet.specs.Cut.{Cut, cut}
 pub use Rattle.ts_packet.specs.Cutting.{IsTally}
 pub use Rattle.ts_packet.specs.Fields.{error_bit, has_payload, pid_of}
 pub use Rattle.ts_packet.specs.declared.cutter.Tally.{Tally}
 pub use Rattle.ts_packet.specs.declared.size.PacketSize.{PacketSize}
-pub use Rattle.ts_watch.specs.Head.{rows_below, tally_of, told_head}
-pub use Rattle.ts_watch.specs.Watching.{IsSeen, IsWatching, Watched, Watching, after, kept, kept_of, nothing, row_of, taken}
+pub use Rattle.ts_watch.specs.Head.{tally_of, told_head}
+unfoldable pub use Rattle.ts_watch.specs.Head.{rows_below, head_of}
+pub use Rattle.ts_watch.specs.Watching.{IsSeen, IsWatching, Watched, Watching, kept, kept_of, nothing, row_of, taken}
+unfoldable pub use Rattle.ts_watch.specs.Watching.{after}
 pub use Rattle.ts_watch.specs.declared.head.Head.{Head}
 pub use Rattle.ts_watch.specs.declared.seen.Seen.{Seen}

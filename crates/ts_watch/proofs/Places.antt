@@ -1,7 +1,5 @@
 -- The table of places.
-use Rattle.ts_watch.proofs.Imports.{◌≡◌, ◌≢◌, ℕ, ◌+◌, ◌*◌, ◌<◌, ◌≤◌, ◌==◌, inl, inr, Bool, true, false, List, [], ◌∷◌, ◌++◌, length, replicate, get_or, set, Option, Some, None, refl, sym, ap, ◌∙◌, arith, length-append, length-set, get_or-set_same, get_or-set_other, get_or_append_left, get_or_push, get_or_default, get_or-replicate, get_or_past, length-replicate, All-set, All-push, All-nil, sum_by-set, sum_by-cons, sum_by-replicate, cases_eq, cases_lt, eqb_tells, sum_by, pid_of, Seen, Watching, IsWatching, IsSeen, Watched, nothing, kept, kept_of, after, taken}
-use Rattle.ts_packet.specs.Clean.{clean, without_repeats_after}
-use Rattle.ts_packet.specs.Counts.{counts, breaks_after}
+use Rattle.ts_watch.proofs.Imports.{◌≡◌, ◌≢◌, ℕ, ◌+◌, ◌*◌, ◌<◌, ◌≤◌, ◌==◌, inl, inr, Bool, true, false, List, [], ◌∷◌, ◌++◌, length, replicate, get_or, set, Option, Some, None, refl, sym, ap, ◌∙◌, arith, length-append, length-set, get_or-set_same, get_or-set_other, get_or_append_left, get_or_push, get_or_default, get_or-replicate, get_or_past, length-replicate, All-set, All-push, All-nil, sum_by-set, sum_by-cons, sum_by-replicate, cases_eq, cases_lt, eqb_tells, sum_by, pid_of, Seen, Watching, IsWatching, IsSeen, Watched, nothing, kept, kept_of, after, taken, clean, without_repeats_after, counts, breaks_after}
 use Rattle.ts_watch.proofs.Counting.{kept-own, kept-other}
 
 sum-le : (xs : List (Option ℕ)) → sum_by taken xs ≤ length xs

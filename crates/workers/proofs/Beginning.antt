@@ -1,5 +1,5 @@
 -- The workers before the first call.
-use Rattle.workers.proofs.Imports.{◌≡◌, ◌≢◌, inr, ℕ, Bool, true, false, ◌+◌, ◌≤◌, ◌^◌, List, [], ◌∷◌, ◌++◌, length, map, Some, refl, ap, sym, ◌∙◌, subst, arith, option_map, All, IsTrue, if◌then◌else◌, SourceEnd, slice_get-map, slice_get_within, All-nil, TableId, View, Entry, told_entry, LogEntry, Fed, ToldEntry, Scripted, MOST_CALLS, IsAfter, replies, IsGiven, Caller, IsFreshCaller, AreFreshCallers, AreAllCallers, Fits, at_place, at_before, at_last, AreOnNodes, ClientWorker, FeederWorker, IsLogged, HasCalled, IsFit, IsWorking, AreFreshWorkers, AreFullBatches, HasFed, HasMade, IsFitFeeder, HasPassed, draws_none}
+use Rattle.workers.proofs.Imports.{◌≡◌, ◌≢◌, inr, ℕ, Bool, true, false, ◌+◌, ◌≤◌, ◌^◌, List, [], ◌∷◌, ◌++◌, length, map, Some, refl, ap, sym, ◌∙◌, subst, arith, option_map, IsTrue, if◌then◌else◌, SourceEnd, slice_get-map, slice_get_within, All-nil, TableId, View, Entry, told_entry, LogEntry, Fed, ToldEntry, Scripted, MOST_CALLS, IsAfter, replies, IsGiven, Caller, IsFreshCaller, AreFreshCallers, AreAllCallers, Fits, at_place, at_before, at_last, AreOnNodes, ClientWorker, FeederWorker, IsLogged, HasCalled, IsFit, IsWorking, AreFreshWorkers, HasFed, HasMade, IsFitFeeder, HasPassed, draws_none}
 use Rattle.std.specs.Prelude.{slice_get}
 use Rattle.dmx_calls.specs.Response.{NoMemory}
 

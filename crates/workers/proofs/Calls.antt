@@ -1,7 +1,6 @@
 -- The merged entries of a node are those of the logs on it, at places that rise.
-use Rattle.workers.proofs.Imports.{◌≡◌, ◌≢◌, inl, inr, ⊎_elim, ℕ, zero, suc, true, false, cond, nat_eq, eq-eqb, ne_eqb, ◌<◌, List, [], ◌∷◌, map, filter, get_or, slice_get, Some, refl, ap, sym, ◌∙◌, subst, arith, AllByRecursion, IsPermutation, IsNonDecreasingBy, map-append, filter-append, All-permutation, IsPermutation-map, IsPermutation-sym, IsDistinct-cons, IsDistinct-IsPermutation, get_or_from_slice_get, slice_get_within, slice_get-get_or, dite, ℕ_discrete, Has, has_at, has_either, has_left, has_right, Once, once_append, ToldEntry, told_entry, is_on, all_of, entries_on, nat_eq_turned, Ascends, ascends, nat_tests, at_has, has_filter, of_filter}
+use Rattle.workers.proofs.Imports.{◌≡◌, ◌≢◌, inl, inr, ⊎_elim, ℕ, zero, suc, true, false, cond, nat_eq, eq-eqb, ne_eqb, ◌<◌, List, [], ◌∷◌, map, filter, get_or, slice_get, Some, refl, ap, sym, ◌∙◌, subst, arith, AllByRecursion, IsPermutation, IsNonDecreasingBy, map-append, filter-append, All-permutation, IsPermutation-map, IsPermutation-sym, IsDistinct-cons, IsDistinct-IsPermutation, get_or_from_slice_get, slice_get_within, slice_get-get_or, dite, ℕ_discrete, Has, has_at, has_either, has_left, has_right, Once, once_append, ToldEntry, told_entry, is_on, all_of, entries_on, nat_eq_turned, Ascends, ascends, nat_tests, at_has, has_filter, of_filter, IsDistinct}
 use Rattle.std.proofs.Common.{All}
-use Rattle.std.specs.List.{IsDistinct}
 use Rattle.workers.proofs.Weaves.{Rises}
 
 -- ------ members

@@ -7,16 +7,14 @@ pub use Rattle.adapter.specs.Inside.Placing.{entries_on}
 pub use Rattle.adapter.specs.Merging.{AreByPlace, all_of, is_on}
 pub use Rattle.adapter.specs.Nodes.{MakesEachEntry, fed}
 pub use Rattle.adapter.specs.Rows.{OneCalls, OneLooks, OneMore, all_calls}
-pub use Rattle.client_core.proofs.GoesOn.{progress_of}
-pub use Rattle.client_core.proofs.Steps.{along, by_steps, if_next}
-pub use Rattle.client_core.specs.Commands.{Doing, Slots, commands_among, commands_in, commands_of, done, ends_drain, ends_wait, pass_of, plays_of, stands, through}
-pub use Rattle.client_core.specs.Deeds.{deed_of}
-pub use Rattle.client_core.specs.Events.{Progress, Standing, no_slots, progress, progress_from, slots_after}
-pub use Rattle.client_core.specs.Inside.Core.{behind, coming}
-pub use Rattle.client_core.specs.Steps.{after, doing, event_of, first_on, telling}
+pub use Rattle.client_core.proofs.Steps.{along, if_next}
+pub use Rattle.client_core.specs.Commands.{command_of, Doing, Slots, commands_among, commands_in, commands_of, ends_drain, ends_wait, pass_of, plays_of, stands, through}
+pub use Rattle.client_core.specs.Events.{Progress, Standing, no_slots, progress_from, slots_after}
+unfoldable pub use Rattle.client_core.specs.Events.{progress}
+pub use Rattle.client_core.specs.Inside.Core.{ahead, behind, coming}
+pub use Rattle.client_core.specs.Steps.{after, doing, done, event_of, first_on, telling}
 pub use Rattle.client_core.specs.declared.command.ClientCommand.{ClientCommand}
-pub use Rattle.client_core.specs.declared.deed.Deed.{Deed}
-pub use Rattle.client_core.specs.declared.deed.Deed.TheVariants.{Drain, GetStc, ReadWait, Write}
+pub use Rattle.client_script.specs.declared.line.Verb.TheVariants.{Drain, GetStc, ReadWait, Write}
 pub use Rattle.client_core.specs.declared.event.ClientRequest.{ClientRequest}
 pub use Rattle.client_core.specs.declared.task.Ending.{Ending}
 pub use Rattle.client_core.specs.declared.task.Ending.TheVariants.{Made}
@@ -27,7 +25,7 @@ pub use Rattle.client_core.specs.declared.task.Task.TheVariants.{Call, OpenFrom,
 pub use Rattle.client_script.specs.declared.line.Line.TheVariants.{Feed, Tick}
 pub use Rattle.dmx_calls.proofs.Telling.{fills}
 pub use Rattle.dmx_calls.proofs.Weaving.{in_place-at, woven_nodes-at, woven_nodes-length}
-pub use Rattle.dmx_calls.specs.Entries.{caller_of}
+pub use Rattle.dmx_calls.specs.Entries.{caller_of, told}
 pub use Rattle.dmx_calls.specs.Histories.{AreInPlace, before_entry, feeder_entries, histories_of, pass_act, woven, woven_from}
 pub use Rattle.dmx_calls.specs.History.{History}
 pub use Rattle.dmx_calls.specs.Invocation.{End, Invocation}
@@ -35,7 +33,7 @@ pub use Rattle.dmx_calls.specs.Legal.{IsLegalFor, May}
 pub use Rattle.dmx_calls.specs.Log.{filled, filled_act}
 pub use Rattle.dmx_calls.specs.Response.{Done, Ready, TapChange}
 pub use Rattle.dmx_calls.specs.Rules.{Rules, rules_at}
-pub use Rattle.dmx_calls.specs.declared.log.Act.TheVariants.{End as EndAct}
+pub use Rattle.dmx_calls.specs.declared.call.Call.TheVariants.{End as EndAct}
 pub use Rattle.dmx_calls.specs.declared.log.Entry.{Entry as ToldEntry}
 pub use Rattle.dmx_calls.specs.declared.reply.Tap.TheVariants.{Attach as AttachTap, Detach as DetachTap, Keep as KeepTap}
 pub use Rattle.feed_pull.proofs.CutPackets.{are_packets}
@@ -73,6 +71,7 @@ pub use Rattle.std.proofs.lemmas.Option.{get_or_from_slice_get, slice_get-get_or
 pub use Rattle.std.proofs.lemmas.Result.{IfOk-weaker}
 pub use Rattle.std.proofs.lemmas.Simd.{map-map}
 pub use Rattle.std.specs.List.{AllByRecursion}
+unfoldable pub use Rattle.std.specs.List.{IsDistinct}
 pub use Rattle.std.specs.List.Sorted.{IsNonDecreasingBy, IsPermutation}
 pub use Rattle.std.specs.Option.{option_to_list}
 pub use Rattle.std.specs.Prelude.{All, IsOk, IsSome, IsTrue, if◌then◌else◌, option_map, slice_index, slice_index_or}

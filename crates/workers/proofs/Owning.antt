@@ -1,9 +1,14 @@
 -- Each entry of a node's history is in a client's log, or is the feeder's; so the logs and the batches tell the history.
-use Rattle.workers.proofs.Imports.{◌≡◌, ◌≢◌, ◌⊎◌, inl, inr, ⊎_elim, ℕ, suc, Bool, true, false, eq-eqb, ne_eqb, ◌+◌, List, [], ◌∷◌, ◌++◌, length, filter, slice_get, Option, Some, None, refl, ap, sym, ◌∙◌, subst, arith, if◌then◌else◌, slice_get_within, dite, some, some-injective, get_elem?, IsPrefix, ℕ_discrete, TableId, View, Has, prefix_at, Fed, Act, Entry, entry_of, Frontend, IsFrom, LogEntry, Sources, filled_act, filled_entry, fills, column, Caller, IsHistory, rows_of, at_place, at_either, at_last, at_before, one_value, Tells, calls_on, AreInOrder, HasMade, fed_entries, HasLogged, HaveCalled, IsLoggedIn, in_column, of_column}
+use Rattle.workers.proofs.Imports.{◌≡◌, ◌≢◌, ◌⊎◌, inl, inr, ⊎_elim, ℕ, suc, Bool, true, false, eq-eqb, ne_eqb, ◌+◌, List, [], ◌∷◌, ◌++◌, length, filter, slice_get, Option, Some, None, refl, ap, sym, ◌∙◌, subst, arith, if◌then◌else◌, slice_get_within, dite, some, some-injective, get_elem?, IsPrefix, ℕ_discrete, TableId, View, Has, prefix_at, Fed, Act, Entry, entry_of, Frontend, IsFrom, LogEntry, Sources, filled_act, filled_entry, fills, column, Caller, IsHistory, rows_of, at_place, at_either, at_last, at_before, one_value, Tells, calls_on, AreInOrder, HasMade, fed_entries, HasLogged, HaveCalled, IsLoggedIn, in_column, of_column, has_either, all_calls}
 use Rattle.workers.proofs.Weaves.{AreTold, fed_of, by_feeder}
-use Rattle.workers.proofs.Columns.{some_calls}
 use Rattle.workers.proofs.Feeders.{got, got_back, ups_from, picked, stand_picks, has_own, fed_is, fed_zero, acts_of, behind_of}
 use Rattle.workers.proofs.Completing.{whole, whole_made}
+
+-- ------ The passes of one node, those of all callers, and their calls
+-- a call of these passes is one of some pass
+pub some_calls : (ps : List (TableId × View Entry)) (w : ℕ × ℕ) → Has (all_calls ps) w → (j : ℕ) × (p : TableId × View Entry) × (slice_get ps j ≡ Some p) × Has p.1.own w
+some_calls [] w has = absurd has
+some_calls (p ∷ ps) w has = ⊎_elim (λ h. let r = some_calls ps w h in (suc r.0, r.1, r.2, r.3)) (λ h. (0, p, refl, h)) (has_either (all_calls ps) p.1.own w has)
 
 -- an entry of a client, filled with the packets that its caller brings, is the one that it tells
 fills_entry : (packets : Sources) (e : LogEntry) (x : Entry) → Tells e x → IsFrom (packets e.who) x.invocation → filled_entry packets e ≡ x

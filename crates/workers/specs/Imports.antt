@@ -6,7 +6,7 @@ pub use Rattle.adapter.specs.Nodes.{IsLegalAt, ended, is_in}
 pub use Rattle.adapter.specs.Rows.{Fits, column}
 pub use Rattle.atomic_table.specs.Seated.{TableId}
 pub use Rattle.client_core.specs.Commands.{IsRequestInRange, IsRequestOf, call_of}
-pub use Rattle.client_core.specs.Deeds.{Batches}
+pub use Rattle.client_core.specs.Plays.{Batches}
 pub use Rattle.client_core.specs.Events.{next_event, waits_on}
 pub use Rattle.client_core.specs.Inside.Core.{Core, IsAfter, next_of}
 pub use Rattle.client_core.specs.Outcomes.{outcomes}

@@ -7,7 +7,7 @@ ghost use Rattle.workers.specs.Inside.Working.{IsFit, MayWork, IsWorking, MayCal
 use crate::moment::moment_of;
 use adapter::{Adapter, Client};
 use client_core::{ClientCore, Event, MOST_CALLS, Stop, call_of, unless_no_memory};
-use dmx_calls::{Act, Answer, Entry, KeptAct, SharedReply};
+use dmx_calls::{Answer, Entry, KeptAct, SharedReply};
 use emu_io::{Clock, Gate};
 use machine::steps::Steps;
 use std::alloc::{AllocError as NoMemory, Global};
@@ -79,7 +79,7 @@ impl ClientWorker {
         self.log.reserve(1)?;
         let Event { step, node, want } = event;
         let call = call_of(alloc, &self.core, &want, now)?;
-        let asked = Act::of(&call);
+        let asked = call.act();
         let act = KeptAct::keep(alloc, asked)?;
         let (place, answer) = self.client.call(rt, adapter, node, call, steps);
         let kept = kept_of(alloc, self.log.last(), answer)?;

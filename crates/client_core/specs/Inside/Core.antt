@@ -1,7 +1,7 @@
 -- What a client core keeps, and the replies after which it stands.
 use Rattle.std.specs.Prelude.{ℕ, false, ◌≡◌, ◌≤◌, ◌*◌, ◌⊎◌, List, [], ◌∷◌, ◌++◌, length, map, Option, Some, None, option_map, All, IfSome, IfNone}
-use Rattle.client_core.specs.Imports.{Again, Command as CommandLine, HasVerb, IsTargetInRange, Line, Outcome, Response, Scripted}
-use Rattle.client_core.specs.Deeds.{Batches, IsDeedInRange, IsDeedOf}
+use Rattle.client_core.specs.Imports.{Again, Command as CommandLine, HasVerb, IsTargetInRange, IsVerbInRange, Line, Outcome, Response, Scripted}
+use Rattle.client_core.specs.Plays.{Batches, PlaysOf}
 use Rattle.client_core.specs.declared.command.ClientCommand.{ClientCommand}
 use Rattle.client_core.specs.declared.event.Event.{Event}
 use Rattle.client_core.specs.declared.current.Current.{Current}
@@ -16,13 +16,12 @@ use Rattle.client_core.specs.Inside.Tasks.{IsTaskInRange, IsTaskOf, IsCallEnding
 
 -- a command that is begun, and the commands behind it
 abbrev pub ahead : (line from : ℕ) → Slots → List ClientCommand → Doing → Progress
-ahead line from slots cs (stands event) = record {
-  ended = [];
-  standing = Some (record { line = line; from = from; event = event });
-}
-ahead line from slots cs (through ending next left) =
-    with_ended (record { line = line; from = from; to = next; ending = ending })
-    (progress_from (slots_after ending slots) next cs left)
+ahead line from slots cs d = elim d [
+  | stands event ↦ record { ended = []; standing = Some (record { line = line; from = from; event = event }) }
+  | through ending next left ↦
+      with_ended (record { line = line; from = from; to = next; ending = ending })
+      (progress_from (slots_after ending slots) next cs left)
+]
 
 abbrev pub coming_from : Option Current → (step : ℕ) → Slots → List ClientCommand → List Response → Progress
 coming_from None step slots cs replies = progress_from slots step cs replies
@@ -49,11 +48,11 @@ abbrev pub coming : Core → List Response → Progress
 coming c replies = coming_from c.current c.step c.slots c.left replies
 
 abbrev pub IsCommandInRange : ClientCommand → Type 0
-IsCommandInRange c = IsTargetInRange c.target × IsDeedInRange c.deed
+IsCommandInRange c = IsTargetInRange c.target × IsVerbInRange c.verb
 
 -- where it asks for a counter, so many kept clocks are enough
 abbrev pub CanBegin : (kept : ℕ) → ClientCommand → Type 0
-CanBegin kept c = CanAsk kept c.deed
+CanBegin kept c = CanAsk kept c.verb
 
 -- a line's command of this client names one of so many writes, if it names one
 abbrev pub IsMade : (client count : ℕ) → Line → Type 0
@@ -62,7 +61,7 @@ IsMade client count _ = Unit {0}
 
 -- where it is to pass a batch, this is among these
 abbrev pub IsCommandOf : Batches → ClientCommand → Type 0
-IsCommandOf batches c = IsDeedOf batches c.deed
+IsCommandOf batches c = PlaysOf batches c.verb c.has_batch
 
 abbrev pub one_if_some : {A : Type 0} → Option A → ℕ
 one_if_some None = 0

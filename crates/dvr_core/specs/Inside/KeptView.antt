@@ -1,29 +1,14 @@
 -- What the dvr node knows, from what it keeps.
-use Rattle.std.specs.Prelude.{ℕ, ◌≡◌, ◌≤◌, Bool, true, List, [], Option, Some, None}
-use Rattle.dvr_core.specs.Imports.{CoherentIn, DVR_SIZE, Dvr, Empty, Facts, Invocation, OrNoMemory, Passed, Response, Tap, owner_refusal, response_to, total_of}
+use Rattle.std.specs.Prelude.{ℕ, ◌≡◌, ◌≤◌, Bool, true, List, Option, Some, None}
+use Rattle.dvr_core.specs.Imports.{CoherentIn, DVR_SIZE, Dvr, Facts, Invocation, OrNoMemory, Passed, Response, Tap, owner_refusal, response_to, total_of}
 use Rattle.dvr_core.specs.declared.kept.KeptByDvr.{KeptByDvr}
 use Rattle.dvr_core.specs.declared.tenure.DvrTenure.{DvrTenure}
-use Rattle.dvr_core.specs.Inside.Step.{Knows, moved, next}
+use Rattle.dvr_core.specs.Inside.Step.{Knows, moved, next, unfiltered}
 
--- a free node has the default size; no node has a filter
+-- a free node has the default size
 abbrev pub facts_in : (has_ended : Bool) → Option DvrTenure → Facts
-facts_in has_ended None = record {
-  has_ended = has_ended;
-  owner = None;
-  size = DVR_SIZE;
-  params = Empty;
-  pids = [];
-  ledger = None;
-}
-facts_in has_ended (Some tenure) =
-    record {
-      has_ended = has_ended;
-      owner = Some tenure.owner;
-      size = tenure.buffer.size;
-      params = Empty;
-      pids = [];
-      ledger = tenure.buffer.ledger;
-    }
+facts_in has_ended None = unfiltered has_ended None DVR_SIZE None
+facts_in has_ended (Some tenure) = unfiltered has_ended (Some tenure.owner) tenure.buffer.size tenure.buffer.ledger
 
 abbrev pub knows_in : (has_ended : Bool) → List (Option Tap) → Option DvrTenure → Knows
 knows_in has_ended taps tenure = record { facts = facts_in has_ended tenure; taps = taps }

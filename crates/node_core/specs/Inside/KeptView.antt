@@ -1,17 +1,13 @@
 -- What a node knows, from what it keeps.
-use Rattle.std.specs.Prelude.{ℕ, ◌≡◌, ◌≤◌, ◌+◌, Bool, true, false, [], Option, Some, None, if◌then◌else◌}
-use Rattle.node_core.specs.Imports.{Attach as AttachTap, DEMUX_SIZE, Demux, Detach as DetachTap, Empty, Invocation, Keep as KeepTap, OrNoMemory, Passed, Response, TapChange, bytes_held, is_recording, owner_refusal, params_of, pids_of, response_to, total_of}
+use Rattle.std.specs.Prelude.{ℕ, ◌≡◌, ◌≤◌, ◌+◌, Bool, true, false, Option, Some, None, if◌then◌else◌}
+use Rattle.node_core.specs.Imports.{Attach as AttachTap, Demux, Detach as DetachTap, Invocation, Keep as KeepTap, OrNoMemory, Passed, Response, TapChange, bytes_held, is_recording, owner_refusal, params_of, pids_of, response_to, total_of}
 use Rattle.node_core.specs.declared.kept.Kept.{Kept}
 use Rattle.node_core.specs.declared.tenure.Tenure.{Tenure}
-use Rattle.node_core.specs.Inside.Step.{Knows, unset, moved, next}
+use Rattle.node_core.specs.Inside.Step.{Knows, bare, moved, next}
 use Rattle.node_core.specs.Inside.Sound.{IsSound}
 
--- a free node has the default size, no filter, and nothing to select
 abbrev pub knows_in : (has_ended : Bool) → Option Tenure → Knows
-knows_in has_ended None = record {
-  facts = record { has_ended = has_ended; owner = None; size = DEMUX_SIZE; params = Empty; pids = []; ledger = None };
-  selecting = unset;
-}
+knows_in has_ended None = bare has_ended None
 knows_in has_ended (Some tenure) = record {
   facts = record {
     has_ended = has_ended;

@@ -13,6 +13,13 @@ pub record Knows : Type 0 where
 abbrev pub unset : Selecting
 unset = begun_selecting Nothing
 
+-- a node that was just opened by this owner, or a free one: it has the default size, no filter, and nothing to select
+abbrev pub bare : (has_ended : Bool) → (owner : Option ℕ) → Knows
+bare has_ended owner = record {
+  facts = record { has_ended = has_ended; owner = owner; size = DEMUX_SIZE; params = Empty; pids = []; ledger = None };
+  selecting = unset;
+}
+
 -- the packets of a pass are offered: the filter runs, and they come from its input
 abbrev pub is_taking : Params → Input → Ledger → Bool
 is_taking set input l =
@@ -36,28 +43,8 @@ with_filter f set names flags now =
 
 -- an accepted call with this response
 abbrev pub moved : Knows → (who : ℕ) → Invocation → Response → Knows
-moved k who Open r = record {
-  facts = record {
-    has_ended = k.facts.has_ended;
-    owner = Some who;
-    size = DEMUX_SIZE;
-    params = Empty;
-    pids = [];
-    ledger = None;
-  };
-  selecting = unset;
-}
-moved k who Close r = record {
-  facts = record {
-    has_ended = k.facts.has_ended;
-    owner = None;
-    size = DEMUX_SIZE;
-    params = Empty;
-    pids = [];
-    ledger = None;
-  };
-  selecting = unset;
-}
+moved k who Open r = bare k.facts.has_ended (Some who)
+moved k who Close r = bare k.facts.has_ended None
 moved k who (SetFilter p now) r = record {
   facts = with_filter k.facts (Section p) (p.pid ∷ []) p.flags now;
   selecting = begun_selecting (choice_of (Section p));

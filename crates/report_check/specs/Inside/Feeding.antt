@@ -8,9 +8,9 @@ step_of e = record { step = e.step; act = e.act }
 
 -- Before this call of the feeder so many packets have passed: how many have behind it, where it passes the next 1 to 64.
 abbrev pub passed_behind : (packets first : ℕ) → Act → Option ℕ
-passed_behind packets first (PassAct Frontend from count now) =
-    if nat_eq from first && (nat_lt 0 count && (nat_le count 64 && nat_le (first + count) packets))
-    then Some (first + count) else None
+passed_behind packets first (PassAct Frontend batch now) =
+    if nat_eq batch.first first && (nat_lt 0 batch.count && (nat_le batch.count 64 && nat_le (first + batch.count) packets))
+    then Some (first + batch.count) else None
 passed_behind packets first _ = None
 
 abbrev pub is_end : Act → Bool

@@ -21,8 +21,8 @@ count_for packets counts who FromDvr = slice_index_or counts who 0
 -- whether a caller's call can be made again: a read is no longer than a read may be, and a pass has 1 to 64 of so many packets
 abbrev pub is_callable : (packets : ℕ) → (counts : List ℕ) → (who : ℕ) → Act → Bool
 is_callable packets counts who (ReadAct now count) = nat_le count LARGEST_READ
-is_callable packets counts who (PassAct input first count now) =
-    nat_lt 0 count && (nat_le count 64 && nat_le (first + count) (count_for packets counts who input))
+is_callable packets counts who (PassAct input batch now) =
+    nat_lt 0 batch.count && (nat_le batch.count 64 && nat_le (batch.first + batch.count) (count_for packets counts who input))
 is_callable packets counts who _ = true
 
 -- whether the entry is one of the feeder or of so many clients, and can be made again

@@ -9,7 +9,7 @@ moment_in (SetPesAct params now) = now
 moment_in (StartAct now) = now
 moment_in (ReadAct now count) = now
 moment_in (PollAct now) = now
-moment_in (PassAct input first count now) = now
+moment_in (PassAct input batch now) = now
 moment_in _ = 0
 
 -- the call that is asked for by a client that plays these batches, made at the moment of this one

@@ -4,13 +4,13 @@ ghost use Rattle.dmx_calls.specs.Invocation.{Pass};
 ghost use Rattle.report_check.specs.Imports.{IsPacket, filled_act, invocation_of};
 ghost use Rattle.report_check.specs.Playing.{AreFewPackets, IsCallable, brought_from};
 
-use dmx_calls::{Act, ByteBuf, Call, Input, KeptAct};
+use dmx_calls::{Act, BatchRange, ByteBuf, Call, Input, KeptAct};
 use std::alloc::{AllocError as NoMemory, Global};
 use ts_batch::Batch;
 use ts_packet::Packet;
 
 // The packets of which a caller's passes bring some.
-#[tactic(auto, using(crate::proofs::Sources::at_caller, crate::proofs::Sources::at_none, crate::proofs::Sources::are_few))]
+#[tactic(auto, using(crate::proofs::Players::at_caller, crate::proofs::Players::at_none, crate::proofs::Players::are_few))]
 fn source<'a>(
     stream: &'a [Packet],
     played: &'a [Vec<Packet>],
@@ -36,19 +36,18 @@ fn pass(
     alloc: Global,
     packets: &[Packet],
     input: Input,
-    first: u64,
-    count: u32,
+    at: BatchRange,
     now: u64,
 ) -> Result<Call, NoMemory>
-    requires some { 0 < count }
-    requires few { count ≤ 64 }
-    requires within { first + count ≤ length packets.now }
+    requires some { 0 < at.count }
+    requires few { at.count ≤ 64 }
+    requires within { at.first + at.count ≤ length packets.now }
     requires packets { All IsPacket packets.now }
     requires long { length packets.now < 2 ^ 63 }
-    ensures { IfOk result (λ call. invocation_of call ≡ Pass input first (take count (drop first packets.now)) now) }
+    ensures { IfOk result (λ call. invocation_of call ≡ Pass input at.first (take at.count (drop at.first packets.now)) now) }
 {
-    let from = first as usize;
-    let batch = Batch::of_slice(alloc, first, &packets[from..from + count as usize])?;
+    let from = at.first as usize;
+    let batch = Batch::of_slice(alloc, at.first, &packets[from..from + at.count as usize])?;
     Ok(Call::Pass { input, batch, now })
 }
 
@@ -75,19 +74,14 @@ pub fn call_told(
         Act::Start { now } => Call::Start { now },
         Act::Stop => Call::Stop,
         Act::SetSize(size) => Call::SetSize(size),
-        Act::Read { now, count } => {
-            let buf = ByteBuf::new(alloc, count)?;
-            Call::Read { now, buf }
+        Act::Read { now, room } => {
+            let room = ByteBuf::new(alloc, room)?;
+            Call::Read { now, room }
         }
         Act::Poll { now } => Call::Poll { now },
-        Act::Pass {
-            input,
-            first,
-            count,
-            now,
-        } => {
+        Act::Pass { input, batch, now } => {
             let packets = source(stream, played, who, input);
-            pass(alloc, packets, input, first, count, now)?
+            pass(alloc, packets, input, batch, now)?
         }
         Act::End => Call::End,
         Act::Attach { node, pids } => Call::Attach { node, pids },

@@ -5,7 +5,7 @@ ghost use Rattle.report_check.specs.Inside.Steps.{asked_at, moment_in};
 
 use client_core::{ClientCore, ClientRequest, Event};
 use client_script::Want;
-use dmx_calls::{Act, Entry, Input, KeptAct};
+use dmx_calls::{Act, BatchRange, Entry, Input, KeptAct};
 use std::sync::Arc;
 use ts_batch::Batch;
 
@@ -38,7 +38,7 @@ fn asked_by_command(want: Want, now: u64) -> Act
         Want::Start => Act::Start { now },
         Want::Stop => Act::Stop,
         Want::Size(size) => Act::SetSize(size),
-        Want::Read(count) => Act::Read { now, count },
+        Want::Read(room) => Act::Read { now, room },
         Want::Poll => Act::Poll { now },
     }
 }
@@ -47,19 +47,14 @@ fn asked_by_command(want: Want, now: u64) -> Act
 fn passed(batch: Option<&Arc<Batch>>, now: u64) -> Act
     ensures { result ≡ act_of (pass_of (option_map (λ b. b.now.value) batch.entry) now) }
 {
-    match batch {
-        Some(batch) => Act::Pass {
-            input: Input::Dvr,
-            first: batch.first(),
-            count: batch.count(),
-            now,
-        },
-        None => Act::Pass {
-            input: Input::Dvr,
-            first: 0,
-            count: 0,
-            now,
-        },
+    let (first, count) = match batch {
+        Some(batch) => (batch.first(), batch.count()),
+        None => (0, 0),
+    };
+    Act::Pass {
+        input: Input::Dvr,
+        batch: BatchRange { first, count },
+        now,
     }
 }
 

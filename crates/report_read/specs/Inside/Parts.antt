@@ -1,7 +1,7 @@
 -- How calls and replies of a report are read (this project's own).
 use Rattle.std.specs.Prelude.{ℕ, suc, ◌+◌, ◌==◌, ◌&&◌, Bool, true, false, not, nat_eq, nat_le, List, [], ◌∷◌, length, replicate, Some, None, if◌then◌else◌, codes}
 use Rattle.std.proofs.Common.{zero}
-use Rattle.report_read.specs.Imports.{Act, AddPid as AddPidAct, Again, Attach as AttachAct, Busy, Close as CloseAct, Data, Detach as DetachAct, Done, End as EndAct, Input, LARGEST_READ, NoMemory, Open as OpenAct, Output, Overflow, Pass as PassAct, Passed, Place, Poll as PollAct, PollError, Read as ReadAct, Ready, Refused, RemovePid as RemovePidAct, Response, SectionFilter, SetFilter as SetFilterAct, SetPes as SetPesAct, SetSize as SetSizeAct, Start as StartAct, Stop as StopAct, TapChange, TimedOut, has_pid, with_pid, with_place}
+use Rattle.report_read.specs.Imports.{Act, AddPid as AddPidAct, Again, Attach as AttachAct, Busy, Close as CloseAct, Data, Detach as DetachAct, Done, End as EndAct, Input, LARGEST_READ, NoMemory, Open as OpenAct, Output, Overflow, Passed, Place, Poll as PollAct, PollError, Read as ReadAct, Ready, Refused, RemovePid as RemovePidAct, Response, SectionFilter, SetFilter as SetFilterAct, SetPes as SetPesAct, SetSize as SetSizeAct, Start as StartAct, Stop as StopAct, TapChange, TimedOut, has_pid, passing, with_pid, with_place}
 use Rattle.dmx_calls.specs.declared.params.Input.TheVariants as input
 use Rattle.dmx_calls.specs.declared.params.Output.TheVariants as output
 use Rattle.dmx_calls.specs.declared.reply.Errno.TheVariants as errno
@@ -124,7 +124,7 @@ pass_in bytes =
     and_then (past (codes " first=") bytes number64) (λ first bytes.
     and_then (past (codes " count=") bytes number32) (λ count bytes.
     and_then (past (codes " at=") bytes number64) (λ now bytes.
-    Some (PassAct from first count now, bytes)))))
+    Some (passing from first count now, bytes)))))
 
 unfoldable pub read_in : List ℕ → Reading Act
 read_in bytes =

@@ -1,8 +1,8 @@
 -- What is kept in memory, one behind another.
-use Rattle.std.proofs.Common.{◌≡◌, List, [], ◌++◌, map, sym, ◌∙◌, ap}
+use Rattle.std.proofs.Common.{List, [], ◌++◌, map, sym, ◌∙◌, ap}
 use Rattle.seats.specs.Imports.{LogEntry, Outcome, append-nil, append_assoc, told_entry}
 use Rattle.seats.specs.declared.journal.KeptJournal.{KeptJournal}
-use Rattle.seats.specs.Numbered.{HasKept}
+use Rattle.seats.specs.Kept.{HasKept}
 
 pub kept_none : (a : KeptJournal) → HasKept [] [] a a
 kept_none a whole = (whole, sym (append-nil (map told_entry a.log.items)), sym (append-nil a.outcomes.items))

@@ -17,55 +17,41 @@ static WORDS: [u32; 6] = [
     0xcbed_606e,
 ];
 
-// The first of these words that the generator doesn't give.
-fn odd_word() -> Option<u32> {
-    let mut words = Lcg64Xsh32::new(42, 54);
-    for word in WORDS.iter() {
-        if words.next_word() != *word {
-            return Some(*word);
-        }
-    }
-    None
-}
-
 // A packet of the session: its place, its first 28 bytes and its last.
-struct Sample {
-    place: u32,
-    front: [u8; 28],
-    last: u8,
-}
+type Sample = (u32, [u8; 28], u8);
 
 static PACKETS: [Sample; 3] = [
-    Sample {
-        place: 0,
-        front: [
+    (
+        0,
+        [
             0x47, 0x01, 0x00, 0x10, 0x00, 0x01, 0x02, 0x03, 0x04, 0x05, 0x06, 0x07, 0x08, 0x09,
             0x0a, 0x0b, 0x0c, 0x0d, 0x0e, 0x0f, 0x10, 0x11, 0x12, 0x13, 0x14, 0x15, 0x16, 0x17,
         ],
-        last: 0xb7,
-    },
-    Sample {
-        place: 65511,
-        front: [
+        0xb7,
+    ),
+    (
+        65511,
+        [
             0x47, 0x40, 0x00, 0x1e, 0x00, 0x00, 0xb0, 0x11, 0xff, 0xe7, 0xc1, 0x00, 0x00, 0x00,
             0x00, 0x00, 0x00, 0x00, 0x00, 0xff, 0xe7, 0x21, 0x11, 0x53, 0xb8, 0xff, 0xff, 0xff,
         ],
-        last: 0xff,
-    },
-    Sample {
-        place: 65535,
-        front: [
+        0xff,
+    ),
+    (
+        65535,
+        [
             0x47, 0x01, 0x00, 0x10, 0xff, 0x00, 0x01, 0x02, 0x03, 0x04, 0x05, 0x06, 0x07, 0x08,
             0x09, 0x0a, 0x0b, 0x0c, 0x0d, 0x0e, 0x0f, 0x10, 0x11, 0x12, 0x13, 0x14, 0x15, 0x16,
         ],
-        last: 0xb6,
-    },
+        0xb6,
+    ),
 ];
 
 // Whether the session has the packet of a sample in its place. The script has 656 bytes, each packet 188.
 fn has_sample(bytes: &[u8], sample: &Sample) -> bool {
-    let at = 656 + sample.place as usize * 188;
-    bytes.get(at..at + 28) == Some(&sample.front[..]) && bytes.get(at + 187) == Some(&sample.last)
+    let (place, front, last) = sample;
+    let at = 656 + *place as usize * 188;
+    bytes.get(at..at + 28) == Some(&front[..]) && bytes.get(at + 187) == Some(last)
 }
 
 // Whether the session of the greatest number has its length and these packets.
@@ -76,6 +62,9 @@ fn is_made(alloc: Global) -> Result<bool, NoMemory> {
 
 #[test]
 fn words_and_packets_are_those_of_others(rt: HostRuntime) {
-    assert_eq!(rt; odd_word(), None);
+    let mut words = Lcg64Xsh32::new(42, 54);
+    for word in WORDS.iter() {
+        assert_eq!(rt; words.next_word(), *word);
+    }
     assert_eq!(rt; is_made(rt.alloc()), Ok(true));
 }

@@ -2,175 +2,82 @@
 
 use ts_packet::{PACKET_LEN, Packet};
 
-// A header, and the fields that ISO/IEC 13818-1, 2.4.3, gives a packet with it.
-struct Row {
-    name: &'static str,
-    header: [u8; 6],
-    pid: u16,
-    error: bool,
-    unit_start: bool,
-    counter: u8,
-    discontinuity: bool,
-    payload_at: Option<usize>,
-}
+// What ISO/IEC 13818-1, 2.4.3, gives a packet: its PID, the bits of error and of unit start, the counter, the bit of
+// discontinuity, and where its payload begins.
+type Fields = (u16, bool, bool, u8, bool, Option<usize>);
 
-static ROWS: [Row; 11] = [
-    Row {
-        name: "null packet",
-        header: [0x47, 0x1f, 0xff, 0x10, 0xff, 0xff],
-        pid: 0x1fff,
-        error: false,
-        unit_start: false,
-        counter: 0,
-        discontinuity: false,
-        payload_at: Some(4),
-    },
-    Row {
-        name: "first packet of a program association section",
-        header: [0x47, 0x40, 0x00, 0x1d, 0x00, 0x00],
-        pid: 0,
-        error: false,
-        unit_start: true,
-        counter: 13,
-        discontinuity: false,
-        payload_at: Some(4),
-    },
-    Row {
-        name: "error, priority and scrambling bits",
-        header: [0x47, 0xa1, 0x23, 0xd5, 0xff, 0xff],
-        pid: 0x123,
-        error: true,
-        unit_start: false,
-        counter: 5,
-        discontinuity: false,
-        payload_at: Some(4),
-    },
-    Row {
-        name: "adaptation field alone",
-        header: [0x47, 0x01, 0x00, 0x2f, 183, 0x10],
-        pid: 256,
-        error: false,
-        unit_start: false,
-        counter: 15,
-        discontinuity: false,
-        payload_at: None,
-    },
-    Row {
-        name: "adaptation field alone, with a discontinuity",
-        header: [0x47, 0x01, 0x00, 0x20, 183, 0x80],
-        pid: 256,
-        error: false,
-        unit_start: false,
-        counter: 0,
-        discontinuity: true,
-        payload_at: None,
-    },
-    Row {
-        name: "empty adaptation field, and a payload that begins with 0x80",
-        header: [0x47, 0x01, 0x00, 0x30, 0, 0x80],
-        pid: 256,
-        error: false,
-        unit_start: false,
-        counter: 0,
-        discontinuity: false,
-        payload_at: Some(5),
-    },
-    Row {
-        name: "adaptation field of one byte",
-        header: [0x47, 0x01, 0x00, 0x30, 1, 0x80],
-        pid: 256,
-        error: false,
-        unit_start: false,
-        counter: 0,
-        discontinuity: true,
-        payload_at: Some(6),
-    },
-    Row {
-        name: "adaptation field of 182 bytes, the most with a payload",
-        header: [0x47, 0x01, 0x00, 0x31, 182, 0x00],
-        pid: 256,
-        error: false,
-        unit_start: false,
-        counter: 1,
-        discontinuity: false,
-        payload_at: Some(187),
-    },
-    Row {
-        name: "adaptation field of 183 bytes where a payload is said to be",
-        header: [0x47, 0x01, 0x00, 0x31, 183, 0x7f],
-        pid: 256,
-        error: false,
-        unit_start: false,
-        counter: 1,
-        discontinuity: false,
-        payload_at: None,
-    },
-    Row {
-        name: "adaptation field that goes past the packet",
-        header: [0x47, 0x01, 0x00, 0x31, 255, 0x80],
-        pid: 256,
-        error: false,
-        unit_start: false,
-        counter: 1,
-        discontinuity: true,
-        payload_at: None,
-    },
-    Row {
-        name: "reserved control value, neither field nor payload",
-        header: [0x47, 0x01, 0x00, 0x01, 1, 0x80],
-        pid: 256,
-        error: false,
-        unit_start: false,
-        counter: 1,
-        discontinuity: false,
-        payload_at: None,
-    },
+// The first six bytes of a packet, and its fields.
+static ROWS: [(u64, Fields); 11] = [
+    // null packet
+    (0x471f_ff10_ffff, (0x1fff, false, false, 0, false, Some(4))),
+    // first packet of a program association section
+    (0x4740_001d_0000, (0, false, true, 13, false, Some(4))),
+    // error, priority and scrambling bits
+    (0x47a1_23d5_ffff, (0x123, true, false, 5, false, Some(4))),
+    // adaptation field alone
+    (0x4701_002f_b710, (256, false, false, 15, false, None)),
+    // adaptation field alone, with a discontinuity
+    (0x4701_0020_b780, (256, false, false, 0, true, None)),
+    // empty adaptation field, and a payload that begins with 0x80
+    (0x4701_0030_0080, (256, false, false, 0, false, Some(5))),
+    // adaptation field of one byte
+    (0x4701_0030_0180, (256, false, false, 0, true, Some(6))),
+    // adaptation field of 182 bytes, the most with a payload
+    (0x4701_0031_b600, (256, false, false, 1, false, Some(187))),
+    // adaptation field of 183 bytes where a payload is said to be
+    (0x4701_0031_b77f, (256, false, false, 1, false, None)),
+    // adaptation field that goes past the packet
+    (0x4701_0031_ff80, (256, false, false, 1, true, None)),
+    // reserved control value, neither field nor payload
+    (0x4701_0001_0180, (256, false, false, 1, false, None)),
 ];
 
-// The packet that begins with these bytes; its byte i is i from the sixth on.
-fn packet_of(header: [u8; 6]) -> Option<Packet> {
+// The packet that begins with these six bytes; its byte i is i from the sixth on.
+fn packet_of(header: u64) -> Option<Packet> {
     let mut bytes = [0; PACKET_LEN];
     for (i, byte) in bytes.iter_mut().enumerate() {
         *byte = i as u8;
     }
-    bytes[..6].copy_from_slice(&header);
+    bytes[..6].copy_from_slice(&header.to_be_bytes()[2..]);
     Packet::of(bytes)
 }
 
-// Whether a packet has the fields of a row, and its payload, if there is one, begins in its place and ends with byte 187.
-fn has_fields(packet: &Packet, row: &Row) -> bool {
+// A packet's fields. Its payload, if there is one, ends with byte 187; where it doesn't it is told to begin at 0.
+fn fields_of(packet: &Packet) -> Fields {
     let payload_at = match packet.payload() {
         None => None,
         Some(payload) if payload.ends_with(&[187]) => Some(PACKET_LEN - payload.len()),
         Some(_) => Some(0),
     };
-    packet.bytes().starts_with(&row.header)
-        && packet.pid() == row.pid
-        && packet.error() == row.error
-        && packet.unit_start() == row.unit_start
-        && packet.counter() == row.counter
-        && packet.discontinuity() == row.discontinuity
-        && payload_at == row.payload_at
+    (
+        packet.pid(),
+        packet.error(),
+        packet.unit_start(),
+        packet.counter(),
+        packet.discontinuity(),
+        payload_at,
+    )
 }
 
-// The name of the first row whose header begins no packet, or one that hasn't the fields of the row.
-fn odd_row() -> Option<&'static str> {
-    for row in ROWS.iter() {
-        match packet_of(row.header) {
-            Some(packet) if has_fields(&packet, row) => {}
-            _ => return Some(row.name),
-        }
+// Whether these six bytes begin a packet that has these fields.
+fn have_fields(header: u64, fields: Fields) -> bool {
+    match packet_of(header) {
+        Some(packet) => packet.bytes().starts_with(&header.to_be_bytes()[2..])
+            && fields_of(&packet) == fields,
+        None => false,
     }
-    None
 }
 
 #[test]
 fn fields_are_those_of_the_standard(rt: HostRuntime) {
-    assert!(rt; packet_of([0x46, 0x01, 0x00, 0x10, 0x00, 0x00]).is_none());
+    assert!(rt; packet_of(0x4601_0010_0000).is_none());
     assert!(rt;
         Packet::default()
             .bytes()
             .starts_with(&[0x47, 0x1f, 0xff, 0x10, 0xff])
     );
-    assert_eq!(rt; odd_row(), None);
+    let odd = ROWS
+        .iter()
+        .position(|(header, fields)| !have_fields(*header, *fields));
+    assert_eq!(rt; odd, None);
 }

@@ -3,11 +3,7 @@
 use dmx_abi::{Request, decode, encode};
 
 // A request, and its number and argument. The bytes between the fields are 0, or 0xa5.
-struct Row {
-    request: Request,
-    number: u32,
-    argument: &'static [u8],
-}
+type Row = (Request, u32, &'static [u8]);
 
 // A section filter whose bytes all differ, by four of the structure's parts.
 const SECTION: Request = Request::SetFilter {
@@ -40,66 +36,51 @@ const PES: Request = Request::SetPes {
 const CLOCK: Request = Request::GetStc { num: 0x0a0b_0c0d };
 
 static ROWS: [Row; 10] = [
-    Row {
-        request: SECTION,
-        number: 0x403c_6f2b,
-        argument: b"\x0e\x1f\x10\x11\x12\x13\x14\x15\x16\x17\x18\x19\x1a\x1b\x1c\x1d\x1e\x1f\x30\x31\x32\x33\x34\x35\x36\x37\x38\x39\x3a\x3b\x3c\x3d\x3e\x3f\x50\x51\x52\x53\x54\x55\x56\x57\x58\x59\x5a\x5b\x5c\x5d\x5e\x5f\x00\x00\x04\x03\x02\x01\xd4\xc3\xb2\xa1",
-    },
-    Row {
-        request: PES,
-        number: 0x4014_6f2c,
-        argument: b"\x00\x20\x00\x00\x01\x00\x00\x00\x03\x00\x00\x00\x14\x00\x00\x00\xef\xcd\xab\x89",
-    },
-    Row {
-        request: CLOCK,
-        number: 0xc010_6f32,
-        argument: b"\x0d\x0c\x0b\x0a\x00\x00\x00\x00\x00\x00\x00\x00\x00\x00\x00\x00",
-    },
-    Row {
-        request: Request::AddPid(0x1234),
-        number: 0x4002_6f33,
-        argument: b"\x34\x12",
-    },
-    Row {
-        request: Request::RemovePid(0x1ffe),
-        number: 0x4002_6f34,
-        argument: b"\xfe\x1f",
-    },
-    Row {
-        request: Request::Start,
-        number: 0x6f29,
-        argument: b"",
-    },
-    Row {
-        request: Request::Stop,
-        number: 0x6f2a,
-        argument: b"",
-    },
+    (
+        SECTION,
+        0x403c_6f2b,
+        b"\x0e\x1f\x10\x11\x12\x13\x14\x15\x16\x17\x18\x19\x1a\x1b\x1c\x1d\x1e\x1f\x30\x31\x32\x33\x34\x35\x36\x37\x38\x39\x3a\x3b\x3c\x3d\x3e\x3f\x50\x51\x52\x53\x54\x55\x56\x57\x58\x59\x5a\x5b\x5c\x5d\x5e\x5f\x00\x00\x04\x03\x02\x01\xd4\xc3\xb2\xa1",
+    ),
+    (
+        PES,
+        0x4014_6f2c,
+        b"\x00\x20\x00\x00\x01\x00\x00\x00\x03\x00\x00\x00\x14\x00\x00\x00\xef\xcd\xab\x89",
+    ),
+    (
+        CLOCK,
+        0xc010_6f32,
+        b"\x0d\x0c\x0b\x0a\x00\x00\x00\x00\x00\x00\x00\x00\x00\x00\x00\x00",
+    ),
+    (Request::AddPid(0x1234), 0x4002_6f33, b"\x34\x12"),
+    (Request::RemovePid(0x1ffe), 0x4002_6f34, b"\xfe\x1f"),
+    (Request::Start, 0x6f29, b""),
+    (Request::Stop, 0x6f2a, b""),
     // The same structures, filled with 0xa5 before their fields were set.
-    Row {
-        request: SECTION,
-        number: 0x403c_6f2b,
-        argument: b"\x0e\x1f\x10\x11\x12\x13\x14\x15\x16\x17\x18\x19\x1a\x1b\x1c\x1d\x1e\x1f\x30\x31\x32\x33\x34\x35\x36\x37\x38\x39\x3a\x3b\x3c\x3d\x3e\x3f\x50\x51\x52\x53\x54\x55\x56\x57\x58\x59\x5a\x5b\x5c\x5d\x5e\x5f\xa5\xa5\x04\x03\x02\x01\xd4\xc3\xb2\xa1",
-    },
-    Row {
-        request: PES,
-        number: 0x4014_6f2c,
-        argument: b"\x00\x20\xa5\xa5\x01\x00\x00\x00\x03\x00\x00\x00\x14\x00\x00\x00\xef\xcd\xab\x89",
-    },
-    Row {
-        request: CLOCK,
-        number: 0xc010_6f32,
-        argument: b"\x0d\x0c\x0b\x0a\xa5\xa5\xa5\xa5\xa5\xa5\xa5\xa5\xa5\xa5\xa5\xa5",
-    },
+    (
+        SECTION,
+        0x403c_6f2b,
+        b"\x0e\x1f\x10\x11\x12\x13\x14\x15\x16\x17\x18\x19\x1a\x1b\x1c\x1d\x1e\x1f\x30\x31\x32\x33\x34\x35\x36\x37\x38\x39\x3a\x3b\x3c\x3d\x3e\x3f\x50\x51\x52\x53\x54\x55\x56\x57\x58\x59\x5a\x5b\x5c\x5d\x5e\x5f\xa5\xa5\x04\x03\x02\x01\xd4\xc3\xb2\xa1",
+    ),
+    (
+        PES,
+        0x4014_6f2c,
+        b"\x00\x20\xa5\xa5\x01\x00\x00\x00\x03\x00\x00\x00\x14\x00\x00\x00\xef\xcd\xab\x89",
+    ),
+    (
+        CLOCK,
+        0xc010_6f32,
+        b"\x0d\x0c\x0b\x0a\xa5\xa5\xa5\xa5\xa5\xa5\xa5\xa5\xa5\xa5\xa5\xa5",
+    ),
 ];
 
 // Whether the request that is read is written with its number and its length, and read again.
 fn is_both_ways(row: &Row) -> bool {
+    let (request, number, argument) = row;
     let mut out = [0xff; 60];
-    let written = encode(&row.request, &mut out);
-    decode(row.number, row.argument) == Ok(row.request)
-        && written == (row.number, row.argument.len() as u32)
-        && matches!(out.get(..row.argument.len()), Some(argument) if decode(row.number, argument) == Ok(row.request))
+    let written = encode(request, &mut out);
+    decode(*number, argument) == Ok(*request)
+        && written == (*number, argument.len() as u32)
+        && matches!(out.get(..argument.len()), Some(argument) if decode(*number, argument) == Ok(*request))
 }
 
 #[test]

@@ -222,20 +222,12 @@ static FILTERS: [Match; 46] = [
     (&[at!(15, 17, 0xff, 0xff)], &COUNTED, false),
 ];
 
-// The number of the first row whose filter does otherwise.
-fn odd_filter() -> Option<usize> {
-    for (number, (places, section, wanted)) in FILTERS.iter().enumerate() {
-        if is_match(places, section) != *wanted {
-            return Some(number);
-        }
-    }
-    None
-}
-
 #[test]
 fn filters_match_as_worked_out_by_hand(rt: HostRuntime) {
     assert_eq!(rt; odd_bit(), None);
-    assert_eq!(rt; odd_filter(), None);
+    let odd = FILTERS.iter().position(|(places, section, wanted)| is_match(places, section)
+        != *wanted);
+    assert_eq!(rt; odd, None);
 }
 
 // A section of table 0x42.

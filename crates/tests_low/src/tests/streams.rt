@@ -80,81 +80,35 @@ fn long_stream(alloc: Global) -> Result<Vec<u8>, NoMemory> {
 
 // How the long stream is pulled, by 64 packets at most: how many reads were made before, how many pulls are made at most, and
 // which reads fail.
-struct Row {
-    turns: u64,
-    pulls: usize,
-    fails: &'static [u64],
-    // how many packets come, why reading stopped, how many bytes the source has left, and the tally once a pull gives none
-    packets: u32,
-    fault: Option<PullFault>,
-    left: usize,
-    tally: Option<Tally>,
-}
+type Pulling = (u64, usize, &'static [u64]);
 
-static ROWS: [Row; 5] = [
+// How many packets come, why reading stopped, how many bytes the source has left, and, once a pull gives none, the bytes of rest
+// that are told beside these packets.
+type Pulled = (u32, Option<PullFault>, usize, Option<u32>);
+
+static ROWS: [(Pulling, Pulled); 5] = [
     // No more is read than is asked for: a read gives at most 65,536 bytes, which have 348 packets and 112 bytes.
-    Row {
-        turns: 0,
-        pulls: 5,
-        fails: &[],
-        packets: 320,
-        fault: None,
-        left: 134_464,
-        tally: None,
-    },
-    Row {
-        turns: 0,
-        pulls: 6,
-        fails: &[],
-        packets: 384,
-        fault: None,
-        left: 68_928,
-        tally: None,
-    },
+    ((0, 5, &[]), (320, None, 134_464, None)),
+    ((0, 6, &[]), (384, None, 68_928, None)),
     // To its end.
-    Row {
-        turns: 0,
-        pulls: 20,
-        fails: &[],
-        packets: 1063,
-        fault: None,
-        left: 0,
-        tally: Some(Tally {
-            packets: 1063,
-            skipped: 0,
-            rest: 156,
-        }),
-    },
+    ((0, 20, &[]), (1063, None, 0, Some(156))),
     // The second read fails, and the source isn't read any more.
-    Row {
-        turns: 0,
-        pulls: 20,
-        fails: &[1],
-        packets: 348,
-        fault: Some(PullFault::ReadFault),
-        left: 134_464,
-        tally: Some(Tally {
-            packets: 348,
-            skipped: 0,
-            rest: 112,
-        }),
-    },
+    (
+        (0, 20, &[1]),
+        (348, Some(PullFault::ReadFault), 134_464, Some(112)),
+    ),
     // All reads but one were made before.
-    Row {
-        turns: 4_294_967_295,
-        pulls: 20,
-        fails: &[],
-        packets: 348,
-        fault: Some(PullFault::TooLong {
-            turns: 4_294_967_296,
-        }),
-        left: 134_464,
-        tally: Some(Tally {
-            packets: 348,
-            skipped: 0,
-            rest: 112,
-        }),
-    },
+    (
+        (4_294_967_295, 20, &[]),
+        (
+            348,
+            Some(PullFault::TooLong {
+                turns: 4_294_967_296,
+            }),
+            134_464,
+            Some(112),
+        ),
+    ),
 ];
 
 // A puller, and the source that it pulls from.
@@ -174,10 +128,10 @@ fn source_of(alloc: Global, fails: &[u64]) -> Result<MemSource, NoMemory>
 }
 
 // The stream of a row. Reads beyond the bound are taken for as many as the bound.
-fn stream_of(alloc: Global, row: &Row) -> Result<PulledStream, NoMemory> {
-    let turns = row.turns.min(4_294_967_296);
+fn stream_of(alloc: Global, pulling: &Pulling) -> Result<PulledStream, NoMemory> {
+    let turns = pulling.0.min(4_294_967_296);
     let puller = Puller::new(alloc, Vec::new(alloc), turns, PacketSize::Of188)?;
-    let source = source_of(alloc, row.fails)?;
+    let source = source_of(alloc, pulling.2)?;
     Ok(PulledStream { puller, source })
 }
 
@@ -201,17 +155,23 @@ impl PulledStream {
 // A tally, and the rows of PIDs.
 type ToldHead = (Tally, Vec<(u16, PidRow)>);
 
-// Whether this tally is told, with all packets of PID 0 in its row; or nothing is.
-fn is_told(told: &Option<ToldHead>, want: &Option<Tally>) -> bool {
-    match (told, want) {
-        (Some((tally, rows)), Some(want)) => {
+// Whether so many packets, all of PID 0, and these bytes of rest are told; or nothing is.
+fn is_told(told: &Option<ToldHead>, packets: u32, rest: Option<u32>) -> bool {
+    let packets = packets as u64;
+    match (told, rest) {
+        (Some((tally, rows)), Some(rest)) => {
+            let want = Tally {
+                packets,
+                skipped: 0,
+                rest,
+            };
             let row = PidRow {
-                packets: want.packets,
+                packets,
                 breaks: 0,
                 duplicates: 0,
                 errors: 0,
             };
-            tally == want && rows.as_slice() == [(0, row)].as_slice()
+            *tally == want && rows.as_slice() == [(0, row)].as_slice()
         }
         (None, None) => true,
         _ => false,
@@ -227,15 +187,16 @@ fn left_of(source: &mut MemSource, room: &mut [u8]) -> usize {
 }
 
 // Whether the long stream is pulled as the row says.
-fn is_pulled(alloc: Global, row: &Row) -> Result<bool, NoMemory> {
-    let mut stream = stream_of(alloc, row)?;
+fn is_pulled(alloc: Global, row: &(Pulling, Pulled)) -> Result<bool, NoMemory> {
+    let (pulling, (packets, fault, left, rest)) = row;
+    let mut stream = stream_of(alloc, pulling)?;
     let mut room = vec![in alloc; 0u8; 200_000]?;
-    let (packets, told) = stream.pulled(alloc, row.pulls)?;
+    let (came, told) = stream.pulled(alloc, pulling.1)?;
     Ok(
-        packets == row.packets
-            && is_told(&told, &row.tally)
-            && stream.puller.fault() == row.fault
-            && left_of(&mut stream.source, &mut room) == row.left,
+        came == *packets
+            && is_told(&told, *packets, *rest)
+            && stream.puller.fault() == *fault
+            && left_of(&mut stream.source, &mut room) == *left,
     )
 }
 

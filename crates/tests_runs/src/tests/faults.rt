@@ -21,8 +21,11 @@ struct FailingSession {
     rows: &'static [FailingRow],
 }
 
-// Which reads and which writes fail, and how many bytes find room; the status, and the output as `text_of` reads it.
-type FailingRow = (&'static [u64], &'static [u64], usize, Status, &'static str);
+// Which reads and which writes fail, and how many bytes find room.
+type FailingEnds = (&'static [u64], &'static [u64], usize);
+
+// With these ends the status, and the output as `text_of` reads it.
+type FailingRow = (FailingEnds, Status, &'static str);
 
 // The words of sessions none of which has a call whose place hangs on the order of the threads.
 const BOTH: &str = "steps --batch 1\nrun --batch 1\nrun";
@@ -40,18 +43,14 @@ const READ_FAULTS: FailingSession = FailingSession {
     piece: 188,
     width: 10,
     rows: &[
-        (&[0], &[], ROOM, Status::ReadFault, ""),
+        ((&[0], &[], ROOM), Status::ReadFault, ""),
         (
-            &[1],
-            &[],
-            ROOM,
+            (&[1], &[], ROOM),
             Status::ReadFault,
             "dvbemu 1\npackets=0 skipped=0 rest=181\nfault read\n",
         ),
         (
-            &[2],
-            &[],
-            ROOM,
+            (&[2], &[], ROOM),
             Status::ReadFault,
             "dvbemu 1\n\
             packets=1 skipped=0 rest=181\n\
@@ -59,9 +58,7 @@ const READ_FAULTS: FailingSession = FailingSession {
             fault read\n",
         ),
         (
-            &[3],
-            &[],
-            ROOM,
+            (&[3], &[], ROOM),
             Status::ReadFault,
             "dvbemu 1\n\
             packets=2 skipped=0 rest=181\n\
@@ -69,9 +66,7 @@ const READ_FAULTS: FailingSession = FailingSession {
             fault read\n",
         ),
         (
-            &[4],
-            &[],
-            ROOM,
+            (&[4], &[], ROOM),
             Status::ReadFault,
             "dvbemu 1\n\
             packets=3 skipped=0 rest=0\n\
@@ -79,16 +74,14 @@ const READ_FAULTS: FailingSession = FailingSession {
             fault read\n",
         ),
         (
-            &[5],
-            &[],
-            ROOM,
+            (&[5], &[], ROOM),
             Status::Ok,
             "dvbemu 1\n\
             packets=3 skipped=0 rest=0\n\
             pid 256 packets=3 breaks=0 duplicates=2 errors=0\n\
             end\n",
         ),
-        (&[2], &[0], ROOM, Status::WriteFault, ""),
+        ((&[2], &[0], ROOM), Status::WriteFault, ""),
     ],
 };
 
@@ -100,9 +93,7 @@ const SCRIPT_FAULT: FailingSession = FailingSession {
     piece: 188,
     width: 10,
     rows: &[(
-        &[1],
-        &[],
-        ROOM,
+        (&[1], &[], ROOM),
         Status::Script(ScriptFault {
             line: 1,
             kind: FaultKind::Count,
@@ -123,38 +114,34 @@ const WRITE_FAULTS: FailingSession = FailingSession {
     piece: 188,
     width: 10,
     rows: &[
-        (&[], &[0], ROOM, Status::WriteFault, ""),
-        (&[], &[1], ROOM, Status::WriteFault, "dvbemu 1\np"),
-        (&[], &[2], ROOM, Status::WriteFault, "dvbemu 1\npackets=0 s"),
+        ((&[], &[0], ROOM), Status::WriteFault, ""),
+        ((&[], &[1], ROOM), Status::WriteFault, "dvbemu 1\np"),
         (
-            &[],
-            &[3],
-            ROOM,
+            (&[], &[2], ROOM),
+            Status::WriteFault,
+            "dvbemu 1\npackets=0 s",
+        ),
+        (
+            (&[], &[3], ROOM),
             Status::WriteFault,
             "dvbemu 1\npackets=0 skipped=0 r",
         ),
         (
-            &[],
-            &[4],
-            ROOM,
+            (&[], &[4], ROOM),
             Status::Ok,
             "dvbemu 1\npackets=0 skipped=0 rest=0\nend\n",
         ),
         (
-            &[],
-            &[],
-            39,
+            (&[], &[], 39),
             Status::WriteFault,
             "dvbemu 1\npackets=0 skipped=0 rest=0\nend",
         ),
         (
-            &[],
-            &[],
-            40,
+            (&[], &[], 40),
             Status::Ok,
             "dvbemu 1\npackets=0 skipped=0 rest=0\nend\n",
         ),
-        (&[], &[], 0, Status::WriteFault, ""),
+        ((&[], &[], 0), Status::WriteFault, ""),
     ],
 };
 
@@ -165,7 +152,7 @@ const MAKE: FailingSession = FailingSession {
     stream: &[],
     piece: 1,
     width: 65536,
-    rows: &[(&[0], &[], 12, Status::WriteFault, "c0 open n0\nc")],
+    rows: &[((&[0], &[], 12), Status::WriteFault, "c0 open n0\nc")],
 };
 
 // A client of those three packets. Where a `feed` finds a fault, the packets that were taken pass, and then the end.
@@ -177,9 +164,7 @@ const READS: FailingSession = FailingSession {
     width: 10,
     rows: &[
         (
-            &[1],
-            &[],
-            ROOM,
+            (&[1], &[], ROOM),
             Status::ReadFault,
             "dvbemu 1\n\
             packets=0 skipped=0 rest=107\n\
@@ -195,9 +180,7 @@ const READS: FailingSession = FailingSession {
             fault read\n",
         ),
         (
-            &[2],
-            &[],
-            ROOM,
+            (&[2], &[], ROOM),
             Status::ReadFault,
             "dvbemu 1\n\
             packets=1 skipped=0 rest=107\n\
@@ -216,9 +199,7 @@ const READS: FailingSession = FailingSession {
             fault read\n",
         ),
         (
-            &[3],
-            &[],
-            ROOM,
+            (&[3], &[], ROOM),
             Status::ReadFault,
             "dvbemu 1\n\
             packets=2 skipped=0 rest=107\n\
@@ -240,9 +221,7 @@ const READS: FailingSession = FailingSession {
             fault read\n",
         ),
         (
-            &[4],
-            &[],
-            ROOM,
+            (&[4], &[], ROOM),
             Status::ReadFault,
             "dvbemu 1\n\
             packets=3 skipped=0 rest=0\n\
@@ -267,9 +246,7 @@ const READS: FailingSession = FailingSession {
             fault read\n",
         ),
         (
-            &[5],
-            &[],
-            ROOM,
+            (&[5], &[], ROOM),
             Status::Ok,
             "dvbemu 1\n\
             packets=3 skipped=0 rest=0\n\
@@ -305,25 +282,25 @@ const ANSWERS: FailingSession = FailingSession {
     piece: 1000,
     width: 1,
     rows: &[
-        (&[0], &[], ROOM, Status::ReadFault, ""),
-        (&[1], &[], ROOM, Status::ReadFault, ""),
-        (&[2], &[], ROOM, Status::ReadFault, ""),
-        (&[3], &[], ROOM, Status::ReadFault, ""),
-        (&[4], &[], ROOM, Status::ReadFault, ""),
-        (&[5], &[], ROOM, Status::ReadFault, ""),
-        (&[6], &[], ROOM, Status::ReadFault, ""),
-        (&[7], &[], ROOM, Status::ReadFault, ""),
-        (&[8], &[], ROOM, Status::ReadFault, ""),
-        (&[9], &[], ROOM, Status::ReadFault, ""),
-        (&[10], &[], ROOM, Status::ReadFault, ""),
-        (&[11], &[], ROOM, Status::ReadFault, ""),
-        (&[12], &[], ROOM, Status::ReadFault, ""),
-        (&[13], &[], ROOM, Status::Ok, "yes\n"),
-        (&[], &[0], ROOM, Status::WriteFault, ""),
-        (&[], &[1], ROOM, Status::WriteFault, "y"),
-        (&[], &[2], ROOM, Status::WriteFault, "ye"),
-        (&[], &[3], ROOM, Status::WriteFault, "yes"),
-        (&[], &[4], ROOM, Status::Ok, "yes\n"),
+        ((&[0], &[], ROOM), Status::ReadFault, ""),
+        ((&[1], &[], ROOM), Status::ReadFault, ""),
+        ((&[2], &[], ROOM), Status::ReadFault, ""),
+        ((&[3], &[], ROOM), Status::ReadFault, ""),
+        ((&[4], &[], ROOM), Status::ReadFault, ""),
+        ((&[5], &[], ROOM), Status::ReadFault, ""),
+        ((&[6], &[], ROOM), Status::ReadFault, ""),
+        ((&[7], &[], ROOM), Status::ReadFault, ""),
+        ((&[8], &[], ROOM), Status::ReadFault, ""),
+        ((&[9], &[], ROOM), Status::ReadFault, ""),
+        ((&[10], &[], ROOM), Status::ReadFault, ""),
+        ((&[11], &[], ROOM), Status::ReadFault, ""),
+        ((&[12], &[], ROOM), Status::ReadFault, ""),
+        ((&[13], &[], ROOM), Status::Ok, "yes\n"),
+        ((&[], &[0], ROOM), Status::WriteFault, ""),
+        ((&[], &[1], ROOM), Status::WriteFault, "y"),
+        ((&[], &[2], ROOM), Status::WriteFault, "ye"),
+        ((&[], &[3], ROOM), Status::WriteFault, "yes"),
+        ((&[], &[4], ROOM), Status::Ok, "yes\n"),
     ],
 };
 
@@ -343,7 +320,7 @@ fn is_right<R: AllocGlobal + Threads + Wait + Sync>(
     words: &str,
     row: &FailingRow,
 ) -> Result<bool, NoMemory> {
-    let (reads, writes, capacity, status, output) = *row;
+    let ((reads, writes, capacity), status, output) = *row;
     let ends = TestEnds {
         piece: session.piece,
         reads,
@@ -358,24 +335,15 @@ fn is_right<R: AllocGlobal + Threads + Wait + Sync>(
     Ok(ended == status && written == output)
 }
 
-// The words and the number of the first row of a session that isn't so.
-fn odd_row<R: AllocGlobal + Threads + Wait + Sync>(
-    rt: &R,
-    session: &FailingSession,
-) -> Option<(&'static str, usize)> {
-    for words in session.words.split("\n") {
-        for (number, row) in session.rows.iter().enumerate() {
-            if is_right(rt, session, words, row) != Ok(true) {
-                return Some((words, number));
-            }
-        }
-    }
-    None
-}
-
 #[test]
 fn ends_that_fail_leave_what_the_rows_say(rt: HostRuntime) {
     for (number, session) in SESSIONS.iter().enumerate() {
-        assert_eq!(rt; odd_row(&rt, session), None, "{number}");
+        for words in session.words.split("\n") {
+            let odd = session
+                .rows
+                .iter()
+                .position(|row| is_right(&rt, session, words, row) != Ok(true));
+            assert_eq!(rt; odd, None, "{number} {words}");
+        }
     }
 }

@@ -4,14 +4,8 @@ use emu_io::Gate;
 use std::sync::atomic::AtomicU64;
 use std::sync::atomic::Ordering::SeqCst;
 
-/// Caller `who` is held before its step `step` until caller `other` is at its step `there`.
-#[derive(Clone, Copy)]
-pub struct Hold {
-    pub who: u32,
-    pub step: u64,
-    pub other: u32,
-    pub there: u64,
-}
+/// Two callers, each with a step of its own: the first is held before its step until the second is at its.
+pub type Hold = ((u32, u64), (u32, u64));
 
 /// A gate that holds the feeder and two clients.
 #[derive(Drop)]
@@ -32,13 +26,13 @@ impl HoldingGate {
         }
     }
 
-    // Holds a caller until the other has come.
-    fn keep(&self, hold: Hold) {
-        let Some(word) = self.come.get(hold.other as usize) else {
+    // Holds a caller until this other has come to this step.
+    fn keep(&self, other: u32, there: u64) {
+        let Some(word) = self.come.get(other as usize) else {
             return;
         };
         for _ in 0..TURNS {
-            if word.load(SeqCst) > hold.there {
+            if word.load(SeqCst) > there {
                 self.kept.fetch_add(1, SeqCst);
                 return;
             }
@@ -57,9 +51,9 @@ impl Gate for HoldingGate {
         if let Some(word) = self.come.get(who as usize) {
             word.store(step.saturating_add(1), SeqCst);
         }
-        for hold in self.holds {
-            if hold.who == who && hold.step == step {
-                self.keep(*hold);
+        for (held, (other, there)) in self.holds {
+            if *held == (who, step) {
+                self.keep(*other, *there);
             }
         }
     }

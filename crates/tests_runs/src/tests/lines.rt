@@ -5,7 +5,7 @@ ghost use Rattle.std.specs.Io.KnownBytes.{ReadConsumes, WriteAppends};
 ghost use Rattle.emu_io.specs.Causes.{HasCause};
 ghost use Rattle.adapter.specs.Callers.{AreFreshCallers};
 ghost use Rattle.adapter.specs.Rows.{Fits};
-ghost use Rattle.seats.specs.Served.{IsReadyToHand};
+ghost use Rattle.seats.specs.Seated.{IsReadyToHand};
 
 use super::ends::CountingClock;
 use adapter::{Adapter, Client, Feeder};

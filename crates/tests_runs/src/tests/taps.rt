@@ -132,8 +132,8 @@ impl<M: Machine<Call = Call, Answer = Answer> + Drop, L: Ledger> CountedNode<M, 
                 now: 0,
             },
         );
-        let buf = ByteBuf::new(alloc, 65_536)?;
-        let read = self.ask(1, Call::Read { now: 0, buf });
+        let room = ByteBuf::new(alloc, 65_536)?;
+        let read = self.ask(1, Call::Read { now: 0, room });
         let wanted = input_of(alloc, "", row.3)?;
         let is_recorded = match read {
             Some(Reply::Data(buf)) => buf.bytes() == wanted.as_slice(),

@@ -117,12 +117,7 @@ fn is_held<R: AllocGlobal + Threads + Wait + Sync>(rt: &R, case: &HeldSession) -
 // here the second comes before the first is done, or the other way round. Client 1 is held.
 const FIRST_COMES_FIRST: HeldSession = HeldSession {
     script: "c0 open n0\nc1 open n0\nstream\n",
-    holds: &[Hold {
-        who: 2,
-        step: 0,
-        other: 1,
-        there: 1,
-    }],
+    holds: &[((2, 0), (1, 1))],
     replies: &[
         ("c0 0 open", "done drop=0..0 tap=keep"),
         ("c1 0 open", "busy owner=c0"),
@@ -133,12 +128,7 @@ const FIRST_COMES_FIRST: HeldSession = HeldSession {
 // Client 0 is held.
 const SECOND_COMES_FIRST: HeldSession = HeldSession {
     script: "c0 open n0\nc1 open n0\nstream\n",
-    holds: &[Hold {
-        who: 1,
-        step: 0,
-        other: 2,
-        there: 1,
-    }],
+    holds: &[((1, 0), (2, 1))],
     replies: &[
         ("c1 0 open", "done drop=0..0 tap=keep"),
         ("c0 0 open", "busy owner=c1"),
@@ -152,26 +142,7 @@ const READS_BETWEEN_TWO_BATCHES: HeldSession = HeldSession {
     words: "run --batch 1",
     script: "c0 open n0\nc0 pes n0 256 frontend tsdemux_tap 20 0\nc0 start n0\nc0 read n0 188\nstream\n",
     stream: &[FIRST, SECOND],
-    holds: &[
-        Hold {
-            who: 0,
-            step: 0,
-            other: 1,
-            there: 3,
-        },
-        Hold {
-            who: 1,
-            step: 3,
-            other: 0,
-            there: 1,
-        },
-        Hold {
-            who: 0,
-            step: 1,
-            other: 1,
-            there: 4,
-        },
-    ],
+    holds: &[((0, 0), (1, 3)), ((1, 3), (0, 1)), ((0, 1), (1, 4))],
     replies: &[("c0 3 read", "data 47010010|0*368")],
     ..ONCE
 };
@@ -181,12 +152,7 @@ const WAITS_UNTIL_A_BATCH_HAS_PASSED: HeldSession = HeldSession {
     words: "run --batch 1",
     script: "c0 open n0\nc0 pes n0 256 frontend tsdemux_tap 20 0\nc0 start n0\nc0 readw n0 188\nstream\n",
     stream: &[FIRST, SECOND],
-    holds: &[Hold {
-        who: 0,
-        step: 0,
-        other: 1,
-        there: 4,
-    }],
+    holds: &[((0, 0), (1, 4))],
     replies: &[
         ("c0 3 read", "again ended=0"),
         ("c0 4 read", "data 47010010|0*368"),
@@ -207,12 +173,7 @@ const PLAYS_BESIDE_THE_STREAM: HeldSession = HeldSession {
     script: "c0 open dvr\nc0 open n0\nc0 pes n0 256 dvr tsdemux_tap 20 0\nc0 start n0\n\
         c0 write dvr 47010010|0*192|\nc0 write dvr |0*176|\nc0 read n0 188\nc0 read n0 188\nstream\n",
     stream: &[SECOND],
-    holds: &[Hold {
-        who: 0,
-        step: 0,
-        other: 1,
-        there: 40,
-    }],
+    holds: &[((0, 0), (1, 40))],
     replies: &[
         ("c0 4 poll", "ready readable=0 error=none at=0 ended=0"),
         ("c0 5 poll", "ready readable=0 error=none at=0 ended=0"),
@@ -234,12 +195,7 @@ const EACH_PASS_OF_A_WRITE_HAS_A_MOMENT: HeldSession = HeldSession {
 const POLLS_BEHIND_THE_END: HeldSession = HeldSession {
     script: "c0 open n0\nc0 poll n0\nstream\n",
     stream: &[FIRST],
-    holds: &[Hold {
-        who: 1,
-        step: 1,
-        other: 0,
-        there: 2,
-    }],
+    holds: &[((1, 1), (0, 2))],
     replies: &[("c0 1 poll", "ready readable=0 error=none at=0 ended=1")],
     ..ONCE
 };
@@ -270,21 +226,13 @@ static HELD: [HeldSession; 9] = [
     EIGHT_CLIENTS_SHARE_A_NODE,
 ];
 
-// The place of the first of these that isn't so.
-fn odd_held<R: AllocGlobal + Threads + Wait + Sync>(rt: &R) -> Option<usize> {
-    for (place, case) in HELD.iter().enumerate() {
-        for _ in 0..case.times {
-            if is_held(rt, case) != Some(true) {
-                return Some(place);
-            }
-        }
-    }
-    None
-}
-
 #[test]
 fn threads_run_in_the_order_that_a_gate_forces(rt: HostRuntime) {
-    assert_eq!(rt; odd_held(&rt), None);
+    for (place, case) in HELD.iter().enumerate() {
+        for _ in 0..case.times {
+            assert_eq!(rt; is_held(&rt, case), Some(true), "{place}");
+        }
+    }
 }
 
 // A gate that lets each caller wait for some turns, by the caller, its step and the gate's number. By the number 0 nobody waits.

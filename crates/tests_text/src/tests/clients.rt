@@ -31,7 +31,7 @@ fn is_copied(alloc: Global) -> Result<bool, Stop> {
     };
     Ok(
         core.copied_outcomes(alloc)?.as_slice() == [stopped].as_slice()
-            && matches!(&call, Call::Read { now: 9, buf } if buf.count() == 65_536 && buf.bytes().is_empty()),
+            && matches!(&call, Call::Read { now: 9, room } if room.count() == 65_536 && room.bytes().is_empty()),
     )
 }
 

@@ -63,19 +63,12 @@ static WORDS: [(&[&str], Option<Command>); 18] = [
     (&["selftest", "7"], self_test!(7, 64)),
 ];
 
-// The number of the first of these whose words don't mean what they should.
-fn odd_words(alloc: Global) -> Result<Option<usize>, NoMemory> {
-    for (number, (words, want)) in WORDS.iter().enumerate() {
-        if command_of(alloc, words)? != *want {
-            return Ok(Some(number));
-        }
-    }
-    Ok(None)
-}
-
 #[test]
 fn words_mean_a_command(rt: HostRuntime) {
-    assert_eq!(rt; odd_words(rt.alloc()), Ok(None));
+    let odd = WORDS
+        .iter()
+        .position(|(words, want)| command_of(rt.alloc(), words) != Ok(*want));
+    assert_eq!(rt; odd, None);
 }
 
 // Client 0 reads the most bytes that a read can ask for, all of them 0.
@@ -87,7 +80,7 @@ fn read_of(alloc: Global, place: u64) -> Result<Entry, NoMemory> {
     }
     let act = Act::Read {
         now: 0,
-        count: 65_536,
+        room: 65_536,
     };
     Ok(Entry {
         place,
@@ -158,7 +151,9 @@ fn report(alloc: Global) -> Result<Vec<u8>, NoMemory> {
 
 // How the report is written: the width of writes, the number of the write that fails, and how many bytes stand before it; None
 // where all are written. Writes fail in a piece, at the end of a piece, in a long line, and at once.
-static WRITES: [(u32, u64, Option<usize>); 10] = [
+type WriteRow = (u32, u64, Option<usize>);
+
+static WRITES: [WriteRow; 10] = [
     (188, 4_294_967_295, None),
     (1000, 4_294_967_295, None),
     (65_536, 4_294_967_295, None),
@@ -198,21 +193,15 @@ fn written(
     Ok((sink, end))
 }
 
-// The number of the first row of these that isn't so.
-fn odd_writes(alloc: Global) -> Result<Option<usize>, NoMemory> {
+// Whether the report is written as a row says.
+fn is_written(alloc: Global, row: &WriteRow) -> Result<bool, NoMemory> {
+    let (width, fail, before) = *row;
     let want = report(alloc)?;
-    for (number, (width, fail, before)) in WRITES.iter().enumerate() {
-        let (sink, end) = written(alloc, *width, *fail)?;
-        let is_so = match *before {
-            None => sink.bytes() == want.as_slice() && end == Ok(()),
-            Some(count) => want.get(..count) == Some(sink.bytes())
-                && end == Err(ReportError::Failed),
-        };
-        if !is_so {
-            return Ok(Some(number));
-        }
-    }
-    Ok(None)
+    let (sink, end) = written(alloc, width, fail)?;
+    Ok(match before {
+        None => sink.bytes() == want.as_slice() && end == Ok(()),
+        Some(count) => want.get(..count) == Some(sink.bytes()) && end == Err(ReportError::Failed),
+    })
 }
 
 // Whether the report is read as three reads and the end on node 0, and what became of one command.
@@ -234,6 +223,9 @@ fn is_read(alloc: Global) -> Result<bool, NoMemory> {
 
 #[test]
 fn a_failed_write_leaves_the_front_of_a_long_report(rt: HostRuntime) {
-    assert_eq!(rt; odd_writes(rt.alloc()), Ok(None));
+    let odd = WRITES
+        .iter()
+        .position(|row| is_written(rt.alloc(), row) != Ok(true));
+    assert_eq!(rt; odd, None);
     assert_eq!(rt; is_read(rt.alloc()), Ok(true));
 }

@@ -1,16 +1,6 @@
-use Rattle.client_script.proofs.Imports.{refl}
-use Rattle.text_forms.specs.Numbers.{value_after}
+use Rattle.client_script.proofs.Imports.{refl, places_in, filter_in, request_number, argument_named, request_number_in, request_in, ioctl_in, number_in, numbered_target, target_of, name_of, section_in, pes_in, verb_in, command_in, dvr_named, write_in, asked_in, line_in, line_of, meaning, lines_from, grammar, split, word_in, written_named, value_after, input_named, output_named, numbered, with_place}
 use Rattle.text_forms.specs.Hex.{hex_digit, hex_byte, hex_bytes}
-use Rattle.text_forms.specs.Words.{input_named, output_named}
-use Rattle.text_forms.specs.Names.{numbered}
-use Rattle.filter_match.specs.Places.{with_place}
 use Rattle.text_forms.specs.Places.{place_with, place_named}
-use Rattle.client_script.specs.Words.{word_in}
-use Rattle.client_script.specs.Places.{places_in, filter_in}
-use Rattle.client_script.specs.Requests.{request_number, argument_named, request_number_in, request_in, ioctl_in}
-use Rattle.client_script.specs.Grammar.{number_in, numbered_target, target_of, name_of, section_in, pes_in, verb_in, command_in, dvr_named, write_in, asked_in, line_in, line_of, meaning}
-use Rattle.client_script.specs.Writes.{written_named}
-use Rattle.client_script.specs.Script.{lines_from, grammar, split}
 use Rattle.client_script.proofs.examples.lines.Goals as goal
 
 pub returns-clause-one_word : goal.returns-clause-one_word

@@ -1,8 +1,7 @@
-use Rattle.client_script.proofs.Imports.{refl}
+use Rattle.client_script.proofs.Imports.{refl, want_text, name_text, target_text, section_text, pes_text, want_arguments_text, request_text, arguments_text, bytes_text, command_text, line_text}
 use Rattle.std.specs.Fmt.{digits}
 use Rattle.filter_match.specs.Match.{numbers_below}
 use Rattle.dmx_calls.specs.Names.{input_text, output_text}
-use Rattle.client_script.specs.Spelling.{want_text, name_text, target_text, section_text, pes_text, want_arguments_text, request_text, arguments_text, bytes_text, command_text, line_text}
 use Rattle.client_script.proofs.examples.spellings.Goals as goal
 
 pub returns-clause-lines : goal.returns-clause-lines

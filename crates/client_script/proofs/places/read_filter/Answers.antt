@@ -1,5 +1,4 @@
-use Rattle.client_script.proofs.Imports.{◌≡◌, ◌+◌, ◌-◌, [], refl, ◌∙◌, rules, arith, with_place-IsFilter, zeros-IsFilter}
-use Rattle.client_script.specs.Places.{filter_in}
+use Rattle.client_script.proofs.Imports.{◌≡◌, ◌+◌, ◌-◌, [], refl, ◌∙◌, rules, arith, with_place-IsFilter, zeros-IsFilter, filter_in}
 use Rattle.client_script.proofs.Filters.{filter_by, filter_by-full, filter_by-end, filter_by-fault, filter_by-place}
 use Rattle.client_script.proofs.places.read_filter.Goals as goal
 

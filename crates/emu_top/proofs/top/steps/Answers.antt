@@ -1,4 +1,4 @@
-use Rattle.emu_top.proofs.Imports.{IfOk-weaker, IfErr-weaker, IsSerialOutput}
+use Rattle.emu_top.proofs.Imports.{IfOk-weaker, IsSerialOutput}
 use Rattle.emu_top.proofs.Answering.{says_ended, kept_end}
 use Rattle.emu_top.proofs.Outputs.{reported}
 use Rattle.emu_top.proofs.top.steps.Goals as goal

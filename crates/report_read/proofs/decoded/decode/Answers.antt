@@ -1,8 +1,5 @@
-use Rattle.report_read.proofs.Imports.{◌<◌, sym, ◌∙◌, ℕ, arith}
-use Rattle.std.proofs.Common.{subst, ⊎_elim}
+use Rattle.report_read.proofs.Imports.{◌<◌, sym, ◌∙◌, ℕ, arith, subst, ⊎_elim, get_or-set_at, get_or-set_other, length-set}
 use Rattle.std.proofs.lemmas.Bool.{cases_lt}
-use Rattle.std.proofs.lemmas.List.{get_or-set_other, length-set}
-use Rattle.std.proofs.lemmas.Grind.{get_or-set_at}
 use Rattle.report_read.proofs.decoded.decode.Goals as goal
 
 pub bytes-preserved : goal.bytes-preserved

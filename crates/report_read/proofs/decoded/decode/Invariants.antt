@@ -1,5 +1,4 @@
-use Rattle.report_read.proofs.Imports.{◌≡◌, ◌<◌, ℕ, length}
-use Rattle.std.specs.Prelude.{slice_index_or}
+use Rattle.report_read.proofs.Imports.{◌≡◌, ◌<◌, ℕ, length, slice_index_or}
 use Rattle.report_read.proofs.decoded.decode.Given as goal
 
 abbrev pub invariant-bytes : goal.invariant-bytes

@@ -1,5 +1,4 @@
-use Rattle.report_read.proofs.Imports.{◌∙◌, codes, map, flat_map, told_entry, entry_text, told_node_text}
-use Rattle.text_forms.specs.Names.{node_text}
+use Rattle.report_read.proofs.Imports.{◌∙◌, codes, map, flat_map, told_entry, entry_text, told_node_text, node_text}
 use Rattle.report_read.proofs.Compared.{gone_more, gone_node}
 use Rattle.report_read.proofs.spelled.behind_nodes.Goals as goal
 

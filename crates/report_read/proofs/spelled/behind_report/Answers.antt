@@ -1,5 +1,4 @@
-use Rattle.report_read.proofs.Imports.{Some, codes, flat_map, told_node_text, told_of, row_text, tally_text, clients_text}
-use Rattle.report_text.specs.Report.{end_text}
+use Rattle.report_read.proofs.Imports.{Some, codes, flat_map, told_node_text, told_of, row_text, tally_text, clients_text, end_text}
 use Rattle.report_read.proofs.Compared.{gone_all}
 use Rattle.report_read.proofs.spelled.behind_report.Goals as goal
 

@@ -1,4 +1,4 @@
-use Rattle.report_text.proofs.Imports.{◌≡◌, ◌||◌, Bool, List, [], ◌∷◌, map, refl, ap, sym, ◌∙◌, rules, tests, list_any, YieldsList-from_slice, any_from_yields_List, any_of_map, told_entry, is_of_client}
+use Rattle.report_text.proofs.Imports.{sym, ◌∙◌, rules, tests, YieldsList-from_slice, any_from_yields_List, any_of_map, told_entry, is_of_client}
 use Rattle.report_text.proofs.entries.is_called.Goals as goal
 
 pub returns : goal.returns

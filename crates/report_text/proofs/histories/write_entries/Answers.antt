@@ -1,4 +1,4 @@
-use Rattle.report_text.proofs.Imports.{◌≡◌, length, refl, [], arith, on_ok_weaker, on_err_weaker}
+use Rattle.report_text.proofs.Imports.{◌≡◌, length, refl, arith, on_ok_weaker, on_err_weaker}
 use Rattle.report_text.proofs.Pieces.{some_nothing, on_any_err}
 use Rattle.report_text.proofs.Writing.{entries_more, entries_break, turns_break, entries_done, end_breaks}
 use Rattle.report_text.proofs.histories.write_entries.Goals as goal

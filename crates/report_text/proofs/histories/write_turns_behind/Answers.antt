@@ -1,4 +1,4 @@
-use Rattle.std.proofs.Common.{inr, refl, arith}
+use Rattle.std.proofs.Common.{refl, arith}
 use Rattle.report_text.proofs.Pieces.{some_nothing, on_any_err}
 use Rattle.report_text.proofs.Writing.{behind_more, behind_breaks, behind_done}
 use Rattle.report_text.proofs.histories.write_turns_behind.Goals as goal

@@ -1,6 +1,5 @@
 use Rattle.report_text.proofs.Imports.{◌++◌, ◌≤◌, codes, decimal, length, on_ok_weaker, rules, subst, sym}
-use Rattle.report_text.proofs.Short.{short_pending}
-use Rattle.report_text.proofs.Texts.{behind}
+use Rattle.report_text.proofs.Texts.{behind, short_pending}
 use Rattle.report_text.proofs.replies.add_ready.Goals as goal
 
 pub returns : goal.returns

@@ -1,4 +1,4 @@
-use Rattle.report_text.proofs.Imports.{◌≡◌, ◌++◌, List, ℕ, map, ap, subst, codes, append_assoc, Option, flat_map, on_ok_weaker, on_err_weaker, StreamHead, told_head, Outcome, LogEntry, histories_text, tally_text, row_text, clients_text, end_text, report_of, Adds, AddsPart}
+use Rattle.report_text.proofs.Imports.{◌≡◌, ◌++◌, List, ℕ, map, ap, codes, append_assoc, Option, flat_map, on_ok_weaker, on_err_weaker, StreamHead, told_head, Outcome, LogEntry, histories_text, tally_text, row_text, clients_text, end_text, report_of, Adds, AddsPart}
 use Rattle.report_text.proofs.Pieces.{adds_both, adds_as, part_behind, part_before, part_as, none_waits, on_any_err}
 use Rattle.report_text.proofs.report.write_lines.Goals as goal
 

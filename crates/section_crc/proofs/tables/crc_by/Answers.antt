@@ -1,5 +1,4 @@
-use Rattle.section_crc.proofs.Imports.{◌∙◌, ℕ, List, ap, ap₂, fold, slice_index, refl, flat_map, take_all, after_bit, bits_of}
-use Rattle.section_crc.specs.Crc.{crc}
+use Rattle.section_crc.proofs.Imports.{◌∙◌, ℕ, List, ap, ap₂, fold, slice_index, refl, flat_map, take_all, after_bit, bits_of, crc}
 use Rattle.section_crc.proofs.Zeros.{fold-more, fold-cut}
 use Rattle.section_crc.proofs.tables.crc_by.Goals as goal
 

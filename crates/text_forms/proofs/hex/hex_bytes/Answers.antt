@@ -1,4 +1,4 @@
-use Rattle.std.proofs.Common.{◌≡◌, Bool, true, false, refl, rules}
+use Rattle.std.proofs.Common.{true, false}
 use Rattle.text_forms.proofs.HexWords.{too_many_read, all_read, some_left}
 use Rattle.text_forms.proofs.hex.hex_bytes.Goals as goal
 

@@ -1,7 +1,11 @@
-use Rattle.text_forms.proofs.Imports.{◌++◌, ◌∙◌, ap, sym, append-nil, arith, rules, flat_map_more, filter_place_text}
+-- The numbers below one more.
+use Rattle.text_forms.proofs.Imports.{◌++◌, ◌∙◌, ap, sym, append-nil, arith, rules, flat_map_more, filter_place_text, ◌≡◌, ◌+◌, refl, ℕ, [], ◌∷◌, add-one}
 use Rattle.filter_match.specs.Match.{numbers_below}
-use Rattle.text_forms.proofs.Below.{below_more}
 use Rattle.text_forms.proofs.places.write_filter.Goals as goal
+
+pub below_more : (n : ℕ) → numbers_below (n + 1) ≡ numbers_below n ++ n ∷ []
+unfolding numbers_below
+below_more n = rw (add-one n) refl
 
 pub places-init : goal.places-init
 unfolding numbers_below

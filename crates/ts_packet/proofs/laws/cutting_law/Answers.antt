@@ -1,5 +1,4 @@
-use Rattle.ts_packet.proofs.Imports.{arith}
-use Rattle.ts_packet.specs.Cut.{cut}
+use Rattle.ts_packet.proofs.Imports.{arith, cut}
 use Rattle.ts_packet.proofs.CutLemmas.{cut-append}
 use Rattle.ts_packet.proofs.PieceLemmas.{has-pieces, same-pieces}
 use Rattle.ts_packet.proofs.laws.cutting_law.Goals as goal

@@ -1,8 +1,11 @@
-use Rattle.adapter.proofs.Imports.{rules, ◌≡◌, true, ℕ, ◌+◌, ◌*◌, ◌≤◌, length, [], ◌∷◌, ap, ◌∙◌, subst, arith, length-append, nodes, entry_of, response_of, Passed, Frontend, Packets, is_in}
+-- Steps that are taken node by node.
+use Rattle.adapter.proofs.Imports.{rules, ◌≡◌, true, ℕ, ◌+◌, ◌*◌, ◌≤◌, length, [], ◌∷◌, ap, ◌∙◌, subst, arith, length-append, nodes, entry_of, response_of, Passed, Frontend, Packets, is_in, suc-mul}
 use Rattle.dmx_calls.specs.Invocation as asks
-use Rattle.adapter.proofs.Growing.{one_node_more}
 use Rattle.adapter.proofs.Passing.{may_now, next_passed, all_passed, passes_at}
 use Rattle.adapter.proofs.passes.NodePasses.feed.Goals as goal
+
+pub one_node_more : (start now next node n : ℕ) → now ≤ start + node * n → next ≤ now + n → next ≤ start + (node + 1) * n
+one_node_more start now next node n a b = let e = suc-mul node n in omega (arith, e)
 
 pub call-place-requires-clause-left : goal.call-place-requires-clause-left
 call-place-requires-clause-left g c = λ p at. may_now c.args.adapter.now (is_in c.args.nodes.now) (λ who. entry_of who (asks.Pass Frontend c.args.batch.value.first c.args.batch.value.packets c.args.now) Passed) c.args.self.now c.nodes.node c.nodes.places c.nodes.self p c.nodes.invariant.0 at

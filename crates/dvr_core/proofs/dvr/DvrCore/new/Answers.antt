@@ -1,9 +1,5 @@
-use Rattle.dvr_core.proofs.Imports.{refl}
-use Rattle.dmx_calls.specs.Tenure.{has_ended, tenure, owner, dvr_size, size_or}
-use Rattle.dmx_calls.specs.Capture.{dvr_capture}
+use Rattle.dvr_core.proofs.Imports.{refl, has_ended, tenure, owner, dvr_size, size_or, dvr_capture, tap_of, taps_of}
 use Rattle.dmx_calls.specs.Facts.{facts}
-use Rattle.dvr_core.specs.Tapped.{taps_of}
-use Rattle.dmx_calls.specs.Taps.{tap_of}
 use Rattle.dvr_core.proofs.dvr.DvrCore.new.Goals as goal
 
 pub returns : goal.returns

@@ -1,5 +1,5 @@
 use Rattle.report_check.proofs.Imports.{◌≡◌, ◌∙◌, [], List, ℕ, map, sym, subst, slice_index_or, Dvr, AreFewPackets}
-use Rattle.report_check.proofs.Sources.{at_caller, are_few}
+use Rattle.report_check.proofs.Players.{at_caller, are_few}
 use Rattle.report_check.proofs.history_check.calls.source.Goals as goal
 
 pub returns-in-Some-clause-few : goal.returns-in-Some-clause-few

@@ -1,5 +1,5 @@
 use Rattle.seats.proofs.Imports.{rules, ◌≡◌, length, None, ap, option_map, invocation_of, act_of}
-use Rattle.dmx_calls.specs.declared.call.Call.{Call}
+use Rattle.dmx_calls.specs.Calls.{Call}
 use Rattle.seats.proofs.Doing.{does_one, does_two}
 use Rattle.seats.proofs.Going.{goes_trans}
 use Rattle.seats.proofs.seat.Seat.call.Goals as goal

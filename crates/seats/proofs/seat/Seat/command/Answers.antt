@@ -1,8 +1,8 @@
-use Rattle.seats.proofs.Imports.{rules, sym, subst, ap, Vec, Global, Caller, HasLeft, Made, Outcome, WasDone}
+use Rattle.seats.proofs.Imports.{rules, arith, List, length, sym, subst, ap, Vec, Global, Caller, HasLeft, Made, Outcome, WasDone}
 use Rattle.dmx_calls.specs.declared.log.Entry.{Entry}
 use Rattle.seats.proofs.Doing.{command_kept}
 use Rattle.seats.proofs.Going.{goes_trans, log_same}
-use Rattle.seats.proofs.Keeping.{keeps_one}
+use Rattle.seats.proofs.Keeping.{keeps_one, paid}
 use Rattle.seats.proofs.seat.Seat.command.Goals as goal
 
 pub returns-clause-fit : goal.returns-clause-fit
@@ -25,5 +25,10 @@ returns-clause-did g c =
 pub returns-clause-kept : goal.returns-clause-kept
 returns-clause-kept g c =
     let r = c.keep.ensures.rest in
-    keeps_one WasDone c.args.self.now c.call-at.new.self c.keep.new.self c.count-from.result (search rules) (ap (λ (v : Vec Outcome Global). v.items) c.call-at.ensures.rest) c.keep.ensures.told
+    keeps_one WasDone c.args.self.now c.call-at.new.self c.keep.new.self c.count-from.result (search rules) c.call-at.ensures.goes.handed (ap (λ (v : Vec Outcome Global). v.items) c.call-at.ensures.rest) c.keep.ensures.told r.5
     (log_same c.call-at.new.self c.keep.new.self (ap (λ (v : Vec Entry Global). v.items) r.2) (ap (λ (v : Vec Made Global). v.items) r.3) r.1)
+
+pub keep-requires-clause-paid : goal.keep-requires-clause-paid
+keep-requires-clause-paid g c =
+    let e = c.call-at.ensures in let b = e.at in let log = ap (λ (l : List Entry). length l) e.did.has.log in
+    paid c.args.adapter.now c.args.self.now c.call-at.new.self 1 c.requires.fit e.goes.handed e.rest (omega (arith, b.0, b.1, log)) (omega arith)

@@ -1,5 +1,4 @@
-use Rattle.seats.proofs.Imports.{arith, ◌≡◌, ap, sym, ◌∙◌, OpenDemux, Call, Leave, act_of}
-use Rattle.seats.specs.declared.serve_frames.ask.Ask.TheVariants.{Refused}
+use Rattle.seats.proofs.Imports.{arith, ◌≡◌, ap, sym, ◌∙◌, OpenDemux, Call, Leave, act_of, Refused}
 use Rattle.seats.proofs.Doing.{answered_open, answered_call, answered_leave, answered_refused, answered_wanting}
 use Rattle.seats.proofs.Going.{goes_self}
 use Rattle.seats.proofs.seat.Seat.done.Goals as goal

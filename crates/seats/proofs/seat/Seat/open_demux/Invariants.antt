@@ -10,6 +10,7 @@ invariant-nodes g l = record {
   tried : HasTried l.node l.fn.self l.self;
   made : length l.self.made.items ≤ length l.fn.self.made.items + 2 * l.node;
   left : l.fn.self.client.left ≤ l.self.client.left + 2 * l.node;
+  more : length l.fn.self.log.items + length l.fn.self.made.items + l.node ≤ length l.self.log.items + length l.self.made.items;
   room : vec_capacity l.self.made ≡ vec_capacity l.fn.self.made;
   told : l.self.outcomes ≡ l.fn.self.outcomes;
 }

@@ -1,4 +1,4 @@
-use Rattle.seats.proofs.Imports.{rules, ◌≡◌, length, REQUEST_LEN, log_of, data_read, call_at}
+use Rattle.seats.proofs.Imports.{rules, ◌≡◌, length, REQUEST_LEN, data_read, call_at}
 use Rattle.seats.proofs.Going.{goes_self}
 use Rattle.seats.proofs.Turning.{turned_none, turned_one}
 use Rattle.seats.proofs.Wiring.{by_ok, by_err, runs_out}
@@ -8,7 +8,7 @@ pub returns-then-not-fill-clause-goes : goal.returns-then-not-fill-clause-goes
 returns-then-not-fill-clause-goes g c = goes_self c.args.self.now
 
 pub returns-then-not-fill-clause-turned : goal.returns-then-not-fill-clause-turned
-returns-then-not-fill-clause-turned g c = turned_none g.T.Source.end g.T.Sink.end (g.C.Clock.may_give c.args.clock.now) c.args.line.now c.fill.new.source c.args.self.now.held c.args.self.now.client (log_of c.args.self.now) c.args.self.now.outcomes.items
+returns-then-not-fill-clause-turned g c = turned_none g.T.Source.end g.T.Sink.end (g.C.Clock.may_give c.args.clock.now) c.args.line.now c.fill.new.source c.args.self.now
     (runs_out _ REQUEST_LEN _ _ (c.fill.ensures.short c.if-not-fill.true) (search rules))
 
 pub returns-clause-turned : goal.returns-clause-turned

@@ -5,8 +5,7 @@ use Rattle.tests_runs.proofs.tests.lines.one_seat.Goals as goal
 all_ready : {T : Type 0} (locks : List TableId) (clients : List Caller) (desks : List (Desk T)) → AreReady locks clients (map (λ (d : Desk T). d.seat) desks) → All (λ (d : Desk T). IsReadyToHand locks d.seat) desks
 all_ready locks clients desks ready k d low =
     let x = slice_index_or desks k d in
-    let r = ready.each k x.seat (slice_get-map (λ (z : Desk _). z.seat) desks k ∙ ap (option_map (λ (z : Desk _). z.seat)) (slice_get-get_or desks k d low)) in
-    record { ready = r.0; none = r.1; told = r.2 }
+    ready.each k x.seat (slice_get-map (λ (z : Desk _). z.seat) desks k ∙ ap (option_map (λ (z : Desk _). z.seat)) (slice_get-get_or desks k d low))
 
 counted : (locks : List TableId) (n : ℕ) (feeder : Caller) (clients : List Caller) → AreFreshCallers locks n feeder clients → AreFreshCallers locks (length clients) feeder clients
 counted locks n feeder clients fresh = subst (λ (k : ℕ). AreFreshCallers locks k feeder clients) (sym fresh.long) fresh

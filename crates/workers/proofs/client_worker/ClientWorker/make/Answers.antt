@@ -1,6 +1,5 @@
-use Rattle.workers.proofs.Imports.{rules, arith, ◌+◌, ◌≤◌, ◌≡◌, [], ◌∷◌, ◌++◌, length, subst, sym, ap, ◌∙◌, refl, map-append, length-map, All-append, All-cons, All-nil, DEMUX_NODES, told_entry, response_of, LogEntry, act_of, ToldEntry, call_at, IsAfter, replies, IsGiven, IsLegalAt, log_of}
+use Rattle.workers.proofs.Imports.{rules, arith, ◌+◌, ◌≤◌, ◌≡◌, [], ◌∷◌, ◌++◌, length, subst, sym, ap, ◌∙◌, refl, map-append, length-map, All-append, All-cons, All-nil, DEMUX_NODES, told_entry, response_of, LogEntry, act_of, ToldEntry, call_at, IsAfter, replies, IsGiven, IsLegalAt, log_of, told}
 use Rattle.std.proofs.lemmas.List.{length-append}
-use Rattle.dmx_calls.specs.Entries.{told}
 use Rattle.workers.proofs.Logging.{called_more, past}
 use Rattle.workers.proofs.Working.{brings_played, is_event, logs_one}
 use Rattle.workers.proofs.client_worker.ClientWorker.make.Goals as goal
@@ -15,7 +14,7 @@ returns-clause-works g c may script client given turn works =
     let response : response_of c.in_ok-kept.kept ≡ response_of answer.reply = c.in_ok-kept.ensures.same in
     let items : c.push_reserved.new.self.items ≡ w.log.items ++ entry ∷ [] = search rules in
     let logs = logs_one w.log.items entry c.push_reserved.new.self.items items in
-    let told_act_is = c.in_ok-act.ensures ∙ c.of-asked.ensures in
+    let told_act_is = c.in_ok-act.ensures ∙ c.act-asked.ensures in
     let after : IsAfter client script (replies (log_of w) ++ response_of c.in_ok-kept.kept ∷ []) c.take.new.self =
     subst (λ r. IsAfter client script (replies (log_of w) ++ response_of r ∷ []) c.take.new.self) c.told.ensures (c.take.ensures.after client script (replies (log_of w)) works.after) in
     let act_is : c.in_ok-act.act ≡ act_of (call_at w.core.plays event.want c.args.now) = told_act_is ∙ ap act_of c.in_ok-call.ensures.call in

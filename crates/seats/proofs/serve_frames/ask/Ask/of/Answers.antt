@@ -1,5 +1,5 @@
 -- The numbers that were read are those that the definition names.
-use Rattle.seats.proofs.Imports.{rules, ◌≡◌, ◌≤◌, ℕ, List, ap, ◌∙◌, drop, take, length, arith, take_all, length-drop, field, asked, Ask}
+use Rattle.seats.proofs.Imports.{rules, ◌≡◌, ℕ, List, ap, ◌∙◌, drop, take, length, arith, take_all, length-drop, field, asked, Ask}
 use Rattle.seats.proofs.serve_frames.ask.Ask.of.Goals as goal
 
 behind : (b : List ℕ) → length b ≡ 76 → take 60 (drop 16 b) ≡ drop 16 b
