@@ -239,10 +239,14 @@ static void a_signal_ends_a_wait(void)
 	want(read(one.fd, bytes, 10) < 0 && errno == EINTR, "a read by one without SA_RESTART");
 }
 
-static void *ends(void *pid)
+/* Again and again: one that comes while the handler of another runs, which begins the read again, ends nothing. */
+static void *ends(void *of)
 {
-	pause_for(1000);
-	kill(*(pid_t *)pid, SIGUSR1);
+	pid_t pid = *(pid_t *)of;
+	for (int i = 0; i < 20; i++) {
+		pause_for(i ? 30 : 1000);
+		kill(pid, SIGUSR1);
+	}
 	return NULL;
 }
 
