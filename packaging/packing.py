@@ -324,8 +324,43 @@ def tar(root, path, proof):
     subprocess.run(words, check=True)
 
 
+def see_inside(prefix, names):
+    """Refuses names of files that aren't below a folder: absolute ones, and ones that leave it by `..` or by a link."""
+    top = os.path.join(os.path.realpath(prefix), "")
+    for name in names:
+        folder = os.path.join(os.path.realpath(os.path.join(prefix, os.path.dirname(name))), "")
+        if os.path.isabs(name) or os.path.basename(name) in ("", ".", "..") or not folder.startswith(top):
+            raise Refused(f"{prefix}: {name!r} leads out of it")
+
+
+def installed(prefix):
+    """The names of what was installed below a folder, by its sums. Refused where one is none of a file below it."""
+    path = os.path.join(prefix, DOC, "SHA256SUMS")
+    try:
+        with open(path, encoding="utf-8", errors="surrogateescape") as file:
+            lines = file.read().removesuffix("\n").split("\n")
+    except OSError as fault:
+        raise Refused(f"{prefix}: nothing is installed there: {fault.filename}: {fault.strerror}") from None
+    for number, line in enumerate(lines, 1):
+        if not re.fullmatch(r"[0-9a-f]{64}  .+", line):
+            raise Refused(f"{path}: line {number} is no sum of a file")
+    names = [line[66:] for line in lines]
+    names += [os.path.join(DOC, "SHA256SUMS"), os.path.join("bin", "dvbemu"), os.path.join("bin", "dvbemu-serve")]
+    see_inside(prefix, [*names, os.path.join(LIBRARY, "__pycache__")])
+    for name in names:
+        if os.path.isdir(path := os.path.join(prefix, name)) and not os.path.islink(path):
+            raise Refused(f"{prefix}: {name!r} is a folder")
+    return names
+
+
+def is_empty(path):
+    """Whether this is a folder, and no link to one, with nothing in it."""
+    return os.path.isdir(path) and not os.path.islink(path) and not os.listdir(path)
+
+
 def install(root, prefix):
     """Copies a tree below a folder, in the place of what was installed there."""
+    see_inside(prefix, files_in(root))
     if os.path.exists(os.path.join(prefix, DOC, "SHA256SUMS")):
         remove(prefix)
     shutil.copytree(root, prefix, symlinks=True, dirs_exist_ok=True)
@@ -333,12 +368,7 @@ def install(root, prefix):
 
 def remove(prefix):
     """Removes what was installed below a folder, with what Python has kept of it, and the folders that are empty then."""
-    try:
-        with open(os.path.join(prefix, DOC, "SHA256SUMS"), encoding="utf-8") as file:
-            names = [line.rstrip("\n").split("  ", 1)[1] for line in file]
-    except OSError as fault:
-        raise Refused(f"{prefix}: nothing is installed there: {fault.filename}: {fault.strerror}") from None
-    names += [os.path.join(DOC, "SHA256SUMS"), os.path.join("bin", "dvbemu"), os.path.join("bin", "dvbemu-serve")]
+    names = installed(prefix)
     for folder, _, _ in os.walk(os.path.join(prefix, LIBRARY)):
         shutil.rmtree(os.path.join(folder, "__pycache__"), ignore_errors=True)
     for name in names:
@@ -346,7 +376,7 @@ def remove(prefix):
         if os.path.lexists(path):
             os.remove(path)
     for folder in sorted({os.path.dirname(name) for name in names}, key=len, reverse=True):
-        while folder and os.path.isdir(os.path.join(prefix, folder)) and not os.listdir(os.path.join(prefix, folder)):
+        while folder and is_empty(os.path.join(prefix, folder)):
             os.rmdir(os.path.join(prefix, folder))
             folder = os.path.dirname(folder)
 
