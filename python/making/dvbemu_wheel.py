@@ -2,7 +2,8 @@
 ./python`.
 
 It needs the standard library alone, so that pip fetches nothing for it, and writes into no other folder than the one that it is
-told: that of the module may be one in which nobody may write. What is packed is the module, and of the tools the modules that it
+told: that of the module may be one in which nobody may write. (Python itself keeps what it compiles of this file in __pycache__
+beside it, where it may.) What is packed is the module, and of the tools the modules that it
 takes from tools/lib, beside `python` here and in a package (dvbemu/_tools.py). All bears one time: the same sources make the same
 bytes.
 """
@@ -11,6 +12,7 @@ from __future__ import annotations
 import base64
 import hashlib
 import os
+import sys
 import zipfile
 from typing import Any, Mapping, Optional
 
@@ -41,6 +43,13 @@ class UnsupportedOperation(Exception):
     """A hook that isn't there, as pip calls it."""
 
 
+def see_whole() -> None:
+    """Ends with a line where what the module takes isn't beside its folder."""
+    for path in os.path.join(TOP, "VERSION"), *(os.path.join(TOP, "tools", "lib", name) for name in TOOLS):
+        if not os.path.exists(path):
+            sys.exit(f"dvbemu: {path} is missing: the module is installed from the repository, or from a package's lib/dvbemu/python")
+
+
 def version() -> str:
     """The version, of the file VERSION."""
     with open(os.path.join(TOP, "VERSION"), encoding="utf-8") as file:
@@ -54,6 +63,7 @@ def information() -> dict[str, str]:
 
 def build_wheel(wheel_directory: str, config_settings: Config = None, metadata_directory: Optional[str] = None) -> str:
     """Writes the wheel into a folder, and gives its name."""
+    see_whole()
     module, tools = os.path.join(PYTHON, "dvbemu"), os.path.join(TOP, "tools", "lib")
     names = sorted(name for name in os.listdir(module) if name.endswith((".py", ".typed")))
     files = {f"dvbemu/{name}": bytes_of(os.path.join(module, name)) for name in names}
@@ -62,6 +72,7 @@ def build_wheel(wheel_directory: str, config_settings: Config = None, metadata_d
 
 def build_editable(wheel_directory: str, config_settings: Config = None, metadata_directory: Optional[str] = None) -> str:
     """The same for `pip install -e`: the module stays where it is."""
+    see_whole()
     return written(wheel_directory, {"dvbemu.pth": f"{PYTHON}\n".encode()})
 
 
