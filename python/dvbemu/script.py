@@ -1,12 +1,17 @@
 """Builds scripts by calls that are named as in linux/dvb/dmx.h, a line each (docs/BEHAVIOUR.md, 'The script')."""
 from __future__ import annotations
 
+import enum
+import operator
+import reprlib
+
 from . import _naming
 from .calls import DMX_CHECK_CRC, DMX_IMMEDIATE_START, DMX_IN_FRONTEND, DMX_OUT_TSDEMUX_TAP, Flag, Input, Output, PesType
 
 CLIENTS, PLACES = 8, 16
 # The number of the request DMX_GET_STC, and the bytes of its structure behind the counter's number.
 GET_STC, REST = 0xC0106F32, bytes(12)
+MOST = 2**32 - 1
 
 
 class Script:
@@ -23,6 +28,7 @@ class Script:
     def lines(self, text: str) -> Script:
         """Adds lines as `dvbemu words` takes them: plain ones, and ones with names, as `c0 section demux0 0x10 0 CHECK_CRC
         table_id=0x40`. Raises a ValueError, which names the line and the word, where it can't be read."""
+        _see_text(text, "text")
         try:
             plain = _naming.plain_script(text.encode("utf-8", "surrogateescape")).decode("utf-8", "surrogateescape")
         except _naming.Fault as fault:
@@ -35,11 +41,11 @@ class Script:
 
     def feed(self, packets: int) -> Script:
         """So many packets of the stream pass."""
-        return self._add("feed", _within(packets, 1, 2**32 - 1, "packets"))
+        return self._add("feed", _within(packets, 1, MOST, "packets"))
 
     def tick(self, milliseconds: int) -> Script:
         """So much time passes."""
-        return self._add("tick", _within(milliseconds, 0, 2**32 - 1, "milliseconds"))
+        return self._add("tick", _within(milliseconds, 0, MOST, "milliseconds"))
 
     def client(self, number: int) -> Client:
         """A program, 0 to 7."""
@@ -86,14 +92,16 @@ class Device:
         if fields and (filter or mask or mode):
             raise ValueError("a filter is its bytes, or fields by their names")
         words = [f"{name}={value}" for name, value in fields.items()]
-        self._call("section", _pid(pid), _within(timeout, 0, 2**32 - 1, "timeout"), int(flags), *_filter_words(filter, mask, mode, words))
+        self._call("section", _pid(pid), _within(timeout, 0, MOST, "timeout"), _within(flags, 0, MOST, "flags"),
+                   *_filter_words(filter, mask, mode, words))  # fmt: skip
 
     def set_pes_filter(
         self, pid: int, output: Output = DMX_OUT_TSDEMUX_TAP, *, input: Input = DMX_IN_FRONTEND,
         pes_type: int = PesType.DMX_PES_OTHER, flags: Flag = DMX_IMMEDIATE_START,
     ) -> None:  # fmt: skip
         """DMX_SET_PES_FILTER."""
-        self._call("pes", _pid(pid), input.value, output.value, int(pes_type), int(flags))
+        self._call("pes", _pid(pid), _value(input, DMX_IN_FRONTEND, "input"), _value(output, DMX_OUT_TSDEMUX_TAP, "output"),
+                   _within(pes_type, 0, MOST, "pes_type"), _within(flags, 0, MOST, "flags"))  # fmt: skip
 
     def add_pid(self, pid: int) -> None:
         """DMX_ADD_PID."""
@@ -113,11 +121,11 @@ class Device:
 
     def set_buffer_size(self, size: int) -> None:
         """DMX_SET_BUFFER_SIZE, in bytes."""
-        self._call("size", _within(size, 0, 2**32 - 1, "size"))
+        self._call("size", _within(size, 0, MOST, "size"))
 
     def get_stc(self, number: int = 0) -> None:
         """DMX_GET_STC: its answer is the outcome of this line."""
-        told = _within(number, 0, 2**32 - 1, "a counter").to_bytes(4, "little") + REST
+        told = _within(number, 0, MOST, "a counter").to_bytes(4, "little") + REST
         self._call("ioctl", f"{GET_STC:08x}", told.hex())
 
     def read(self, count: int, waits: bool = False) -> None:
@@ -134,6 +142,7 @@ class Device:
 
     def write(self, data: bytes) -> None:
         """write() to the dvr device, of 1 to 12,032 bytes."""
+        _see_bytes(data, "data")
         if not 1 <= len(data) <= 12032 or self.target != "dvr":
             raise ValueError("1 to 12,032 bytes are written, to the dvr device alone")
         self._call("write", data.hex())
@@ -141,9 +150,34 @@ class Device:
 
 def _within(value: int, least: int, most: int, what: str) -> int:
     """A number that a line takes. Whether the device takes it is told by its reply."""
-    if not least <= value <= most:
-        raise ValueError(f"{what}: {value} isn't from {least} to {most}")
-    return int(value)
+    try:
+        number = operator.index(value)
+    except TypeError:
+        raise _mistyped(what, "a whole number is expected", value) from None
+    if not least <= number <= most:
+        raise ValueError(f"{what}: {number} isn't from {least} to {most}")
+    return number
+
+
+def _mistyped(what: str, expected: str, value: object) -> TypeError:
+    return TypeError(f"{what}: {expected}, got {reprlib.repr(value)}")
+
+
+def _see_text(value: object, what: str) -> None:
+    if not isinstance(value, str):
+        raise _mistyped(what, "a string is expected", value)
+
+
+def _see_bytes(value: object, what: str) -> None:
+    if not isinstance(value, (bytes, bytearray)):
+        raise _mistyped(what, "bytes are expected", value)
+
+
+def _value(value: enum.Enum, like: enum.Enum, what: str) -> str:
+    """The word of an input or an output, of the kind of another."""
+    if not isinstance(value, type(like)):
+        raise _mistyped(what, f"an {type(like).__name__} is expected, as {like.name}", value)
+    return str(value.value)
 
 
 def _pid(value: int) -> int:
@@ -152,6 +186,7 @@ def _pid(value: int) -> int:
 
 def _target(device: str) -> str:
     """A device as a script names it."""
+    _see_text(device, "device")
     try:
         target: str = _naming.plain_target(device)
     except _naming.Fault as fault:
@@ -163,6 +198,8 @@ def _target(device: str) -> str:
 
 def _filter_words(filter: bytes, mask: bytes, mode: bytes, fields: list[str]) -> list[str]:
     """The words of a filter: of its bytes those that aren't 0 in all three."""
+    for part, what in (filter, "filter"), (mask, "mask"), (mode, "mode"):
+        _see_bytes(part, what)
     if max(len(filter), len(mask), len(mode)) > PLACES:
         raise ValueError("a filter has at most 16 bytes")
     if fields:
