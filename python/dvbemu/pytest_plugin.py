@@ -21,7 +21,7 @@ from .program import Failed
 from .report import Report
 
 ADAPTER = pytest.StashKey[Adapter]()
-# The most lines of a report's sentences that are shown; the file has all.
+# The most lines of a report's sentences that are shown in front of its hints, which are shown whole; the file has all.
 SHOWN = 80
 # The longest name of a file that is made of a test's.
 LONGEST = 200
@@ -84,6 +84,8 @@ def kept(adapter: Adapter, path: str) -> str:
 def kept_one(report: Report, path: str) -> str:
     """Keeps a report, and says in sentences what it has."""
     report.save(path)
-    lines = report.explain().rstrip("\n").split("\n")
-    left = [f".. {len(lines) - SHOWN} lines more: dvbemu explain {path}"] if len(lines) > SHOWN else []
-    return "\n".join([f"The report is kept: {path}", *lines[:SHOWN], *left])
+    told, head, hints = report.explain().rstrip("\n").partition("\n\nHints\n")
+    lines = told.split("\n")
+    left = len(lines) - SHOWN
+    cut = [f".. {left} line{'s' if left > 1 else ''} more: dvbemu explain {path}"] if left > 0 else []
+    return "\n".join([f"The report is kept: {path}", *lines[:SHOWN], *cut]) + head + hints
