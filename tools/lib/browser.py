@@ -25,9 +25,9 @@ class Browser:
         self.folder = tempfile.TemporaryDirectory()
         theirs, self.out = os.pipe()
         self.back, given = os.pipe()
-        words = " ".join([found(), *WORDS, f"--user-data-dir={self.folder.name}", "about:blank"])
-        self.process = subprocess.Popen(
-            ["sh", "-c", f"exec {words} 3<&{theirs} 4>&{given}"], pass_fds=(theirs, given), stderr=subprocess.DEVNULL, stdout=subprocess.DEVNULL)
+        words = [found(), *WORDS, f"--user-data-dir={self.folder.name}", "about:blank"]
+        self.process = subprocess.Popen(["sh", "-c", f'exec "$@" 3<&{theirs} 4>&{given}', "sh", *words], pass_fds=(theirs, given),
+                                        stderr=subprocess.DEVNULL, stdout=subprocess.DEVNULL)  # fmt: skip
         os.close(theirs)
         os.close(given)
         self.number, self.held, self.told, self.session = 0, b"", [], None
