@@ -132,10 +132,6 @@ class Story:
         """The line of the command that made this entry's call."""
         return self.clients[int(entry.who[1])].line_of(entry.step)
 
-    def client_at(self, line):
-        """The client whose command stands at this line."""
-        return next((number for number, client in self.clients.items() if line in client.lines), None)
-
     def look_at_skipped(self):
         """Notes that so many bytes were skipped for each packet as where packets take up another number of bytes, or else that the bytes
         seem to be no packets; tells whether one of these is so."""
