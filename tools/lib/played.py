@@ -11,8 +11,9 @@ sys.path.append(os.path.join(os.path.dirname(os.path.realpath(__file__)), "..", 
 
 import second  # noqa: E402
 
-# How many bytes a packet of a recording takes up, and how many of these stand in front of it (a time stamp of .m2ts).
-FORMS = (188, 0), (204, 0), (192, 4)
+# How many bytes a packet of a recording takes up, and how many of these stand in front of it (a time stamp of .m2ts); and how many packets
+# show that.
+FORMS, SHOWN, SYNC = ((188, 0), (204, 0), (192, 4)), 5, b"\x47"
 
 
 class NotPlayed(Exception):
@@ -34,16 +35,30 @@ def of_session(stream, head, counts):
     raise NotPlayed(f"no session of this report: {difference(counted(packets), len(packets), head[0], counts)}")
 
 
-def of_recording(stream, head, counts):
+def cuts_of(recording):
+    """The packets of a recording, for each number of bytes that they seem to take up."""
+    for size, ahead in FORMS:
+        for at in range(ahead, size + ahead):
+            syncs = recording[at : at + SHOWN * size : size]
+            if syncs and syncs == SYNC * len(syncs):
+                yield second.cut(recording[at:], size)[0]
+                break
+
+
+def is_recording(given):
+    """Whether a file seems to be a recording, and no session."""
+    return given[:1] == SYNC or given[4 : 5 + 192 : 192] == SYNC * 2
+
+
+def of_recording(recording, head, counts):
     """The packets that were played of a recording: it is repeated where it is shorter, and cut where it is longer."""
-    found = [second.cut(stream[ahead:], size)[0] for size, ahead in FORMS]
-    for packets in found:
-        if packets and played_counts(packets, head[0]) == counts:
+    told = "it has no packet"
+    for packets in filter(None, cuts_of(recording)):
+        mine = played_counts(packets, head[0])
+        if mine == counts:
             return (packets * (head[0] // len(packets) + 1))[: head[0]]
-    if not found[0]:
-        raise NotPlayed("no recording of this report: it has no packet")
-    mine, other = played_counts(found[0], head[0]), sum(counts.values())
-    raise NotPlayed(f"no recording of this report: {difference(mine, head[0], other, counts)}")
+        told = difference(mine, head[0], sum(counts.values()), counts)
+    raise NotPlayed(f"no recording of this report: {told}")
 
 
 def played_counts(packets, number):
