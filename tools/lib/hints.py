@@ -27,6 +27,9 @@ RULES = {
     ),
     "dropped": ("What is dropped", "A set call, Start, Close and SetSize to another size drop what is unread."),
     "busy": ("Refusals", "the node is Free, or the caller isn't its owner."),
+    "not open": ("Refusals", "the node is Free, or the caller isn't its owner."),
+    "large pid": ("Refusals", "a PID above 0x1FFF in SetFilter, above 0x2000 in SetPes, AddPid and RemovePid"),
+    "no tap": ("The dvr node", "Its items are the packets of the frontend that pass while it goes on and that a tap names at that moment"),
     "free tap": ("The dvr node", "A capture begins with each accepted Open and with each SetSize to another size"),
     "read of ts_tap": ("Items of a PES filter", "none: the packet goes to the dvr node, below"),
     "part": ("Read", "So a read of a section filter gives one section or a part of one"),
@@ -50,7 +53,11 @@ def size_words(stumble):
     if stumble.kind == "larger":
         item = f"item {facts['item']} has {many(facts['need'], 'byte')}, and the buffer size is {facts['size']}"
         return f"an Overflow that no reading in time avoids, only a greater size: {item}"
-    held = f"; one of {facts['wanted']} would have held what came" if 0 < facts["wanted"] <= LARGEST_SIZE else ""
+    what = "what came" if facts["times"] == 1 else f"all that came, at {facts['times']:,} Overflows"
+    held = f"; one of {facts['wanted']} would have held {what}" if 0 < facts["wanted"] <= LARGEST_SIZE else ""
+    if held and facts["batch"]:
+        held += f"; a batch of up to {facts['batch']} packets passes at once, and no client reads in between" + (
+            ": set that size" if facts["served"] else ": set that size, or try `--batch 1`")  # fmt: skip
     if stumble.kind == "first size":
         given = f"which is the one that Open gives; SetSize takes others up to {LARGEST_SIZE:,}"
         return f"an Overflow at the buffer size {facts['size']}, {given}{held}"
@@ -110,7 +117,10 @@ def nothing_words(stumble):
     """The words of the stumble over a section filter that selects nothing."""
     facts, act = stumble.facts, stumble.facts["act"]
     count = many(facts["most"], "packet") if facts["least"] == facts["most"] else f"at least {many(facts['least'], 'packet')}"
-    shown = f"{count} of {pids_text([facts['pid']])} passed while this filter ran, and it selected no section"
+    of = pids_text([facts["pid"]])
+    if not facts["least"]:
+        count, of = f"about {many(facts['about'], 'packet')}", f"{of}, by their share of the stream,"
+    shown = f"{count} of {of} passed while this filter ran, and it selected no section"
     asked = [place for place, (_, mask, _) in act["bytes"].items() if mask]
     why = [f"its filter byte{'s' * (len(asked) > 1)} {joined(asked)}"] if asked else []
     why += ["flag 1, by which sections with a wrong CRC_32 are left out"] if act["flags"] & CRC else []
@@ -151,6 +161,16 @@ def words(stumble):
         return f"{NAMES[facts['act']]} drops {many(facts['bytes'], 'byte')} that the client hadn't read"
     if stumble.kind == "busy":
         return f"EBADF, since the Open in line {facts['opened']} was answered Busy and the client calls the node all the same"
+    if stumble.kind == "not open":
+        return "EBADF, since the client calls the node before it has opened it"
+    if stumble.kind == "large pid":
+        most, of = (8191, "13 bits") if facts["act"] == "section" else (8192, "which names every packet")
+        return f"EINVAL, since PID {facts['pid']} is above {most} ({of}); {NAMES[facts['act']]} sets no filter"
+    if stumble.kind == "no tap":
+        return "reads of the dvr node find nothing, since no filter with the output TS_TAP runs: set one on demux0 and leave it open meanwhile"
+    if stumble.kind == "nobody":
+        return ("No program opened a device. One that is linked statically, or is written in Go, makes its system calls itself, and passes the "
+                "devices of `serve` by: link it with the C library as a shared one, and let it open them by that (in Go by cgo)")
     if stumble.kind == "free tap":
         passed = ("" if facts["least"] == facts["most"] else "up to ") + many(facts["most"], "packet")
         tap = f"the tap of {node_name(facts['tapped'])} is attached while the dvr node is Free"
@@ -185,7 +205,7 @@ def words(stumble):
 def hint_text(stumble):
     """A hint in words, without its rule."""
     if stumble.client is None:
-        return f"The stream: {words(stumble)}."
+        return f"{words(stumble)}." if stumble.kind == "nobody" else f"The stream: {words(stumble)}."
     where = f"Client {stumble.client}, {lines_text(stumble.lines)}"
     if stumble.node is not None:
         where += f", {node_text(stumble.node)}"
@@ -205,4 +225,4 @@ def rule_texts(stumble):
         kinds = ["late on dvr"]
     if stumble.kind == "timed out":
         kinds.append("timed out in a pass")
-    return [f"Rule: '{heading}': \"{quoted}\"" for heading, quoted in (RULES[kind] for kind in kinds)]
+    return [f"Rule: '{heading}': \"{quoted}\"" for heading, quoted in (RULES[kind] for kind in kinds if kind in RULES)]
