@@ -68,9 +68,10 @@ class Capture(Answered):
     the stream had ended when it began, how many bytes and items were answered, and where in a section the reader stands.
     `clear` is how much of the stream had passed when all that had come was read, `clear_passes` in how many batches, and `early` has the
     lines of the reads that found nothing before the first packet passed; it is None once something else is found, or a later read is made.
-    `held` is how many bytes its reads would have given at least, had no Overflow come, `over` the Overflow that came last, and `known` how
-    many bytes had come when so much of the stream had passed, where a reply last told that; of a dvr
-    node's capture `tapped` says whether a tap was attached, and `dry` has the lines of the reads that found nothing."""
+    `held` is how many bytes its reads would have given at least, had no Overflow come, `over` the Overflow that came last, `known` how many
+    bytes had come when so much of the stream had passed, where a reply last told that, and `loops` says that the last read wasn't the last
+    call of its command. `lengths` has those of the sections that were read, the last one at the end. Of a dvr node's capture `tapped` says
+    whether a tap was attached, and `dry` has the lines of the reads that found nothing."""
 
     def __init__(self, client, line, passed, passes, is_late):
         super().__init__()

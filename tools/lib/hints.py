@@ -46,6 +46,17 @@ RULES = {
     "unbound": ("What a client's commands do", "A command other than `open` on a slot that is bound to no node makes no call"),
 }
 
+# What is shown of a stumble where that is always the same.
+PLAIN = {
+    "never started": "the filter that is set there is never started",
+    "not open": "EBADF, since the client calls the node before it has opened it",
+    "no tap": "reads of the dvr node find nothing, since no filter with the output TS_TAP runs: set one on demux0 and leave it open meanwhile",
+    "read of ts_tap": "a read finds nothing on a node whose filter has the output TS_TAP",
+    "unbound": "the command names a slot that no open has bound, so it makes no call",
+    "nobody": "No program opened a device. One that is linked statically, or is written in Go, makes its system calls itself, and passes the "
+    "devices of `serve` by: link it with the C library as a shared one, and let it open them by that (in Go by cgo)",
+}
+
 
 def size_words(stumble):
     """The words of the stumbles over a buffer's size."""
@@ -147,10 +158,10 @@ def late_words(stumble):
 def words(stumble):
     """What the report shows of a stumble."""
     facts = stumble.facts
+    if stumble.kind in PLAIN:
+        return PLAIN[stumble.kind]
     if stumble.kind == "no capture":
         return f"a read gives no bytes: {facts['why']}"
-    if stumble.kind == "never started":
-        return "the filter that is set there is never started"
     if stumble.kind == "timed out":
         shown = f"though the stream has {many(facts['packets'], 'packet')} of its PID, {pid_text(facts['pid'])}"
         why = "they came before the capture or too late, or brought no section that is selected"
@@ -161,16 +172,9 @@ def words(stumble):
         return f"{NAMES[facts['act']]} drops {many(facts['bytes'], 'byte')} that the client hadn't read"
     if stumble.kind == "busy":
         return f"EBADF, since the Open in line {facts['opened']} was answered Busy and the client calls the node all the same"
-    if stumble.kind == "not open":
-        return "EBADF, since the client calls the node before it has opened it"
     if stumble.kind == "large pid":
         most, of = (8191, "13 bits") if facts["act"] == "section" else (8192, "which names every packet")
         return f"EINVAL, since PID {facts['pid']} is above {most} ({of}); {NAMES[facts['act']]} sets no filter"
-    if stumble.kind == "no tap":
-        return "reads of the dvr node find nothing, since no filter with the output TS_TAP runs: set one on demux0 and leave it open meanwhile"
-    if stumble.kind == "nobody":
-        return ("No program opened a device. One that is linked statically, or is written in Go, makes its system calls itself, and passes the "
-                "devices of `serve` by: link it with the C library as a shared one, and let it open them by that (in Go by cgo)")
     if stumble.kind == "free tap":
         passed = ("" if facts["least"] == facts["most"] else "up to ") + many(facts["most"], "packet")
         tap = f"the tap of {node_name(facts['tapped'])} is attached while the dvr node is Free"
@@ -178,8 +182,6 @@ def words(stumble):
     if stumble.kind == "part":
         of = f"of the {many(facts['of'], 'byte')} of a section" if facts["of"] else "of a section"
         return f"a read of {many(facts['count'], 'byte')} gives a part {of}; the next read goes on behind it"
-    if stumble.kind == "read of ts_tap":
-        return "a read finds nothing on a node whose filter has the output TS_TAP"
     if stumble.kind in ("late", "late in run"):
         return late_words(stumble)
     if stumble.kind == "selects nothing":
@@ -197,8 +199,6 @@ def words(stumble):
         return f"{of}: what stands behind the line `stream` {what}"
     if stumble.kind == "other size":
         return size_of_packets_words(facts)
-    if stumble.kind == "unbound":
-        return "the command names a slot that no open has bound, so it makes no call"
     return pid_words(stumble)
 
 

@@ -172,8 +172,8 @@ class Offered(Walk):
     def end_filter(self):
         """The filter's time is over."""
         self.all_places.append(self.places)
-        passed = any(self.all_places)
-        if self.filter and self.ever and self.filter.get("input") != "dvr" and not self.gave and not (passed and self.filter["name"] == "pes"):
+        is_told = self.filter and (self.filter["name"] == "section" or self.filter["input"] != "dvr" and not any(self.all_places))
+        if is_told and self.ever and not self.gave:
             self.used.append(Used(self.client, self.line, self.number, self.filter, self.all_places, self.ever))
         self.filter, self.places, self.all_places = None, [], []
 
