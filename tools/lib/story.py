@@ -7,7 +7,7 @@ from captures import Capture, Filter
 from clients import PACKET, Call, Client, Got, Waits, lost_by
 from fields import as_hex, is_pes_head
 from refusals import ALL_PACKETS, LARGEST_PID, refusal
-from reports import DVR, act_of, first_moment, reply_of
+from reports import DVR, act_of, first_moment, moment, reply_of
 from tables import carried_by
 from walk import Walk
 
@@ -82,7 +82,8 @@ class Stumble:
 def is_served(report):
     """Whether a report seems to be one of `serve`, where each client counts its commands from 1, and each call has the machine's time."""
     counted = (outcome.line == number for outcomes in report.clients for number, outcome in enumerate(outcomes, 1))
-    return bool(report.clients) and first_moment(report) > 0 and all(counted)
+    moments = (moment(entry) for entries in report.nodes.values() for entry in entries)
+    return bool(report.clients) and all(counted) and next((at for at in moments if at is not None), 0) > 0
 
 
 def joints(report):
