@@ -2,6 +2,8 @@
 from fields import streams_in
 from walk import KEEP, ONESHOT, Answered
 
+PACKET = 188
+
 
 class Offered:
     """Stretches of the stream's packets that were surely offered to a filter's captures while it had a PID."""
@@ -62,17 +64,45 @@ class Filter:
 
 
 class Capture(Answered):
-    """What is known of a capture: whose it is, the line that began it, how much of the stream had passed then, whether the stream had ended
-    when it began, how many bytes and items were answered, and where in a section the reader stands.
-    `clear` is how much of the stream had passed when all that had come was read, and `early` has the lines of the reads that found nothing
-    before the first packet passed; it is None once something else is found, or a later read is made."""
+    """What is known of a capture: whose it is, the line that began it, how much of the stream had passed then, in how many batches, whether
+    the stream had ended when it began, how many bytes and items were answered, and where in a section the reader stands.
+    `clear` is how much of the stream had passed when all that had come was read, `clear_passes` in how many batches, and `early` has the
+    lines of the reads that found nothing before the first packet passed; it is None once something else is found, or a later read is made.
+    `held` is how many bytes its reads would have given at least, had no Overflow come, `over` the Overflow that came last, `known` how many
+    bytes had come when so much of the stream had passed, where a reply last told that, and `loops` says that the last read wasn't the last
+    call of its command. `lengths` has those of the sections that were read, the last one at the end. Of a dvr node's capture `tapped` says
+    whether a tap was attached, and `dry` has the lines of the reads that found nothing."""
 
-    def __init__(self, client, line, passed, is_late):
+    def __init__(self, client, line, passed, passes, is_late):
         super().__init__()
         self.client, self.line, self.begin, self.is_late = client, line, passed, is_late
         self.items, self.polled = 0, None
-        self.have, self.digits, self.tail = 0, "", ""
-        self.clear, self.early = passed, []
+        self.have, self.digits, self.tail, self.lengths = 0, "", "", {}
+        self.clear, self.clear_passes, self.early = passed, passes, []
+        self.held, self.over, self.known, self.loops, self.tapped, self.dry = 0, None, (0, passed), False, False, []
+
+    def hold(self, least, most, count):
+        """Takes a read of at most so many bytes, of a capture to which at least and at most so many had come: tells how many a buffer has to
+        hold that no Overflow comes to this read."""
+        wanted = max(0, most - self.held)
+        self.held = min(least, self.held + count)
+        return wanted
+
+    def most(self, passed, size, is_section):
+        """How many bytes may have come by now, where so much of the stream has passed, and no Overflow is told: no more than the buffer holds,
+        and a packet brings no more than its own bytes, but where it completes a section."""
+        unread = self.answered + size - 1
+        arrived, at = self.known
+        return unread if is_section else min(unread, arrived + PACKET * (passed - at))
+
+    def repeats(self, length):
+        """How many sections are dropped with so many bytes, where these are as long as the ones that were read and come again in their order;
+        0 where they aren't."""
+        lengths, count = list(self.lengths.values()), 0
+        while lengths and not self.have and length > 0:
+            length -= lengths[count % len(lengths)]
+            count += 1
+        return count if length == 0 else 0
 
     def look(self, line, passed, found, is_read):
         """Takes a read or a poll, which found something or nothing, when so much of the stream had passed."""
@@ -90,6 +120,9 @@ class Capture(Answered):
         whole = length is not None and len(data) >= length
         self.have, self.digits = (0, "") if whole else (len(data), self.digits)
         self.items += whole
+        if whole:
+            self.lengths.pop(data, None)
+            self.lengths[data] = length
         return length, data, whole
 
     def take_payload(self, digits):

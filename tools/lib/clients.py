@@ -11,14 +11,14 @@ PACKET = 188
 
 class Call:
     """A call of a client: its node, its entry, the names of its act and its reply, a reason that the entry hasn't, what is there of the
-    section that it begins or ends to give, whether that is all of it, the stream_ids of the PES packets that begin in its bytes, and what
-    is known of what was lost where it is answered an Overflow."""
+    section that it begins or ends to give, whether that is all of it, the stream_ids of the PES packets that begin in its bytes, what
+    is known of what was lost where it is answered an Overflow, and how many sections it drops that are as long as those read before."""
 
-    __slots__ = ("node", "entry", "act", "reply", "reason", "section", "whole", "streams", "lost")
+    __slots__ = ("node", "entry", "act", "reply", "reason", "section", "whole", "streams", "lost", "repeats")
 
     def __init__(self, node, entry):
         self.node, self.entry, self.reason, self.streams, self.lost = node, entry, "", (), None
-        self.section, self.whole = b"", False
+        self.section, self.whole, self.repeats = b"", False, 0
         self.act = entry.act.partition(" ")[0]
         self.reply = entry.reply.partition(" ")[0]
 
@@ -92,7 +92,7 @@ class Client:
         self.number, self.outcomes = number, outcomes
         calling = [outcome for outcome in outcomes if outcome.first < outcome.after]
         self.firsts, self.lines = [outcome.first for outcome in calling], [outcome.line for outcome in calling]
-        self.begins = set(self.firsts)
+        self.afters, self.begins = [outcome.after for outcome in calling], set(self.firsts)
         self.calls, self.got, self.waits = [], {}, {}
         self.lost, self.timed, self.refused = [], [], []
 
@@ -100,3 +100,8 @@ class Client:
         """The line of the command that made this call, or 0 where no command did."""
         place = bisect_right(self.firsts, step) - 1
         return self.lines[place] if place >= 0 else 0
+
+    def is_last(self, step):
+        """Whether this call is the last one of its command."""
+        place = bisect_right(self.firsts, step) - 1
+        return place < 0 or self.afters[place] == step + 1

@@ -27,6 +27,9 @@ RULES = {
     ),
     "dropped": ("What is dropped", "A set call, Start, Close and SetSize to another size drop what is unread."),
     "busy": ("Refusals", "the node is Free, or the caller isn't its owner."),
+    "not open": ("Refusals", "the node is Free, or the caller isn't its owner."),
+    "large pid": ("Refusals", "a PID above 0x1FFF in SetFilter, above 0x2000 in SetPes, AddPid and RemovePid"),
+    "no tap": ("The dvr node", "Its items are the packets of the frontend that pass while it goes on and that a tap names at that moment"),
     "free tap": ("The dvr node", "A capture begins with each accepted Open and with each SetSize to another size"),
     "read of ts_tap": ("Items of a PES filter", "none: the packet goes to the dvr node, below"),
     "part": ("Read", "So a read of a section filter gives one section or a part of one"),
@@ -43,6 +46,17 @@ RULES = {
     "unbound": ("What a client's commands do", "A command other than `open` on a slot that is bound to no node makes no call"),
 }
 
+# What is shown of a stumble where that is always the same.
+PLAIN = {
+    "never started": "the filter that is set there is never started",
+    "not open": "EBADF, since the client calls the node before it has opened it",
+    "no tap": "reads of the dvr node find nothing, since no filter with the output TS_TAP runs: set one on demux0 and leave it open meanwhile",
+    "read of ts_tap": "a read finds nothing on a node whose filter has the output TS_TAP",
+    "unbound": "the command names a slot that no open has bound, so it makes no call",
+    "nobody": "No program opened a device. One that is linked statically, or is written in Go, makes its system calls itself, and passes the "
+    "devices of `serve` by: link it with the C library as a shared one, and let it open them by that (in Go by cgo)",
+}
+
 
 def size_words(stumble):
     """The words of the stumbles over a buffer's size."""
@@ -50,7 +64,11 @@ def size_words(stumble):
     if stumble.kind == "larger":
         item = f"item {facts['item']} has {many(facts['need'], 'byte')}, and the buffer size is {facts['size']}"
         return f"an Overflow that no reading in time avoids, only a greater size: {item}"
-    held = f"; one of {facts['wanted']} would have held what came" if 0 < facts["wanted"] <= LARGEST_SIZE else ""
+    what = "what came" if facts["times"] == 1 else f"all that came, at {facts['times']:,} Overflows"
+    held = f"; one of {facts['wanted']} would have held {what}" if 0 < facts["wanted"] <= LARGEST_SIZE else ""
+    if held and facts["batch"]:
+        held += f"; a batch of up to {facts['batch']} packets passes at once, and no client reads in between" + (
+            ": set that size" if facts["served"] else ": set that size, or try `--batch 1`")  # fmt: skip
     if stumble.kind == "first size":
         given = f"which is the one that Open gives; SetSize takes others up to {LARGEST_SIZE:,}"
         return f"an Overflow at the buffer size {facts['size']}, {given}{held}"
@@ -110,7 +128,10 @@ def nothing_words(stumble):
     """The words of the stumble over a section filter that selects nothing."""
     facts, act = stumble.facts, stumble.facts["act"]
     count = many(facts["most"], "packet") if facts["least"] == facts["most"] else f"at least {many(facts['least'], 'packet')}"
-    shown = f"{count} of {pids_text([facts['pid']])} passed while this filter ran, and it selected no section"
+    of = pids_text([facts["pid"]])
+    if not facts["least"]:
+        count, of = f"about {many(facts['about'], 'packet')}", f"{of}, by their share of the stream,"
+    shown = f"{count} of {of} passed while this filter ran, and it selected no section"
     asked = [place for place, (_, mask, _) in act["bytes"].items() if mask]
     why = [f"its filter byte{'s' * (len(asked) > 1)} {joined(asked)}"] if asked else []
     why += ["flag 1, by which sections with a wrong CRC_32 are left out"] if act["flags"] & CRC else []
@@ -137,10 +158,10 @@ def late_words(stumble):
 def words(stumble):
     """What the report shows of a stumble."""
     facts = stumble.facts
+    if stumble.kind in PLAIN:
+        return PLAIN[stumble.kind]
     if stumble.kind == "no capture":
         return f"a read gives no bytes: {facts['why']}"
-    if stumble.kind == "never started":
-        return "the filter that is set there is never started"
     if stumble.kind == "timed out":
         shown = f"though the stream has {many(facts['packets'], 'packet')} of its PID, {pid_text(facts['pid'])}"
         why = "they came before the capture or too late, or brought no section that is selected"
@@ -151,6 +172,9 @@ def words(stumble):
         return f"{NAMES[facts['act']]} drops {many(facts['bytes'], 'byte')} that the client hadn't read"
     if stumble.kind == "busy":
         return f"EBADF, since the Open in line {facts['opened']} was answered Busy and the client calls the node all the same"
+    if stumble.kind == "large pid":
+        most, of = (8191, "13 bits") if facts["act"] == "section" else (8192, "which names every packet")
+        return f"EINVAL, since PID {facts['pid']} is above {most} ({of}); {NAMES[facts['act']]} sets no filter"
     if stumble.kind == "free tap":
         passed = ("" if facts["least"] == facts["most"] else "up to ") + many(facts["most"], "packet")
         tap = f"the tap of {node_name(facts['tapped'])} is attached while the dvr node is Free"
@@ -158,8 +182,6 @@ def words(stumble):
     if stumble.kind == "part":
         of = f"of the {many(facts['of'], 'byte')} of a section" if facts["of"] else "of a section"
         return f"a read of {many(facts['count'], 'byte')} gives a part {of}; the next read goes on behind it"
-    if stumble.kind == "read of ts_tap":
-        return "a read finds nothing on a node whose filter has the output TS_TAP"
     if stumble.kind in ("late", "late in run"):
         return late_words(stumble)
     if stumble.kind == "selects nothing":
@@ -177,15 +199,13 @@ def words(stumble):
         return f"{of}: what stands behind the line `stream` {what}"
     if stumble.kind == "other size":
         return size_of_packets_words(facts)
-    if stumble.kind == "unbound":
-        return "the command names a slot that no open has bound, so it makes no call"
     return pid_words(stumble)
 
 
 def hint_text(stumble):
     """A hint in words, without its rule."""
     if stumble.client is None:
-        return f"The stream: {words(stumble)}."
+        return f"{words(stumble)}." if stumble.kind == "nobody" else f"The stream: {words(stumble)}."
     where = f"Client {stumble.client}, {lines_text(stumble.lines)}"
     if stumble.node is not None:
         where += f", {node_text(stumble.node)}"
@@ -205,4 +225,4 @@ def rule_texts(stumble):
         kinds = ["late on dvr"]
     if stumble.kind == "timed out":
         kinds.append("timed out in a pass")
-    return [f"Rule: '{heading}': \"{quoted}\"" for heading, quoted in (RULES[kind] for kind in kinds)]
+    return [f"Rule: '{heading}': \"{quoted}\"" for heading, quoted in (RULES[kind] for kind in kinds if kind in RULES)]

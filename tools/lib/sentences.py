@@ -140,8 +140,9 @@ def ready_text(reply):
     """A Ready in words."""
     if reply["error"] != "none":
         return "Ready, " + ("an Overflow" if reply["error"] == "overflow" else "a TimedOut") + " is to be told"
-    text = "Ready, bytes can be read" if reply["readable"] else "Ready, nothing can be read"
-    return text + ("; the stream has ended" if reply["ended"] else "")
+    if not reply["readable"]:
+        return "nothing, and the stream has ended" if reply["ended"] else "nothing yet"
+    return "Ready, bytes can be read" + ("; the stream has ended" if reply["ended"] else "")
 
 
 def section_words(call):
@@ -371,7 +372,8 @@ def lost_text(line, call, span):
     reply, length = reply_of(call.entry), many(span[1] - span[0], "byte")
     head = f"line {line}, {node_text(call.node)}: {length}, {span[0]}..{span[1]} of the capture, "
     if call.reply != "overflow":
-        return head + f"unread when {NAMES.get(call.act, call.act)} dropped them"
+        unread = f"unread when {NAMES.get(call.act, call.act)} dropped them"
+        return head + unread + (f", as long as {many(call.repeats, 'section')} of those read before" if call.repeats else "")
     room = f"item {reply['item']}, counted from 0, needs {many(reply['need'], 'byte')} and found room for {reply['room']:,}"
     buffer = f"in a buffer of size {call.reason}, which holds {int(call.reason) - 1}"
     if call.lost.kept:

@@ -6,12 +6,14 @@ accepted so far are kept beside them.
 from captures import Capture, Filter
 from clients import PACKET, Call, Client, Got, Waits, lost_by
 from fields import as_hex, is_pes_head
-from refusals import ALL_PACKETS, refusal
-from reports import DVR, act_of, first_moment, reply_of
+from refusals import ALL_PACKETS, LARGEST_PID, refusal
+from reports import DVR, act_of, first_moment, moment, reply_of
 from tables import carried_by
 from walk import Walk
 
 MOST_READ_AS = 4
+# From how many packets on that may have passed a filter it is told that it selected nothing.
+LEAST_PASSED = 3
 
 
 class Node(Walk):
@@ -20,16 +22,17 @@ class Node(Walk):
     def __init__(self, number, story):
         super().__init__(number)
         self.story, self.ended_by = story, ""
-        self.passed, self.passes, self.calls, self.end = 0, 0, 0, None
-        self.waiting, self.busy = {}, {}
-        self.taps, self.free_packets = {}, 0
+        self.passed, self.passes, self.batch, self.calls, self.end = 0, 0, 0, 0, None
+        self.waiting, self.busy, self.openers = {}, {}, set()
+        self.taps, self.attached, self.untapped, self.free_packets = {}, {}, [], 0
 
     def begin_capture(self, entry):
         """A capture begins; on a demux node the filter runs from here on."""
         is_late = self.end is not None and not (self.filter and self.filter.is_played)
         if self.filter:
             self.filter.started = True
-        self.capture = Capture(int(entry.who[1]), self.story.line_of(entry), self.passed, is_late)
+        self.capture = Capture(int(entry.who[1]), self.story.line_of(entry), self.passed, self.passes, is_late)
+        self.capture.tapped = bool(self.attached)
         if is_late:
             self.story.note_late(self, entry)
 
@@ -76,6 +79,23 @@ class Stumble:
 # ------ the nodes gone through
 
 
+def is_served(report):
+    """Whether a report seems to be one of `serve`, where each client counts its commands from 1, and each call has the machine's time."""
+    counted = (outcome.line == number for outcomes in report.clients for number, outcome in enumerate(outcomes, 1))
+    moments = (moment(entry) for entries in report.nodes.values() for entry in entries)
+    return bool(report.clients) and all(counted) and next((at for at in moments if at is not None), 0) > 0
+
+
+def joints(report):
+    """How often a recording that is played in a loop has begun again, where the breaks of the stream seem to be just these: most PIDs with a
+    break have as many, none more, and at least two; else 0. (A PID that hasn't come since the last time has one less, and one whose counter
+    goes on has none.)"""
+    breaks = [row.breaks for row in report.pids if row.breaks]
+    most = max(breaks, default=0)
+    is_alike = all(count >= most - 1 for count in breaks) and 2 * breaks.count(most) > len(breaks) > 1
+    return most if is_alike and is_served(report) else 0
+
+
 def other_size(packets, skipped):
     """What the packets of a stream seem to take up, where it was read by another number; None where they don't. Of packets of 204 bytes 16
     are skipped each, and 4 of those of 192, but where one of these is a sync byte; of packets of 188 bytes that are read as 204, what
@@ -104,7 +124,7 @@ class Story:
         self.clients = {number: Client(number, outcomes) for number, outcomes in enumerate(report.clients)}
         self.packets = {row.pid: row for row in report.pids}
         self.stumbles = {}
-        self.first_moment = first_moment(report)
+        self.first_moment, self.is_served, self.joints = first_moment(report), is_served(report), joints(report)
         self.is_misread = self.look_at_skipped()
         for number, entries in sorted(report.nodes.items()):
             node = Node(number, self)
@@ -114,10 +134,13 @@ class Story:
             self.leave_filter(node)
             for tapped in list(node.taps):
                 self.leave_tap(node, tapped)
+            self.tell_untapped(node)
         for client in self.clients.values():
             client.calls.sort(key=lambda call: call.entry.step)
             self.look_at_slots(client)
             self.look_at_writes(client)
+        if report.clients and not any(report.clients):
+            self.stumble("nobody", None, None, None)
         self.tell_carried()
 
     def tell_carried(self):
@@ -131,10 +154,6 @@ class Story:
     def line_of(self, entry):
         """The line of the command that made this entry's call."""
         return self.clients[int(entry.who[1])].line_of(entry.step)
-
-    def client_at(self, line):
-        """The client whose command stands at this line."""
-        return next((number for number, client in self.clients.items() if line in client.lines), None)
 
     def look_at_skipped(self):
         """Notes that so many bytes were skipped for each packet as where packets take up another number of bytes, or else that the bytes
@@ -164,13 +183,14 @@ class Story:
                     call.reason = "as a write does that completes no packet"
 
     def stumble(self, kind, client, node, line, subject=None, **facts):
-        """Notes that a client stumbles at this line, on a node or none; what is the same but for the line is gathered."""
+        """Notes that a client stumbles at this line, on a node or none, and gives the note; what is the same but for the line is gathered."""
         number = None if node is None else node.number
         key = (kind, client, number, subject)
         if key not in self.stumbles:
             self.stumbles[key] = Stumble(kind, client, number, facts)
         if line not in self.stumbles[key].lines[-1:]:
             self.stumbles[key].lines.append(line)
+        return self.stumbles[key]
 
     def take(self, node, entry):
         """Goes over one entry of a node."""
@@ -205,7 +225,7 @@ class Story:
             return
         act = act_of(entry)
         node.passes += 1
-        node.passed = act["first"] + act["count"]
+        node.passed, node.batch = act["first"] + act["count"], act["count"]
         if node.taps and node.owner is None:
             node.free_packets += act["count"]
         if node.runs and node.capture and not node.filter.is_played:
@@ -239,19 +259,27 @@ class Story:
         found = refusal(node, client.number, act_of(call.entry))
         call.reason = found[1] if found and found[0] == call.reply else ""
         client.refused.append((line, call))
+        act = act_of(call.entry)
         if call.reply == "EBADF" and client.number in node.busy:
             self.stumble("busy", client.number, node, line, opened=node.busy[client.number])
+        elif call.reply == "EBADF" and node.owner is None and client.number not in node.openers:
+            self.stumble("not open", client.number, node, line)
+        elif call.reply == "EINVAL" and act["name"] in ("section", "pes") and act["pid"] > LARGEST_PID:
+            self.stumble("large pid", client.number, node, line, act["pid"], act=act["name"], pid=act["pid"])
 
     def take_open(self, node, client, call, line):
-        """An Open, accepted or Busy."""
+        """An Open, accepted or Busy. One of demux0 looks for a free node and asks the next one where a node is Busy: no call is refused then."""
         if call.reply == "busy":
             owner = int(reply_of(call.entry)["owner"][1])
             call.reason = f"client {owner} itself is its owner" if owner == client.number else f"client {owner} is its owner"
+            if not client.is_last(call.entry.step):
+                return
             if owner != client.number:
                 node.busy[client.number] = line
             client.refused.append((line, call))
             return
         node.busy.pop(client.number, None)
+        node.openers.add(client.number)
         node.ended_by, node.capture = "", None
         node.accept(call.entry, act_of(call.entry), reply_of(call.entry))
         for tapped in list(node.taps):
@@ -260,6 +288,12 @@ class Story:
     def take_tap(self, node, client, call, line):
         """An Attach or a Detach of the dvr node; what passes while it is free is counted for the taps attached then."""
         tapped = act_of(call.entry)["node"]
+        if call.act == "attach":
+            node.attached[tapped] = client.number
+        elif node.attached.get(tapped) == client.number:
+            del node.attached[tapped]
+        if node.capture:
+            node.capture.tapped |= bool(node.attached)
         mine = tapped in node.taps and node.taps[tapped][0] == client.number
         if tapped in node.taps and mine == (call.act == "detach"):
             self.leave_tap(node, tapped)
@@ -267,11 +301,18 @@ class Story:
             node.taps[tapped] = (client.number, line, node.free_packets, tuple(act_of(call.entry)["pids"]))
 
     def leave_tap(self, node, tapped):
-        """A tap that was attached while the dvr node was free is removed, or the dvr node is opened."""
+        """A tap that was attached while the dvr node was free is removed, or the dvr node is opened, by whom it may be read yet."""
         client, line, before, pids = node.taps.pop(tapped)
         least, most = self.within(node.free_packets - before, pids)
         if most:
-            self.stumble("free tap", client, node, line, tapped, tapped=tapped, least=least, most=most, pids=pids)
+            facts = {"tapped": tapped, "least": least, "most": most, "pids": pids}
+            node.untapped.append((client, line, facts))
+
+    def tell_untapped(self, node):
+        """Notes the taps that were attached while the dvr node was free, where nothing was read of it since."""
+        for client, line, facts in node.untapped:
+            self.stumble("free tap", client, node, line, facts["tapped"], **facts)
+        node.untapped = []
 
     def within(self, passed, pids):
         """The least and the most packets of some PIDs that may be among so many of the stream."""
@@ -288,7 +329,9 @@ class Story:
     def take_drop(self, node, client, call, line, span):
         """A Done that names unread bytes."""
         client.lost.append((line, call, span))
-        if call.act in ("section", "pes", "start", "size"):
+        if node.capture and node.filter and node.filter.kind == "section":
+            call.repeats = node.capture.repeats(span[1] - span[0])
+        if call.act in ("section", "pes", "start", "size") and not call.repeats:
             self.stumble("dropped", client.number, node, line, call.act, act=call.act, bytes=span[1] - span[0])
 
     # ------ ends
@@ -324,9 +367,11 @@ class Story:
 
     def look_at_nothing(self, node, used):
         """Notes that packets of its PID passed a section filter that ran, and that it has selected nothing."""
-        least, most = self.within(sum(after - first for first, after in used.empty), [used.pid])
-        if least:
-            facts = {"least": least, "most": most, "whole": self.packets[used.pid].packets, "act": used.act}
+        passed, whole = sum(after - first for first, after in used.empty), self.packets[used.pid].packets
+        least, most = self.within(passed, [used.pid])
+        about = whole * passed // self.report.packets
+        if least or about >= LEAST_PASSED:
+            facts = {"least": least, "most": most, "about": about, "act": used.act}
             self.stumble("selects nothing", used.client, node, used.line, pid=used.pid, **facts)
 
     def rows_of(self, pid):
@@ -342,7 +387,7 @@ class Story:
         hidden = used.offered[pid].may_hide(self.report.packets, len(rows)) if pid in used.offered else self.report.packets
         for name in ("break", "duplicate"):
             count = sum(getattr(row, name + "s") for row in rows)
-            if count > hidden:
+            if count > hidden and not (name == "break" and self.joints):
                 kind = f"{name} of {'sections' if used.kind == 'section' else 'packets'}"
                 self.stumble(kind, node.owner, node, used.line, pid, pid=pid, count=count)
 
@@ -351,6 +396,8 @@ class Story:
         capture, node.capture = node.capture, None
         if capture and capture.polled is not None:
             self.note_timeout(node, capture.client, capture.polled, capture)
+        for line in capture.dry if capture and not capture.tapped else ():
+            self.stumble("no tap", capture.client, node, line, capture.line)
         if capture and capture.early and not capture.is_late:
             self.note_early(node, capture)
 
@@ -390,6 +437,9 @@ class Story:
         is_clear = call.reply in ("again", "timedout") or call.length() and node.gives_all() and call.length() < act_of(call.entry)["count"]
         self.look(node, call, line, call.length() or call.reply == "overflow", is_clear)
         if call.reply == "again":
+            self.hold_again(node, client, call)
+            if node.number == DVR and node.capture:
+                node.capture.dry.append(line)
             if node.filter and node.filter.output == "ts_tap":
                 self.stumble("read of ts_tap", client.number, node, line)
             if call.entry.reply == "again ended=0":
@@ -409,6 +459,8 @@ class Story:
         reply = reply_of(call.entry)
         if reply["error"] == "timedout" and node.capture:
             node.capture.polled = line
+        if not reply["readable"] and node.capture and self.is_served:
+            node.capture.held = node.capture.answered
         found = reply["error"] == "overflow" or reply["readable"] and reply["error"] == "none"
         self.look(node, call, line, found, not reply["readable"])
 
@@ -418,7 +470,8 @@ class Story:
         node.tell(found)
         if node.capture:
             node.capture.look(line, node.passed, found or "timedout" in call.entry.reply, call.act == "read")
-            node.capture.clear = node.passed if is_clear else node.capture.clear
+            if is_clear:
+                node.capture.clear, node.capture.clear_passes = node.passed, node.passes
 
     def take_data(self, node, client, call, line, got):
         """Data, with bytes or none."""
@@ -431,6 +484,8 @@ class Story:
         if capture is None:
             return
         before = capture.answered // PACKET
+        self.hold_data(node, client, call)
+        node.untapped = [] if node.number == DVR else node.untapped
         capture.give(length)
         if node.number == DVR or (node.filter and node.filter.output == "tsdemux_tap"):
             got.items += capture.answered // PACKET - before
@@ -469,19 +524,57 @@ class Story:
         elif not act_of(call.entry)["count"]:
             call.reason = "a count of 0"
 
+    # ------ overflows
+
+    @staticmethod
+    def hold_data(node, client, call):
+        """Takes what a read gives: what more came has to be held too where, had no Overflow come, the reader would be behind."""
+        capture, count, after = node.capture, act_of(call.entry)["count"], node.capture.answered + call.length()
+        is_bytes, wanted = node.gives_all(), 0
+        if is_bytes and call.length() < count:
+            capture.known = after, node.passed
+        if capture.held == capture.answered:
+            capture.held = after
+        else:
+            has_place = is_bytes and not (node.filter and node.filter.is_played)
+            wanted = capture.hold(after, capture.most(node.passed, node.size, not has_place), count if is_bytes else 1)
+        if capture.over and capture.over.facts["wanted"]:
+            capture.over.facts["wanted"] = max(capture.over.facts["wanted"], wanted + 1)
+        capture.loops = not client.is_last(call.entry.step)
+
+    def hold_again(self, node, client, call):
+        """Takes a read that found nothing. Who reads until it finds nothing would have read all; a single read in a script would have given
+        as much as it asks for."""
+        capture = node.capture
+        if capture:
+            capture.known = capture.answered, node.passed
+        if capture and (self.is_served or capture.loops and call.entry.step not in client.begins):
+            capture.held = capture.answered
+        elif capture:
+            capture.hold(capture.answered, capture.answered, act_of(call.entry)["count"] if node.gives_all() else 1)
+
     def take_overflow(self, node, client, call, line):
         """An Overflow that a read answered."""
-        reply = reply_of(call.entry)
+        reply, capture = reply_of(call.entry), node.capture
         client.lost.append((line, call, reply["span"]))
         call.reason = str(node.size)
         call.lost = lost_by(node, reply)
-        if node.capture:
-            node.capture.skip_to(reply["span"][1])
-            node.capture.clear = node.passed
-        wanted = 0 if call.lost.kept else reply["span"][1] - reply["span"][0] + 1
-        facts = {"item": reply["item"], "need": reply["need"], "size": node.size, "wanted": wanted,
-                 "played": bool(node.filter) and node.filter.is_played}  # fmt: skip
         is_larger, is_first = bool(node.size) and reply["need"] > node.size - 1, node.size == node.first_size
-        for kind, holds in (("larger", is_larger), ("first size", is_first), ("overflow", not is_larger and not is_first)):
-            if holds:
-                self.stumble(kind, client.number, node, line, **facts)
+        kind = "larger" if is_larger else "first size" if is_first else "overflow"
+        facts = {"item": reply["item"], "need": reply["need"], "size": node.size, "wanted": 0, "times": 0, "batch": node.batch,
+                 "served": self.is_served, "played": bool(node.filter) and node.filter.is_played}  # fmt: skip
+        found = self.stumble(kind, client.number, node, line, **facts)
+        found.facts["times"] += 1
+        if capture:
+            self.look_at_pace(node, client, call, found)
+            wanted = capture.hold(reply["span"][1], reply["span"][1], act_of(call.entry)["count"] if node.gives_all() else 1)
+            found.facts["wanted"] = 0 if call.lost.kept else max(found.facts["wanted"], wanted + 1)
+            capture.over, capture.loops, capture.known = found, not client.is_last(call.entry.step), (reply["span"][1], node.passed)
+            capture.skip_to(reply["span"][1])
+            capture.clear, capture.clear_passes = node.passed, node.passes
+
+    def look_at_pace(self, node, client, call, found):
+        """Looks whether one batch alone had come since the client last found nothing, and it looked as soon as that had passed."""
+        waits = self.is_served or call.entry.step not in client.begins
+        is_single = waits and node.passes - node.capture.clear_passes == 1 and node.batch > 1
+        found.facts["batch"] = max(found.facts["batch"], node.batch) if is_single and found.facts["batch"] else 0

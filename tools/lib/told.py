@@ -1,5 +1,4 @@
 """A report in sentences: the stream, what each client asked, got, lost and was refused, and the hints; for tools/explain and tools/page."""
-import itertools
 from typing import NamedTuple
 
 import reports
@@ -7,9 +6,10 @@ import sentences
 from fields import pid_text
 from hints import hint_text, rule_texts
 from sentences import asked_texts, got_text, joined, lost_text, many, refused_texts, timed_text, waits_text
-from story import Story
+from story import Story, joints
 
 SHOWN, NULL = 20, 8191
+LOOK = "`dvbemu hint REPORT STREAM` looks at the stream too"
 
 
 class Told(NamedTuple):
@@ -43,9 +43,11 @@ class Part(NamedTuple):
         return self.of_client(stumble.client) and self.of_node(stumble.node)
 
 
-def pid_row_text(row):
-    """What the counters and error bits of a PID say."""
-    found = [many(count, what) for count, what in ((row.breaks, "break"), (row.duplicates, "duplicate")) if count]
+def pid_row_text(row, is_loop):
+    """What the counters and error bits of a PID say; the breaks may be those of a loop."""
+    breaks = "break where the loop begins again", "breaks where the loop begins again"
+    told = (row.breaks, *(breaks if is_loop else ("break",))), (row.duplicates, "duplicate")
+    found = [many(count, *what) for count, *what in told if count]
     if row.errors:
         found.append(f"{row.errors:,} with the error bit")
     if found:
@@ -59,8 +61,9 @@ def stream_lines(report):
     """What the stream was."""
     head = f"{many(report.packets, 'packet')}, {many(report.skipped, 'byte')} skipped, {many(report.rest, 'byte')} left over at the end."
     lines = ["The stream", "", *wrapped(head, 2)]
+    is_loop = joints(report) > 0
     for row in report.pids:
-        lines += wrapped(f"PID {pid_text(row.pid)}: {many(row.packets, 'packet')}, {pid_row_text(row)}.", 2)
+        lines += wrapped(f"PID {pid_text(row.pid)}: {many(row.packets, 'packet')}, {pid_row_text(row, is_loop)}.", 2)
     if report.read_fault:
         lines += wrapped("Reading failed in the stream: the report is of what was read until then.", 2)
     return lines
@@ -95,9 +98,12 @@ def later(function, *arguments):
     return lambda: function(*arguments)
 
 
-def lost_total(lost):
-    """The bytes that were lost."""
-    return f"What was lost, {many(sum(after - first for _, _, (first, after) in lost), 'byte')}"
+def lost_title(lost):
+    """The bytes that were lost, and how many of them may be repeats."""
+    counts = [(after - first, call.repeats) for _, call, (first, after) in lost]
+    count, again = sum(count for count, _ in counts), sum(count for count, repeats in counts if repeats)
+    most = "all" if again == count else f"{again:,}"
+    return f"What was lost, {many(count, 'byte')}" + (f", {most} as long as repeats of what was read" if again else "")
 
 
 def asked_lines(client, part):
@@ -131,7 +137,7 @@ def client_lines(client, part, is_asked=True):
     refused = [later(str, text) for text in refused_texts([row for row in client.refused if part.of_node(row[1].node)])]
     lines += [*asked_lines(client, part), ""] if is_asked else []
     lines += part_lines("What it got", got, "no read was accepted")
-    lines += part_lines(lost_total(spans) if lost else "What was lost", lost, "nothing")
+    lines += part_lines(lost_title(spans) if lost else "What was lost", lost, "nothing")
     lines += part_lines("What timed out", timed, "nothing")
     lines += part_lines("Whom it waited for", waits, "nobody")
     return lines + part_lines("What was refused", refused, "nothing")
@@ -145,7 +151,7 @@ def hint_lines(story, part):
         lines += wrapped(hint_text(stumble), 2)
         for text in rule_texts(stumble):
             lines += wrapped(text, 4)
-    return lines if found else lines + wrapped("None: this report shows nothing that they are given for.", 2)
+    return lines if found else lines + wrapped(f"None: this report shows nothing that they are given for. {LOOK}.", 2)
 
 
 def check_steps(report, story):
@@ -176,11 +182,9 @@ def page(report, part):
     lines = stream_lines(report) if part == Part() else []
     shown = [client for number, client in sorted(story.clients.items()) if part.of_client(number)
              and (part.node is None or any(call.node == part.node for call in client.calls))]  # fmt: skip
-    for is_asking, group in itertools.groupby(shown, key=lambda client: bool(client.outcomes)):
-        if is_asking:
-            lines += (line for client in group for line in client_lines(client, part))
-        else:
-            lines += idle_lines(list(group))
+    asking = [client for client in shown if client.outcomes]
+    lines += [line for client in asking for line in client_lines(client, part)]
+    lines += idle_lines(shown) if shown and not asking else []
     return text_of(lines + hint_lines(story, part))
 
 
