@@ -17,8 +17,6 @@ import progress
 ROOT = os.path.dirname(os.path.dirname(os.path.dirname(os.path.realpath(__file__))))
 PARTS = ("reads", "writes", "status", "example")
 WIDTH = 120
-# The statuses of all tools, behind their own.
-OTHERS = "; 6 where standard output can't be written, 7 where memory is missing, 70 for a fault of the tool itself"
 # What --version tells where nothing is proved of the program that runs.
 HASTY = "not proved: compiled in haste (DVBEMU_UNPROVED)"
 
@@ -78,6 +76,9 @@ class Page(argparse.RawDescriptionHelpFormatter):
 class Command(argparse.ArgumentParser):
     """A command: its word, the words behind that, what it does, and what it reads, writes and ends with, and an example."""
 
+    # The statuses of all tools, behind their own.
+    others = "; 6 where standard output can't be written, 7 where memory is missing, 70 for a fault of the tool itself"
+
     def __init__(self, word, usage, about, teller=None, **told):
         self.teller = teller or f"dvbemu {word}"
         self.told = told
@@ -89,7 +90,7 @@ class Command(argparse.ArgumentParser):
     def format_help(self):
         """The help, with what is told at its end."""
         import textwrap  # pylint: disable=import-outside-toplevel
-        told = {**self.told, "status": self.told["status"] + ("" if self.teller == "dvbemu" else OTHERS)}
+        told = {**self.told, "status": self.told["status"] + ("" if self.teller == "dvbemu" else self.others)}
         rows = (textwrap.wrap(told[part], WIDTH - 9, break_on_hyphens=False) for part in PARTS)
         self.epilog = "\n".join(f"{part:8} " + "\n         ".join(row) for part, row in zip(PARTS, rows))
         return super().format_help()
