@@ -3,7 +3,7 @@
 The wrapper `dvbemu` starts this where its words aren't just those of the proved program, nor those of `steps` over small files. `steps`,
 `run` and `check` with files give the program what the files hold, by its standard input: what it writes and its status are its own, but
 that `check` with files has the status 1 where the answer is no, and that a file that can't be read to its end is told by its name, with
-the status 1. The other words are the tools beside this.
+the status 1; where a signal has ended it that is told, with 128 and its number. The other words are the tools beside this.
 """
 import os
 import signal
@@ -17,11 +17,14 @@ import tool  # noqa: E402
 import inputs  # noqa: E402
 import progress  # noqa: E402
 import spawned  # noqa: E402
+import standard  # noqa: E402
 
-DVBEMU = os.path.join(tool.ROOT, "dvbemu")
 # The program's path, where the wrapper has seen that it is built.
 built = []
 BATCH, PACKET = "[--batch B]", "[--packet P]"
+# The signals that may end this before the program has.
+ENDS = {signal.SIGHUP, signal.SIGINT, signal.SIGQUIT, signal.SIGTERM, signal.SIGUSR1, signal.SIGUSR2, signal.SIGALRM, signal.SIGVTALRM,
+        signal.SIGPROF, signal.SIGXCPU, signal.SIGIO, signal.SIGPWR}  # fmt: skip
 # The words of the proved program: what stands behind each, and what it does.
 PROVED = {
     "steps": (f"{BATCH} {PACKET} [SCRIPT [STREAM ..]]", "does the calls of a script in their order, over the streams, and writes a report"),
@@ -49,7 +52,7 @@ TOOLS = {
     "merge": ("merge", "makes the report of a folder of `serve --keep FOLDER`"),
 }
 STATUSES = "0; 1 where {}a file can't be read; 2 for wrong words; 3 where the script has a fault; 5 to 7 where reading, writing or " \
-    "memory failed (docs/BEHAVIOUR.md, 'Statuses')"
+    "memory failed (docs/BEHAVIOUR.md, 'Statuses'); 128 and the number of a signal that has ended the program"
 READS = "{}a script, or a session that has its stream, and streams behind it; a script without its line `stream` gets it " \
     "in front of a stream. A file may be `-`, standard input. "
 ALONE = "Without a file standard input is the session"
@@ -97,32 +100,22 @@ def plain(word, given):
     return words
 
 
-def told_by_wrapper(word, tells):
-    """What the wrapper tells of the program's path; None where it fails."""
-    told, env = spawned.memory(), {**os.environ, "DVBEMU_TELL": tells}
-    ends = {0: os.open(os.devnull, os.O_RDONLY), 1: told}
-    status = spawned.ended(spawned.started([DVBEMU, word], ends, env))
-    os.close(ends[0])
-    text = spawned.bytes_of(told).decode().strip()
-    return None if status else text
-
-
 def program_for(word):
     """The program, which is proved or compiled where there is none; the wrapper where it can't be kept. None where that fails."""
     if built:
         return built[0]
     for _ in range(2):
-        path = told_by_wrapper(word, "1")
+        path = spawned.told_by_wrapper(word, "1")
         if path or path is None:
             return path
         if os.environ.get("DVBEMU_UNPROVED", "0") not in ("", "0"):
             break
-    return DVBEMU
+    return spawned.DVBEMU
 
 
 def built_program():
     """The program, where it is built, proved or in haste; else None."""
-    return built[0] if built else told_by_wrapper("steps", "built") or None
+    return built[0] if built else spawned.told_by_wrapper("steps", "built") or None
 
 
 class Run:
@@ -132,10 +125,14 @@ class Run:
     def __init__(self, program, words, takes_output=False):
         reader, self.input = os.pipe()
         self.ends = {end: spawned.memory() for end in ((1, 2) if takes_output else (2,))}
-        self.child = spawned.started([program, *words], {0: reader, **self.ends}, spawned.environment(words[0]))
+        # (one that comes while the program starts waits; what the caller passes over stays so)
+        mask = signal.pthread_sigmask(signal.SIG_BLOCK, ENDS)
+        self.child = spawned.started([program, *words], {0: reader, **self.ends}, spawned.environment(words[0]), setsigmask=mask)
         os.close(reader)
-        for number in signal.SIGINT, signal.SIGTERM, signal.SIGHUP:
-            signal.signal(number, self.end)
+        for number in ENDS:
+            if signal.getsignal(number) != signal.SIG_IGN:
+                signal.signal(number, self.end)
+        signal.pthread_sigmask(signal.SIG_SETMASK, mask)
         self.output, self.told = b"", b""
 
     def kill(self):
@@ -146,8 +143,7 @@ class Run:
     def end(self, number, _frame):
         """Ends the program, and then this."""
         self.kill()
-        signal.signal(number, signal.SIG_DFL)
-        os.kill(os.getpid(), number)
+        os._exit(standard.end_by(number))
 
     def feed(self, pieces):
         """Gives the program all pieces, and waits until it has ended. Where a piece can't be read it is ended."""
@@ -163,8 +159,9 @@ class Run:
             raise
         finally:
             os.close(self.input)
-            status = spawned.ended(self.child)
-            self.child = None
+            spawned.wait(self.child)
+            child, self.child = self.child, None
+            status = spawned.ended(child)
             signal.signal(signal.SIGPIPE, signal.SIG_DFL)
         self.told, self.output = (spawned.bytes_of(self.ends[end]) if end in self.ends else b"" for end in (2, 1))
         return status
@@ -179,11 +176,14 @@ def started(words, takes_output=False):
 
 
 def ended(status):
-    """Ends with the status of a program, or by the signal that has ended it."""
-    if status < 0:
-        signal.signal(-status, signal.SIG_DFL)
-        os.kill(os.getpid(), -status)
-    return status
+    """The status of a program; 128 and the number of the signal that has ended it, which is told, but for Ctrl-C and a reader that has
+    gone."""
+    if status >= 0:
+        return status
+    if -status in (signal.SIGINT, signal.SIGPIPE):
+        return standard.end_by(-status)
+    print(f"dvbemu: the program {spawned.how(status)}", file=sys.stderr)
+    return 128 - status
 
 
 def over_files(words, given, word):
@@ -199,6 +199,8 @@ def over_files(words, given, word):
     except inputs.Broken as fault:
         return words.fail(fault)
     progress.end()
+    if status == standard.WRITE_FAULT and standard.reader_is_gone():
+        return standard.end_by(signal.SIGPIPE)
     sys.stderr.buffer.write(run.told)
     sys.stderr.flush()
     tell_more(status, run, kept[0], given.files)
@@ -261,7 +263,7 @@ def done(word, behind):
     words = command(word)
     given = words.parse_args(behind)
     if not getattr(given, "files", None):
-        os.execv(DVBEMU, [DVBEMU, *plain(word, given)])
+        os.execv(spawned.DVBEMU, [spawned.DVBEMU, *plain(word, given)])
     return check_files(words, given) if word == "check" else over_files(words, given, word)
 
 
@@ -287,6 +289,7 @@ def run_tool(word, behind):
     if word == "serve":
         # (Ctrl-C waits once more until Python is up)
         signal.pthread_sigmask(signal.SIG_BLOCK, {signal.SIGINT})
+        standard.hide_folder()
         os.execv(path, [path, *behind])
     sys.argv, sys.path[0] = [path, *behind], os.path.dirname(path)
     # (to the tool this is the module `door`, which knows whether the program is built)
@@ -309,7 +312,7 @@ def main(program, *words):
         print(tool.version())
     elif word in PROVED:
         return done(word, words[1:])
-    elif word in TOOLS and words[1:] == ["--version"]:
+    elif word in TOOLS and words[1:] == ("--version",):
         print(tool.version())
     elif word in TOOLS:
         return run_tool(word, words[1:])
@@ -319,4 +322,4 @@ def main(program, *words):
 
 
 if __name__ == "__main__":
-    sys.exit(main(*sys.argv[1:]))
+    standard.run(" ".join(["dvbemu", *(word for word in sys.argv[2:3] if word in TOOLS)]), main, *sys.argv[1:])

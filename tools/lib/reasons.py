@@ -17,6 +17,7 @@ import reports  # noqa: E402
 import second  # noqa: E402
 
 LOOKS = "looking for what is wrong"
+NOT_FOUND = "`check` says no, and nothing tells why"
 
 
 def node_above(lines, line):
@@ -173,4 +174,4 @@ def found(session, report, packet, told, work):
 
 def wrong(session, report, packet, told, work=None):
     """The same of a report that `check` has found wrong; where the judge finds nothing, what `check` has told."""
-    return found(session, report, packet, told, work or progress.Work((), LOOKS)) or told.decode(errors="replace").strip().removeprefix("dvbemu: ")
+    return found(session, report, packet, told, work or progress.Work((), LOOKS)) or told.decode(errors="replace").strip().removeprefix("dvbemu: ") or NOT_FOUND

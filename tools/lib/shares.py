@@ -3,6 +3,8 @@ import os
 import struct
 import sys
 
+import standard
+
 # What a process is given: the number of a piece of work. And what it tells of it: that number, and how many bytes of text come behind. Both
 # fit into what a pipe takes whole.
 NUMBER, HEAD, MOST = struct.Struct("=I"), struct.Struct("=II"), 4096
@@ -29,9 +31,10 @@ def started(work, ends, others):
             os.close(end)
         share(*work, *ends)
         status = 0
-    except BaseException:  # pylint: disable=broad-exception-caught
-        sys.excepthook(*sys.exc_info())
-    os._exit(status)
+    except Exception as fault:  # pylint: disable=broad-exception-caught
+        print(f"dvbemu: {standard.told_of(fault)[0]}", file=sys.stderr, flush=True)
+    finally:
+        os._exit(status)
 
 
 def give_next(left, giver):
@@ -44,8 +47,8 @@ def give_next(left, giver):
 
 
 def done(items, function):
-    """The texts that the function gives for these, in their order; of a long one some 4,000 bytes. They are fewer where a process has ended
-    before it had told of its piece."""
+    """The texts that the function gives for these, in their order; of a long one some 4,000 bytes. In the place of one there is None where
+    its process has ended before it had told of it."""
     (given, give), (tells, told) = os.pipe(), os.pipe()
     pids = [started((items, function), (given, told), (give, tells)) for _ in range(min(len(os.sched_getaffinity(0)), len(items)))]
     os.close(told)
@@ -62,3 +65,4 @@ def done(items, function):
                 next_one += 1
     for pid in pids:
         os.waitpid(pid, 0)
+    yield from (texts.get(number) for number in range(next_one, len(items)))

@@ -1,6 +1,7 @@
 """Programs that are started with nothing beside them: what they read and tell is in files in memory, so that no thread need look after it."""
 import os
 
+DVBEMU = os.path.join(os.path.realpath(__file__).removesuffix("/tools/lib/spawned.py"), "dvbemu")
 # What the wrapper sets for the program, but for `run`, where the caller hasn't set it: see there.
 SETTING = {"GLIBC_TUNABLES": "glibc.malloc.hugetlb=1"}
 
@@ -33,14 +34,33 @@ def environment(word):
     return dict(os.environ) if word == "run" else {**SETTING, **os.environ}
 
 
-def started(words, ends, env):
+def started(words, ends, env, **more):
     """The number of a process with these words, whose ends 0, 1 and 2 are these files, where they are named."""
-    return os.posix_spawn(words[0], words, env, file_actions=[(os.POSIX_SPAWN_DUP2, file, end) for end, file in ends.items()])
+    return os.posix_spawn(words[0], words, env, file_actions=[(os.POSIX_SPAWN_DUP2, file, end) for end, file in ends.items()], **more)
+
+
+def wait(pid):
+    """Waits until a process has ended. Its number is still its own then."""
+    os.waitid(os.P_PID, pid, os.WEXITED | os.WNOWAIT)
 
 
 def ended(pid):
     """The status of a process that has ended; below 0 the number of the signal that has ended it."""
     return os.waitstatus_to_exitcode(os.waitpid(pid, 0)[1])
+
+
+def how(status):
+    """How a process has ended that has this status."""
+    return f"was ended by signal {-status}" if status < 0 else f"ends with the status {status}"
+
+
+def told_by_wrapper(word, tells):
+    """What the wrapper tells of the program's path; None where it fails."""
+    told, nothing = memory(), os.open(os.devnull, os.O_RDONLY)
+    status = ended(started([DVBEMU, word], {0: nothing, 1: told}, {**os.environ, "DVBEMU_TELL": tells}))
+    os.close(nothing)
+    text = os.fsdecode(bytes_of(told)).strip()
+    return None if status else text
 
 
 def ran(words, given=(), env=None):

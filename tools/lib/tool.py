@@ -2,7 +2,9 @@
 
 A command is a script of tools/, which `dvbemu WORD` runs. Its statuses: 0, 1 where a file can't be read or isn't what it should be, 2
 where a word of the command line is wrong, and what its own help says beside these. What it can't do it tells in one line on standard
-error, `dvbemu WORD: ..`. A reader that has seen enough ends it quietly, and so does Ctrl-C, which a shell sees as the status 130.
+error, `dvbemu WORD: ..`; standard.py does so of all that no command looks after itself: 6 where standard output takes no more, 7 where
+memory is missing, 70 for a fault of its own. A reader that has seen enough ends it quietly, and so does Ctrl-C, which a shell sees as the
+status 130.
 """
 import argparse
 import os
@@ -15,6 +17,8 @@ import progress
 ROOT = os.path.dirname(os.path.dirname(os.path.dirname(os.path.realpath(__file__))))
 PARTS = ("reads", "writes", "status", "example")
 WIDTH = 120
+# What --version tells where nothing is proved of the program that runs.
+HASTY = "not proved: compiled in haste (DVBEMU_UNPROVED)"
 
 # (set where this is read, so that what a command reads behind it ends quietly too)
 signal.signal(signal.SIGPIPE, signal.SIG_DFL)
@@ -31,8 +35,16 @@ def nearest(word, known):
     return f"; did you mean {found[0]}?" if found else ""
 
 
+def is_hasty():
+    """Whether the program that runs is one that was compiled in haste, or will be."""
+    if os.environ.get("DVBEMU_UNPROVED", "0") in ("", "0"):
+        return False
+    import spawned  # pylint: disable=import-outside-toplevel
+    return (spawned.told_by_wrapper("steps", "built") or "haste/dvbemu").endswith("haste/dvbemu")
+
+
 def version():
-    """The version of the file VERSION, the commit where there is one, and the toolchain that proved it."""
+    """The version of the file VERSION, the commit where there is one, and the toolchain that proved the program that runs."""
     with open(os.path.join(ROOT, "VERSION"), encoding="utf-8") as file:
         number, proved = file.read().splitlines()[:2]
     commit = ""
@@ -43,7 +55,7 @@ def version():
             commit = subprocess.run(words, capture_output=True, text=True, check=False).stdout.strip()
         except OSError:
             pass
-    return f"dvbemu {number}" + (f" (commit {commit})" if commit else "") + f"\n{proved}"
+    return f"dvbemu {number}" + (f" (commit {commit})" if commit else "") + f"\n{HASTY if is_hasty() else proved}"
 
 
 class Version(argparse.Action):
@@ -64,6 +76,9 @@ class Page(argparse.RawDescriptionHelpFormatter):
 class Command(argparse.ArgumentParser):
     """A command: its word, the words behind that, what it does, and what it reads, writes and ends with, and an example."""
 
+    # The statuses of all tools, behind their own.
+    others = "; 6 where standard output can't be written, 7 where memory is missing, 70 for a fault of the tool itself"
+
     def __init__(self, word, usage, about, teller=None, **told):
         self.teller = teller or f"dvbemu {word}"
         self.told = told
@@ -75,7 +90,8 @@ class Command(argparse.ArgumentParser):
     def format_help(self):
         """The help, with what is told at its end."""
         import textwrap  # pylint: disable=import-outside-toplevel
-        rows = (textwrap.wrap(self.told[part], WIDTH - 9, break_on_hyphens=False) for part in PARTS)
+        told = {**self.told, "status": self.told["status"] + ("" if self.teller == "dvbemu" else self.others)}
+        rows = (textwrap.wrap(told[part], WIDTH - 9, break_on_hyphens=False) for part in PARTS)
         self.epilog = "\n".join(f"{part:8} " + "\n         ".join(row) for part, row in zip(PARTS, rows))
         return super().format_help()
 
