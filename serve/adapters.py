@@ -9,7 +9,7 @@ import subprocess
 import tempfile
 import time
 
-from building import SERVER, Stopped
+from building import Stopped
 from channels import Front, systems_of
 from clearing import watch_over
 from feeder import Feeder
@@ -78,13 +78,13 @@ class Folder:
 
 
 class Adapter:
-    """An adapter's server, and what feeds it. `outs` has what is written: `report`, `played`, `tunings` and `keep`."""
+    """An adapter's server, which these words start, and what feeds it. `outs` has what is written: `report`, `played`, `tunings` and `keep`."""
 
-    def __init__(self, folder, channels, options, outs):
+    def __init__(self, server, folder, channels, options, outs):
         self.keeper = Keeper(folder)
         # (a write to a program that has gone fails, and is no signal: Python has SIGPIPE ignored, and the server keeps that; and a
         # terminal's Ctrl-C is the command's alone)
-        words = [*SERVER.split(), folder, str(options.seats), *([] if outs.keep == "all" else [outs.keep])]
+        words = [*server, folder, str(options.seats), *([] if outs.keep == "all" else [outs.keep])]
         self.server = subprocess.Popen(words, stdin=subprocess.PIPE, stdout=outs.report, bufsize=0, restore_signals=False,
                                        start_new_session=True, preexec_fn=self.end_with_parent)  # fmt: skip
         front = Front(os.path.join(folder, "front"), systems_of(channels))

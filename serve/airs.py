@@ -7,7 +7,7 @@ import subprocess
 import tempfile
 import time
 
-from building import SERVER
+from building import built_server
 from programs import packets_of
 from room import HERE, SERVE, TOP, bytes_of, ran
 from stations import NULL, RATE, Station
@@ -301,7 +301,8 @@ def try_crash(room):
             room.want(room.comes(lambda: os.path.exists(held) and b"held" in bytes_of(held)), "a program that waits")
             with open(f"/proc/{child.pid}/task/{child.pid}/children", encoding="ascii") as file:
                 others = file.read().split()
-            servers = [pid for pid in others if os.fsencode(SERVER.split()[0]) in bytes_of(f"/proc/{pid}/cmdline").split(b"\0")]
+            server = os.fsencode(built_server()[0])
+            servers = [pid for pid in others if server in bytes_of(f"/proc/{pid}/cmdline").split(b"\0")]
             until = time.monotonic() + ENDS
             child.send_signal(signal.SIGKILL)
         has_ended = room.comes(lambda: not any(map(is_there, servers)), until - time.monotonic())
