@@ -6,6 +6,7 @@
 #include <dirent.h>
 #include <errno.h>
 #include <fcntl.h>
+#include <glob.h>
 #include <limits.h>
 #include <stdio.h>
 #include <stdlib.h>
@@ -13,6 +14,7 @@
 #include <sys/stat.h>
 #include <sys/syscall.h>
 #include <sys/sysmacros.h>
+#include <sys/xattr.h>
 #include <unistd.h>
 
 #include "preload.h"
@@ -60,7 +62,7 @@ static int base_of(int there, char *into)
 	snprintf(link, sizeof link, there == AT_FDCWD ? "/proc/self/cwd" : "/proc/self/fd/%d", there);
 	long n = syscall(SYS_readlinkat, AT_FDCWD, link, into, PATH - 1);
 	into[n < 0 ? 0 : n] = 0;
-	return n > 0 && *into == '/';
+	return n > 0 && n < PATH - 1 && *into == '/';
 }
 
 static int in_tree(const char *path, char *into)
@@ -285,6 +287,65 @@ EXPORT int scandir(const char *path, struct dirent ***names, int (*wanted)(const
 	return NEXT(scandir)(by(path, into), names, wanted, order);
 }
 
+EXPORT int scandir64(const char *path, struct dirent64 ***names, int (*wanted)(const struct dirent64 *),
+		     int (*order)(const struct dirent64 **, const struct dirent64 **))
+{
+	char into[PATH];
+	init();
+	return NEXT(scandir64)(by(path, into), names, wanted, order);
+}
+
+static void closes(void *folder) { closedir(folder); }
+
+/* (the library looks for names by calls that are its own, but where it is given others) */
+EXPORT int glob(const char *restrict form, int flags, int (*failed)(const char *, int), glob_t *restrict names)
+{
+	init();
+	if (adapters && !(flags & GLOB_ALTDIRFUNC)) {
+		flags |= GLOB_ALTDIRFUNC;
+		names->gl_opendir = (void *(*)(const char *))opendir;
+		names->gl_readdir = (struct dirent *(*)(void *))readdir;
+		names->gl_closedir = closes;
+		names->gl_stat = stat;
+		names->gl_lstat = lstat;
+	}
+	return NEXT(glob)(form, flags, failed, names);
+}
+
+EXPORT int glob64(const char *restrict form, int flags, int (*failed)(const char *, int), glob64_t *restrict names)
+{
+	return glob(form, flags, failed, (glob_t *)names);
+}
+
+/* extended attributes, for which `ls -l` asks */
+EXPORT ssize_t getxattr(const char *path, const char *name, void *value, size_t room)
+{
+	char into[PATH];
+	init();
+	return NEXT(getxattr)(by(path, into), name, value, room);
+}
+
+EXPORT ssize_t lgetxattr(const char *path, const char *name, void *value, size_t room)
+{
+	char into[PATH];
+	init();
+	return NEXT(lgetxattr)(led(AT_FDCWD, path, into) ? into : path, name, value, room);
+}
+
+EXPORT ssize_t listxattr(const char *path, char *names, size_t room)
+{
+	char into[PATH];
+	init();
+	return NEXT(listxattr)(by(path, into), names, room);
+}
+
+EXPORT ssize_t llistxattr(const char *path, char *names, size_t room)
+{
+	char into[PATH];
+	init();
+	return NEXT(llistxattr)(led(AT_FDCWD, path, into) ? into : path, names, room);
+}
+
 EXPORT int chdir(const char *path)
 {
 	char into[PATH];
@@ -309,13 +370,16 @@ EXPORT char *getcwd(char *into, size_t room)
 
 EXPORT char *realpath(const char *restrict path, char *restrict into)
 {
-	char place[PATH], real[PATH];
+	char place[PATH];
 	init();
 	if (!leads(AT_FDCWD, path, place))
 		return NEXT(realpath)(path, into);
-	if (!NEXT(realpath)(place, real))
-		return NULL;
-	return into ? strcpy(into, told(real)) : strdup(told(real));
+	char *real = told(NEXT(realpath)(place, NULL));
+	if (!real || !into)
+		return real;
+	strcpy(into, real);
+	free(real);
+	return into;
 }
 
 EXPORT char *canonicalize_file_name(const char *path) { return realpath(path, NULL); }
