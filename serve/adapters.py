@@ -5,11 +5,14 @@ import glob
 import os
 import shutil
 import signal
+import stat
 import subprocess
+import sys
 import tempfile
+import threading
 import time
 
-from building import Stopped
+from building import PRELOAD, Stopped
 from channels import Front, systems_of
 from clearing import watch_over
 from feeder import Feeder
@@ -20,8 +23,17 @@ PR_SET_PDEATHSIG, PR_SET_CHILD_SUBREAPER = 1, 36
 # The seconds in which the server must end, and behind which a folder that isn't held by anybody is one of a wrapper that was killed.
 ENDS, LEFT = 120, 60
 NODES = "frontend0", "demux0", "dvr0"
-PREFIX, HELD = "dvbemu-", "held"
+PREFIX, HELD, MARK = "dvbemu-", "held", b"a folder of dvbemu serve\n"
+# The bytes of a folder's path that serve/preload.h has room for (FOLDER), but for what stands behind that of temporary files.
+ROOM = 256 - len("/dvbemu-12345678/0") - 1
 SYSTEM = ctypes.CDLL(None, use_errno=True)
+
+
+def end_with(parent):
+    """This process ends with its parent, also where that has gone already."""
+    SYSTEM.prctl(PR_SET_PDEATHSIG, signal.SIGKILL, 0, 0, 0)
+    if os.getppid() != parent:
+        os.kill(os.getpid(), signal.SIGKILL)
 
 
 def adopt():
@@ -30,9 +42,20 @@ def adopt():
 
 
 def place_of_folders():
-    """Where temporary files go: without a blank or a colon, at which the system's loader would end a name."""
-    places = tempfile.gettempdir(), "/tmp", "/var/tmp", "/dev/shm"
-    return next((place for place in places if not set(" :;,\t\n") & set(place) and os.access(place, os.W_OK)), places[0])
+    """Where temporary files go: to a short path, without a blank or a colon, at which the system's loader would end a name."""
+    places = [os.path.realpath(place) for place in (tempfile.gettempdir(), "/tmp", "/var/tmp", "/dev/shm")]
+    for place in places:
+        if len(os.fsencode(place)) <= ROOM and not set(" :;,\t\n") & set(place) and os.access(place, os.W_OK):
+            return place
+    raise Stopped(f"{places[0]} can't have the adapter's folder: set TMPDIR to one of at most {ROOM} bytes, without blanks and colons")
+
+
+def tell_root(path):
+    """Says what a program finds that gives up root's rights."""
+    parents = [path[:at] or "/" for at, letter in enumerate(path) if letter == "/"]
+    is_open = all(os.stat(parent).st_mode & stat.S_IXOTH for parent in parents)
+    finds = "can't open the adapter's devices" if is_open else f"sees the machine's own /dev/dvb, as {os.path.dirname(path)} is closed to others"
+    print(f"dvbemu serve: started by root: a program that gives up root's rights {finds}; start dvbemu serve as its user", file=sys.stderr)
 
 
 def sweep(place):
@@ -42,9 +65,10 @@ def sweep(place):
             there = os.lstat(folder)
             if there.st_uid != os.getuid() or time.time() - there.st_mtime < LEFT or os.path.islink(folder):
                 continue
-            with open(os.path.join(folder, HELD), "rb") as file:
+            with open(os.path.join(folder, HELD), "rb", opener=lambda path, flags: os.open(path, flags | os.O_NOFOLLOW | os.O_NONBLOCK)) as file:
                 fcntl.flock(file, fcntl.LOCK_EX | fcntl.LOCK_NB)
-                shutil.rmtree(folder, ignore_errors=True)
+                if file.read(len(MARK) + 1) == MARK:
+                    shutil.rmtree(folder, ignore_errors=True)
         except OSError:
             pass
 
@@ -55,17 +79,31 @@ class Folder:
     def __init__(self, count):
         place = place_of_folders()
         sweep(place)
-        self.path = os.path.realpath(tempfile.mkdtemp(prefix=PREFIX, dir=place))
+        self.path = tempfile.mkdtemp(prefix=PREFIX, dir=place)
         self.adapters = [os.path.join(self.path, str(number)) for number in range(count)]
         self.watched = watch_over(self.path, self.value())
         self.held = os.open(os.path.join(self.path, HELD), os.O_RDWR | os.O_CREAT | os.O_CLOEXEC, 0o600)
         fcntl.flock(self.held, fcntl.LOCK_EX)
+        os.write(self.held, MARK)
         for number, adapter in enumerate(self.adapters):
             os.mkdir(adapter, 0o700)
             tree = os.path.join(self.adapters[0], "dev", "dvb", f"adapter{number}")
             os.makedirs(tree)
             for node in NODES:
                 os.close(os.open(os.path.join(tree, node), os.O_CREAT | os.O_WRONLY, 0o660))
+        self.preload = os.path.join(self.path, "preload.so")
+        shutil.copyfile(PRELOAD, self.preload)
+        if os.geteuid() == 0:
+            self.show_to_others()
+            tell_root(self.path)
+
+    def show_to_others(self):
+        """Who has given up root's rights has the preload and sees the tree, and not the machine's own devices; the rest is root's alone."""
+        for path in self.path, *self.adapters:
+            os.chmod(path, 0o711)
+        for path, _, _ in os.walk(os.path.join(self.adapters[0], "dev")):
+            os.chmod(path, 0o755)
+        os.chmod(self.preload, 0o644)
 
     def value(self):
         """What programs have in their environment, as DVBEMU_DIR."""
@@ -85,17 +123,14 @@ class Adapter:
         # (a write to a program that has gone fails, and is no signal: Python has SIGPIPE ignored, and the server keeps that; and a
         # terminal's Ctrl-C is the command's alone)
         words = [*server, folder, str(options.seats), *([] if outs.keep == "all" else [outs.keep])]
+        # (what a child does before its program begins is Python's, so no other thread may run here)
+        assert threading.active_count() == 1
         self.server = subprocess.Popen(words, stdin=subprocess.PIPE, stdout=outs.report, bufsize=0, restore_signals=False,
-                                       start_new_session=True, preexec_fn=self.end_with_parent)  # fmt: skip
+                                       start_new_session=True, preexec_fn=lambda here=os.getpid(): end_with(here))  # fmt: skip
         front = Front(os.path.join(folder, "front"), systems_of(channels))
         self.feeder = Feeder(channels, front, self.server.stdin, options.once, options.live)
         self.feeder.played, self.feeder.tunings = outs.played, outs.tunings
         self.seats = options.seats
-
-    @staticmethod
-    def end_with_parent():
-        """The server doesn't outlive this process, and with it all that wait for a node are told."""
-        SYSTEM.prctl(PR_SET_PDEATHSIG, signal.SIGKILL, 0, 0, 0)
 
     def start(self):
         """Programs may come in from now on, and what is on the air is played."""

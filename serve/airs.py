@@ -7,9 +7,10 @@ import subprocess
 import tempfile
 import time
 
+from adapters import MARK
 from building import built_server
 from programs import packets_of
-from room import HERE, SERVE, TOP, bytes_of, ran
+from room import HERE, SERVE, TOP, bytes_of, ran, without_root
 from stations import NULL, RATE, Station
 import clock
 
@@ -22,7 +23,7 @@ UNBUILT = """import runpy, sys
 _, here, top, *sys.argv = sys.argv
 sys.path[1:1] = here, top + "/tools/lib"
 import building
-building.build_preload = building.build_server = lambda: sys.exit("built")
+building.build_preload = building.built_server = lambda: sys.exit("built")
 runpy.run_path(sys.argv[0], run_name="__main__")
 """
 
@@ -40,7 +41,7 @@ def call(room, words, command, serve=(SERVE,), **more):
     """What dvbemu-serve writes with these words, and its status."""
     called = subprocess.run([*serve, *words, "--", *command], stdout=subprocess.PIPE, stderr=subprocess.STDOUT, text=True,
                             cwd=room.folder, timeout=100, check=False, **{"stdin": subprocess.DEVNULL, **more})  # fmt: skip
-    return called.stdout, called.returncode
+    return without_root(called.stdout), called.returncode
 
 
 def tunes(room, paths):
@@ -315,17 +316,25 @@ def try_crash(room):
         room.want(room.comes(lambda: not any(map(is_there, others))), "the server and the command end", others)
         room.want(room.comes(lambda: not os.path.exists(left)), "the folder goes", left)
         os.mkdir(left)
-        with open(os.path.join(left, "held"), "wb"):
-            pass
+        with open(os.path.join(left, "held"), "wb") as file:
+            file.write(MARK)
         call(room, ["--keep", "none", "--packets", str(RATE), room.stream], ["true"], env=dict(os.environ, TMPDIR=place))
         room.want(os.path.isdir(left), "a new one is nobody else's to take", left)
         os.utime(left, (time.time() - OLD, time.time() - OLD))
         call(room, ["--keep", "none", "--packets", str(RATE), room.stream], ["true"], env=dict(os.environ, TMPDIR=place))
         room.want(not os.path.exists(left), "an old one is taken away", left)
+        os.mkdir(left)
+        with open(os.path.join(left, "held"), "wb"):
+            pass
+        os.utime(left, (time.time() - OLD, time.time() - OLD))
+        call(room, ["--keep", "none", "--packets", str(RATE), room.stream], ["true"], env=dict(os.environ, TMPDIR=place))
+        room.want(os.path.exists(left), "one that has its name, and isn't of dvbemu serve, stays", left)
         words, blank = ["--keep", "none", "--packets", str(RATE), room.stream], os.path.join(place, "a folder of mine")
-        os.mkdir(blank)
-        out, status = call(room, words, ["ls", "/dev/dvb"], env=dict(os.environ, TMPDIR=blank))
-        room.want(status == 0 and out == "adapter0\n", "a folder with blanks", out)
+        long = os.path.join(place, 250 * "l")
+        for folder in blank, long:
+            os.mkdir(folder)
+            out, status = call(room, words, ["ls", "/dev/dvb"], env=dict(os.environ, TMPDIR=folder))
+            room.want(status == 0 and out == "adapter0\n", f"TMPDIR is {folder}", out)
 
 
 PARTS = (try_channels, try_systems, try_shared, try_live, try_adapters, try_forms, try_faults, try_reports, try_libudev,

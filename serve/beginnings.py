@@ -4,16 +4,21 @@ import pty
 import select
 import shutil
 import signal
+import subprocess
+import sys
 import tempfile
 import time
 
+from adapters import end_with
 from airs import NAMES, TUNER, call, stations
+from clearing import VARIABLE, tell_program
 from room import RATE, SERVE, calls_of, is_passed, ran
 
 # The seconds in which a terminal tells what is waited for, and the byte that stands for Ctrl-C there.
 TELLS, CTRL_C = 20, b"\x03"
 # How many bells there are when a program begins, when it has opened a node, and that one once more with another.
 BELLS = "0\n1\n2\n"
+DEMUX = "/dev/dvb/adapter0/demux0"
 # Scripts, with the statuses that they end with.
 ENDS = {"exit 77": 77, "kill -SEGV $$": 139, "kill -KILL $$": 137, "(trap '' TERM; sleep 100) & exit 5": 5}
 
@@ -113,4 +118,35 @@ def try_bells(room):
     room.want(out == BELLS, "a bell's file comes with the first open of its node", out)
 
 
-PARTS = try_terminal, try_bare, try_ends, try_nested, try_bells
+def try_root(room):
+    """A program that gives up root's rights sees the adapter, and can't open it; and that is told."""
+    if os.geteuid():
+        print("serve: not root, who could give up rights, skipped")
+        return
+    script = "import os, sys; os.setgroups([]); os.setgid(65534); os.setuid(65534); os.execvp(sys.argv[1], sys.argv[1:])"
+    for command, wanted in (["ls", "/dev/dvb/adapter0"], "demux0\ndvr0\nfrontend0\n"), (["cat", DEMUX], f"cat: {DEMUX}: Permission denied\n"):
+        words = [SERVE, "--keep", "none", "--packets", RATE, room.stream, "--", sys.executable, "-c", script, *command]
+        out = ran(words).stdout
+        told, _, rest = out.partition("\n")
+        has_told = told.startswith("dvbemu serve: started by root: a program that gives up root's rights can't open")
+        room.want(has_told and rest == wanted, f"a program without root's rights: {' '.join(command)}", out)
+
+
+def try_parent(room):
+    """A server ends at once where its parent has gone before it could say so, and else it begins."""
+    for parent, wanted in (os.getpid(), 0), (1, -signal.SIGKILL):
+        ended = subprocess.run(["true"], preexec_fn=lambda number=parent: end_with(number), check=False)
+        room.want(ended.returncode == wanted, f"a child of {parent}", ended.returncode)
+
+
+def try_number(room):
+    """Only who finds the adapters is ended, and not who has got its number since."""
+    with subprocess.Popen(["sleep", "100"], env={VARIABLE: room.folder}) as child:
+        tell_program(child.pid, "/another", signal.SIGKILL)
+        time.sleep(0.1)
+        room.want(child.poll() is None, "another process goes on", child.returncode)
+        tell_program(child.pid, room.folder, signal.SIGKILL)
+        room.want(child.wait() == -signal.SIGKILL, "one of these adapters ends", child.returncode)
+
+
+PARTS = try_root, try_parent, try_number, try_terminal, try_bare, try_ends, try_nested, try_bells

@@ -5,7 +5,7 @@ import signal
 import subprocess
 import sys
 
-from building import PRELOAD, Stopped
+from building import Stopped
 from clearing import VARIABLE, end_all, end_programs
 
 
@@ -68,9 +68,7 @@ class Signals:
 def environment(folder):
     """The environment of the command, in which the user's own preloads come first. A sanitizer of gcc is told that this
     is meant."""
-    preload = os.path.join(folder.path, "preload.so")
-    os.symlink(PRELOAD, preload)
-    ours = {"LD_PRELOAD": preload, "ASAN_OPTIONS": "verify_asan_link_order=0"}
+    ours = {"LD_PRELOAD": folder.preload, "ASAN_OPTIONS": "verify_asan_link_order=0"}
     both = {name: ":".join(filter(None, [os.environ.get(name), word])) for name, word in ours.items()}
     return {**os.environ, VARIABLE: folder.value(), **both}
 
