@@ -109,6 +109,15 @@ def try_systems(room):
     room.want(out.split("\n")[:-1] == heard, "a file of channels", out)
 
 
+def try_megahertz(room):
+    """A number that is too small for Hz, or for a satellite's kHz, is one of MHz, which is told."""
+    paths = stations(room)
+    out, _ = call(room, ["--keep", "none", "--tune", f"474={paths[0]}", f"11362:DVBS2:H={paths[1]}"], [TUNER, "474000000", "1612000:6:1:1"])
+    told = [f"dvbemu serve: 474={paths[0]}: 474 is taken as 474 MHz", f"dvbemu serve: 11362:DVBS2:H={paths[1]}: 11362 is taken as 11362 MHz",
+            "474000000 Alpha Beta", "1612000:6:1:1 Gamma Delta"]  # fmt: skip
+    room.want(out.split("\n")[:-1] == told, "frequencies in MHz", out)
+
+
 def try_shared(room):
     """A program beside one that has tuned sees its lock, and records what it has tuned to."""
     paths = stations(room)
@@ -337,5 +346,5 @@ def try_crash(room):
             room.want(status == 0 and out == "adapter0\n", f"TMPDIR is {folder}", out)
 
 
-PARTS = (try_channels, try_systems, try_shared, try_live, try_adapters, try_forms, try_faults, try_reports, try_libudev,
+PARTS = (try_channels, try_systems, try_megahertz, try_shared, try_live, try_adapters, try_forms, try_faults, try_reports, try_libudev,
          try_clocks, try_crash)  # fmt: skip

@@ -11,6 +11,8 @@ from recording import Recording, Unplayable
 SYSTEMS = {"DVBC": 1, "DVBCB": 2, "DVBT": 3, "DVBS": 5, "DVBS2": 6, "ISDBT": 8, "ATSC": 11, "DVBT2": 16}
 SATELLITE, TERRESTRIAL, WITH_STREAMS, ANY_STREAM, FIRST = (5, 6), (3,), (6, 16), 0xFFFFFFFF, {6: 5, 16: 3}
 LINE = re.compile(r"(\d+)(?::([A-Za-z0-9/-]+?))?(?::([HVLR]))?=(.+)")
+# Below this many Hz, and of a satellite kHz, nothing is sent: such a number is one of MHz.
+LEAST = 100_000
 # How far a tuner may be off, in Hz, and for a satellite in kHz; and the converters' oscillators in kHz: for the lower band, the upper
 # band, which a tone chooses, and that of C band, above its signals.
 NEAR, NEAR_KHZ, LOW, HIGH, C_BAND, HIGHEST_IF = 2_000_000, 2_000, 9_750_000, 10_600_000, 5_150_000, 3_000_000
@@ -71,7 +73,11 @@ def channel_of(word, rate):
     systems = (SYSTEMS[system],) if system else SATELLITE if polarisation else ()
     if polarisation and not set(systems) <= set(SATELLITE):
         raise Unplayable(f"{word}: {system} has no polarisation")
-    return Channel(int(found[1]), systems, polarisation, Recording(found[4], rate))
+    frequency, recording = int(found[1]), Recording(found[4], rate)
+    if frequency < LEAST:
+        recording.told.append(f"{word}: {frequency} is taken as {frequency} MHz")
+        frequency *= 1_000 if set(systems) & set(SATELLITE) else 1_000_000
+    return Channel(frequency, systems, polarisation, recording)
 
 
 def lines_in(path):
