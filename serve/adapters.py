@@ -127,10 +127,10 @@ class Adapter:
         assert threading.active_count() == 1
         self.server = subprocess.Popen(words, stdin=subprocess.PIPE, stdout=outs.report, bufsize=0, restore_signals=False,
                                        start_new_session=True, preexec_fn=lambda here=os.getpid(): end_with(here))  # fmt: skip
-        front = Front(os.path.join(folder, "front"), systems_of(channels))
-        self.feeder = Feeder(channels, front, self.server.stdin, options.once, options.live)
+        self.front = Front(os.path.join(folder, "front"), systems_of(channels))
+        self.feeder = Feeder(channels, self.front, self.server.stdin, options.once, options.live)
         self.feeder.played, self.feeder.tunings = outs.played, outs.tunings
-        self.seats = options.seats
+        self.seats, self.folder = options.seats, folder
 
     def start(self):
         """Programs may come in from now on, and what is on the air is played."""
@@ -149,6 +149,10 @@ class Adapter:
                 raise Stopped(f"the server ended with status {self.server.returncode}")
         except subprocess.TimeoutExpired:
             raise Stopped("the server didn't end, and was killed") from None
+
+    def was_opened(self):
+        """Whether a program has opened one of its devices: its node then has a bell."""
+        return self.front.was_opened() or bool(glob.glob(os.path.join(glob.escape(self.folder), "bell.*")))
 
     def kill(self):
         self.feeder.ended.set()

@@ -10,7 +10,7 @@ import time
 from adapters import MARK
 from building import built_server
 from programs import packets_of
-from room import HERE, SERVE, TOP, bytes_of, ran, without_root
+from room import HERE, SERVE, TOP, bytes_of, ran, without_hints
 from stations import NULL, RATE, Station
 import clock
 
@@ -39,9 +39,9 @@ def stations(room):
 
 def call(room, words, command, serve=(SERVE,), **more):
     """What dvbemu-serve writes with these words, and its status."""
-    called = subprocess.run([*serve, *words, "--", *command], stdout=subprocess.PIPE, stderr=subprocess.STDOUT, text=True,
-                            cwd=room.folder, timeout=100, check=False, **{"stdin": subprocess.DEVNULL, **more})  # fmt: skip
-    return without_root(called.stdout), called.returncode
+    ends = {"stdin": subprocess.DEVNULL, "stdout": subprocess.PIPE, "stderr": subprocess.STDOUT, **more}
+    called = subprocess.run([*serve, *words, "--", *command], text=True, cwd=room.folder, timeout=100, check=False, **ends)
+    return without_hints(called.stdout), called.returncode
 
 
 def tunes(room, paths):
@@ -199,6 +199,10 @@ def try_faults(room):
     os.link(path, room.path("r.tunings"))
     with open(room.path("channels"), "w", encoding="utf-8") as file:
         file.write("474000000=Alpha.ts\n")
+    with open(room.path("wrong"), "w", encoding="utf-8") as file:
+        file.write("# two\n474000000:DVBT a.ts\n")
+    with open(room.path("dvbemu.report"), "w", encoding="ascii") as file:
+        file.write("a text of the user's\n")
     with open(room.path("noise"), "wb") as file:
         file.write(os.urandom(300_000).replace(b"\x47", b"\x48"))
     for name, data in ("timeless", NULL * 1000), ("empty", b""), ("short", NULL[:100]):
@@ -207,18 +211,21 @@ def try_faults(room):
     for words, told in (
         (["noise"], "is no transport stream"), (["timeless"], "has no program clock"), (["nowhere"], "No such file"),
         (["empty"], "has no packet"), (["short"], "has no packet"),
-        (["."], "is a folder"), (["--report", path, path], "is the recording"),
+        (["."], "is a folder"), (["--report", path, path], "is the recording: give --report another name"),
         (["--report", "/nowhere/r", path], "No such file"), (["--tune", "474=x:y"], "No such file"),
         (["--tune", f"474000000:DVBX={path}"], "DVBX is none of"), (["--tune", path], "is expected"),
-        (["--channels", path], "lines HZ"), (["--adapter", path, "--adapter", path], "--report FILE"),
+        (["--channels", path], "are wanted, and it is no text"), (["--channels", "wrong"], "are wanted, and line 2 is '474000000:DVBT a.ts'"),
+        (["--report", "-", "--adapter", path, "--adapter", path], "--report FILE"),
         (["--packets", "0", path], "is expected"), ([], "STREAM is missing"),
         (["--tune", f"474000000:DVBT:H={path}"], "has no polarisation"),
-        (["--played", "/nowhere/p", path], "/nowhere/p: No such file"), (["--played", path, path], "is the recording"),
+        (["--keep", "none", "--played", "/nowhere/p", path], "/nowhere/p: No such file"),
+        (["--keep", "none", "--played", path, path], "is the recording: give --played another name"),
         (["--keep", ".", path], "isn't empty"), (["--keep", "noise/kept", path], "Not a directory"),
         (["--report", "r", "--tune", f"474000000={path}"], "r.tunings is the recording"),
         (["--report", "channels", "--channels", "channels"], "channels is the file of channels"),
         (["--keep", "none", "--played", "channels", "--adapter", "channels"], "channels is the file of channels"),
-        (["--report", "both", "--played", "both", path], "both is written already"), ([path], "built\n"),
+        (["--report", "both", "--played", "both", path], "both is written already"), ([path], "dvbemu.report is no report"),
+        (["--keep", "none", path], "built\n"),
     ):  # fmt: skip
         before = sizes(room.folder)
         out, status = call(room, words, ["true"], serve=["python3", "-Bc", UNBUILT, HERE, TOP, SERVE])
@@ -228,11 +235,17 @@ def try_faults(room):
 
 def try_reports(room):
     """A report goes to a device and into a pipe, a file is written anew, and a report that can't be written is told."""
-    words = ["--packets", str(RATE), room.stream, "--report"]
+    words, told = ["--packets", str(RATE), room.stream, "--report"], "dvbemu serve: the report is dvbemu.report; `dvbemu explain "
+    for turn in range(2):
+        out, status = call(room, words[:-1], ["echo", "first"], stderr=subprocess.DEVNULL)
+        report = bytes_of(room.path("dvbemu.report"))
+        room.want((status, out) == (0, "first\n") and report.startswith(b"dvbemu 1\n"), f"a report that no word names, {turn}", out)
+    out, _ = call(room, words[:-1], ["true"])
+    room.want(told in out, "where that is", out)
     out, status = call(room, [*words, "/dev/null", "--played", "/dev/null"], ["true"])
     room.want(status == 0 and not out, "a report to /dev/null", out)
-    for where in [], ["--report", "/dev/stdout"]:
-        out, status = call(room, [*words[:-1], *where], ["echo", "first"])
+    for where in "-", "/dev/stdout":
+        out, status = call(room, [*words, where], ["echo", "first"])
         room.want(status == 0 and out.startswith("first\ndvbemu 1\n"), f"a report into a pipe {where}", out[:100])
     with open(room.report, "w", encoding="ascii") as file:
         file.write("old" * 100_000)

@@ -94,13 +94,25 @@ def lines_in(path):
     return [f"{head}={os.path.join(os.path.dirname(path), file)}" for head, file in parts]
 
 
+def not_lines(path):
+    """What a file of channels has in the place of such lines. One that can't be read is told as such."""
+    with open(path, "rb") as file:
+        data = file.read(1 << 20)
+    try:
+        lines = data.decode().split("\n")
+    except UnicodeDecodeError:
+        return "it is no text"
+    for number, line in enumerate(map(str.strip, lines), 1):
+        if line and not line.startswith("#") and not LINE.fullmatch(line):
+            return f"line {number} is {line[:60]!r}"
+    return "it has none"
+
+
 def channels_of(tunings, file, stream, rate):
     """The channels of these words, of the lines of a file, and of a stream that plays everywhere else."""
     lines = [] if file is None else lines_in(file)
     if lines is None:
-        # (one that can't be read is told as such)
-        os.close(os.open(file, os.O_RDONLY))
-        raise Unplayable(f"{file}: lines HZ[:SYSTEM][:H|V|L|R]=FILE are wanted")
+        raise Unplayable(f"{file}: lines HZ[:SYSTEM][:H|V|L|R]=FILE are wanted, and {not_lines(file)}")
     found = [channel_of(word, rate) for word in [*tunings, *lines]]
     return found + ([Channel(None, (), None, Recording(stream, rate))] if stream is not None else [])
 
@@ -115,7 +127,7 @@ class Front:
     """The page that a frontend's programs and this one share."""
 
     SIZE, MOST_SYSTEMS = 4096, 7
-    HEAD, PACKETS_AT, SYSTEMS_AT = struct.Struct("=9I"), 40, 48
+    HEAD, PACKETS_AT, SYSTEMS_AT, SYSTEM_AT = struct.Struct("=9I"), 40, 48, 80 + 4 * 17
 
     def __init__(self, path, systems):
         self.file = os.open(path, os.O_RDWR | os.O_CREAT | os.O_CLOEXEC, 0o600)
@@ -128,6 +140,10 @@ class Front:
         """The count of a tuning that isn't done yet, and what it asks for; None where there is none."""
         wanted, granted, _, _, *asked = self.HEAD.unpack_from(self.page)
         return None if wanted == granted else (wanted, Asked(*asked))
+
+    def was_opened(self):
+        """Whether a program has used the frontend: it has a delivery system from then on."""
+        return struct.unpack_from("=I", self.page, self.SYSTEM_AT) != (0,)
 
     def grant(self, wanted, status):
         """A tuning is done. Programs that wait are told of it by the file."""
