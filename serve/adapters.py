@@ -65,7 +65,8 @@ def sweep(place):
             there = os.lstat(folder)
             if there.st_uid != os.getuid() or time.time() - there.st_mtime < LEFT or os.path.islink(folder):
                 continue
-            with open(os.path.join(folder, HELD), "rb", opener=lambda path, flags: os.open(path, flags | os.O_NOFOLLOW | os.O_NONBLOCK)) as file:
+            held = os.open(os.path.join(folder, HELD), os.O_RDONLY | os.O_NOFOLLOW | os.O_NONBLOCK)
+            with open(held, "rb") as file:
                 fcntl.flock(file, fcntl.LOCK_EX | fcntl.LOCK_NB)
                 if file.read(len(MARK) + 1) == MARK:
                     shutil.rmtree(folder, ignore_errors=True)

@@ -7,11 +7,11 @@ import subprocess
 import tempfile
 import time
 
-from adapters import MARK
 from building import built_server
 from programs import packets_of
 from room import HERE, SERVE, TOP, bytes_of, ran, without_hints
 from stations import NULL, RATE, Station
+from adapters import MARK
 import clock
 
 TUNER = os.path.join(HERE, "tuner.py")

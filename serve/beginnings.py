@@ -9,11 +9,11 @@ import sys
 import tempfile
 import time
 
-from adapters import end_with
 from airs import NAMES, TUNER, call, stations
+from room import RATE, SERVE, calls_of, is_passed, ran
+from adapters import end_with
 from clearing import VARIABLE, tell_program
 from commands import unseen_as
-from room import RATE, SERVE, calls_of, is_passed, ran
 
 # The seconds in which a terminal tells what is waited for, and the byte that stands for Ctrl-C there.
 TELLS, CTRL_C = 20, b"\x03"

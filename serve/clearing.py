@@ -3,6 +3,7 @@ end the kernel brings however this one ends. By then the calls of programs are t
 later are ended, and the folder is removed. Where the folder is gone already there is nothing to do.
 """
 import contextlib
+import errno
 import fcntl
 import os
 import shutil
@@ -53,8 +54,13 @@ def end_all(those_left, seconds, tell=os.kill):
 
 
 def tell_program(number, value, sent):
-    """Sends a signal to a process that finds these adapters, and to none that has got its number since."""
-    held = os.pidfd_open(number)
+    """Sends a signal to a process that finds these adapters, and to none that has got its number since; a kernel before 5.3 can't tell."""
+    try:
+        held = os.pidfd_open(number)
+    except (AttributeError, OSError) as fault:
+        if getattr(fault, "errno", errno.ENOSYS) == errno.ENOSYS:
+            os.kill(number, sent)
+        return
     try:
         if finds(number, value):
             signal.pidfd_send_signal(held, sent)

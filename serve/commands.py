@@ -10,8 +10,9 @@ import sys
 from building import Stopped
 from clearing import VARIABLE, end_all, end_programs
 
-# Of an executable file: a segment that names the system's loader, and the note of Go's linker, behind its length.
+# Of an executable file: the kind of a segment that names the system's loader, and the kind and name of a note of Go's linker.
 PT_INTERP, GO_NOTE = b"\3\0\0\0", b"\4\0\0\0Go\0\0"
+
 
 def children():
     """The processes that this one has started, or has got from those that have ended."""
