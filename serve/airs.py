@@ -178,7 +178,7 @@ def try_forms(room):
         out, status = call(room, ["--keep", "none", "-"], [TUNER, "474000000"], stdin=file)
     room.want(status == 0 and out == "474000000 Alpha Beta\n", "standard input", out)
     script = f"cat {room.path('long')} | \"$0\" --keep none /dev/stdin -- \"$1\" 474000000"
-    out = ran(["sh", "-c", script, SERVE, TUNER]).stdout
+    out = without_hints(ran(["sh", "-c", script, SERVE, TUNER]).stdout)
     room.want(out == "474000000 Alpha Beta\n", "a pipe", out)
     script = "cat long; exec sleep 1000"
     with subprocess.Popen(["sh", "-c", script], stdout=subprocess.PIPE, cwd=room.folder) as source:

@@ -10,7 +10,7 @@ import tempfile
 import time
 
 from airs import NAMES, TUNER, call, stations
-from room import RATE, SERVE, calls_of, is_passed, ran
+from room import RATE, SERVE, calls_of, is_passed, ran, without_hints
 from adapters import end_with
 from clearing import VARIABLE, tell_program
 from commands import unseen_as
@@ -128,9 +128,8 @@ def try_root(room):
     for command, wanted in (["ls", "/dev/dvb/adapter0"], "demux0\ndvr0\nfrontend0\n"), (["cat", DEMUX], f"cat: {DEMUX}: Permission denied\n"):
         words = [SERVE, "--keep", "none", "--packets", RATE, room.stream, "--", sys.executable, "-c", script, *command]
         out = ran(words).stdout
-        told, _, rest = out.partition("\n")
-        has_told = told.startswith("dvbemu serve: started by root: a program that gives up root's rights can't open")
-        room.want(has_told and rest == wanted, f"a program without root's rights: {' '.join(command)}", out)
+        has_told = out.startswith("dvbemu serve: started by root: a program that gives up root's rights can't open")
+        room.want(has_told and without_hints(out) == wanted, f"a program without root's rights: {' '.join(command)}", out)
 
 
 def try_unseen(room):

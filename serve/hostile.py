@@ -28,7 +28,8 @@ def try_bad_requests(room):
     out, status = room.run("sh", "-c", script, BAD, calls_of(room), seats="2")
     room.want(status == 0 and is_passed(out), "a program behind others that ask badly", out)
     room.want(re.search(r"^\d+ answered$", out, re.M), "each bad request is answered", out)
-    room.want("mode 700\n" in out, "the folder of pipes", out)
+    # (root's can be passed through by others, who see the tree below it and no pipe)
+    room.want(f"mode {700 if os.geteuid() else 711}\n" in out, "the folder of pipes", out)
     room.is_right("bad requests")
 
 
