@@ -38,10 +38,10 @@ def try_once(room):
 
 def try_full(room):
     """Where a file can't be written the program is served on, and that is told at the end; no report is made of such a folder."""
-    folder, server = room.path("full"), room.path("server")
+    folder, server = room.path("full"), room.path("a server")
     with open(server, "w", encoding="ascii", opener=lambda path, flags: os.open(path, flags, 0o700)) as file:
         file.write(f"#!/bin/sh\nulimit -f {BLOCKS}\nexec {shlex.join(built_server())} \"$@\"\n")
-    out, status = room.run(calls_of(room), keep=folder, before=["env", f"DVBEMU_SERVER={server}"])
+    out, status = room.run(calls_of(room), keep=folder, before=["env", f"DVBEMU_SERVER={shlex.quote(server)}"])
     all_passed(room, out, status, "a program whose calls can't be written", 1)
     room.want("dvb_serve: what was called can't be written\n" in out, "that is told", out)
     sizes = [os.path.getsize(os.path.join(folder, name)) for name in os.listdir(folder)]

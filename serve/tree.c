@@ -75,15 +75,15 @@ static int in_tree(const char *path, char *into)
 /* The place in the tree of a path below /dev/dvb; 0 where it is none, as far as its words say. */
 int led(int there, const char *path, char *into)
 {
-	char base[PATH], whole[2 * PATH], clean[PATH];
+	char base[PATH], whole[PATH], clean[PATH];
 	if (!adapters || !path || !*path)
 		return 0;
 	if (*path == '/')
 		return (is_below(path) || strstr(path, "dvb")) && strlen(path) < PATH && plain(path, clean) && in_tree(clean, into);
-	if (!base_of(there, base))
+	if (!base_of(there, base) || !tree_in(base))
 		return 0;
-	snprintf(whole, sizeof whole, "%s/%s", base + tree_in(base), path);
-	return tree_in(base) && strlen(whole) < PATH && plain(whole, clean) && in_tree(clean, into);
+	int length = snprintf(whole, sizeof whole, "%s/%s", base + tree_in(base), path);
+	return length < PATH && plain(whole, clean) && in_tree(clean, into);
 }
 
 /* puts the file of a link in the place of its name, where a path up to `end` is one: whether it was */
