@@ -382,6 +382,23 @@ EXPORT char *realpath(const char *restrict path, char *restrict into)
 	return into;
 }
 
+EXPORT ssize_t readlinkat(int there, const char *restrict path, char *restrict into, size_t room)
+{
+	char place[PATH];
+	init();
+	int is_led = led(there, path, place);
+	return NEXT(readlinkat)(is_led ? AT_FDCWD : there, is_led ? place : path, into, room);
+}
+
+EXPORT ssize_t readlink(const char *restrict path, char *restrict into, size_t room) { return readlinkat(AT_FDCWD, path, into, room); }
+EXPORT ssize_t __readlink_chk(const char *path, char *into, size_t room, size_t whole);
+EXPORT ssize_t __readlink_chk(const char *path, char *into, size_t room, size_t whole) { return (void)whole, readlink(path, into, room); }
+EXPORT ssize_t __readlinkat_chk(int there, const char *path, char *into, size_t room, size_t whole);
+EXPORT ssize_t __readlinkat_chk(int there, const char *path, char *into, size_t room, size_t whole)
+{
+	return (void)whole, readlinkat(there, path, into, room);
+}
+
 EXPORT char *canonicalize_file_name(const char *path) { return realpath(path, NULL); }
 EXPORT char *__realpath_chk(const char *path, char *into, size_t room);
 EXPORT char *__realpath_chk(const char *path, char *into, size_t room) { return (void)room, realpath(path, into); }

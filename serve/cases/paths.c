@@ -148,6 +148,10 @@ static void real_paths(void)
 	want(made && !strcmp(made, DEMUX), "realpath");
 	want(realpath("/dev/dvb", real) && !strcmp(real, "/dev/dvb"), "realpath of the folder");
 	want(!realpath("/dev/dvb/adapter0/demux7", real) && errno == ENOENT, "realpath of what isn't there");
+	want(readlink("/dev/dvb", real, sizeof real) < 0 && errno == EINVAL, "readlink of the folder, which is no link");
+	want(readlinkat(AT_FDCWD, DEMUX, real, sizeof real) < 0 && errno == EINVAL, "readlinkat of a device");
+	want(readlink("/dev/dvb/adapter9", real, sizeof real) < 0 && errno == ENOENT, "readlink of what isn't there");
+	want(readlink("/proc/self/exe", real, sizeof real) > 0, "readlink of a link");
 }
 
 static void flags_of_open(void)

@@ -43,7 +43,7 @@ static int has_attributes(void) { return getxattr(DEMUX, "user.x", bytes, 8) < 0
 static int is_real(void)
 {
 	char *real = realpath(DEMUX, NULL), *other = realpath("/etc", NULL);
-	return real && !strcmp(real, DEMUX) && other;
+	return real && !strcmp(real, DEMUX) && other && readlink(DEMUX, (char *)bytes, 9) < 0 && readlink("/proc/self/exe", (char *)bytes, 9) > 0;
 }
 
 static int is_link(void)
