@@ -242,6 +242,11 @@ def try_reports(room):
         room.want((status, out) == (0, "first\n") and report.startswith(b"dvbemu 1\n"), f"a report that no word names, {turn}", out)
     out, _ = call(room, words[:-1], ["true"])
     room.want(told in out, "where that is", out)
+    os.remove(room.path("dvbemu.report"))
+    os.symlink("/nowhere/r", room.path("dvbemu.report"))
+    out, status = call(room, words[:-1], ["true"])
+    told = "dvbemu serve: dvbemu.report: No such file or directory; --report FILE names another file\n"
+    room.want((status, out) == (1, told), "a report that no word names, and that can't be written", out)
     out, status = call(room, [*words, "/dev/null", "--played", "/dev/null"], ["true"])
     room.want(status == 0 and not out, "a report to /dev/null", out)
     for where in "-", "/dev/stdout":
