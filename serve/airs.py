@@ -319,8 +319,7 @@ def is_there(pid):
 
 
 def try_crash(room):
-    """Where the wrapper is killed its server ends, programs that wait are told, those that don't end are ended, and its folder goes. One that
-    is left nevertheless the next wrapper takes away."""
+    """Where the wrapper is killed its server ends, programs that wait are told, those that don't end are ended, and its folder goes."""
     with tempfile.TemporaryDirectory() as place:
         script = "ls -d \"$TMPDIR\"/dvbemu-*/ > folder; \"$0\" hold > held; trap '' TERM; sleep 600 & echo $! > other; wait; exec sleep 600"
         words = [SERVE, "--keep", "none", room.stream, "--packets", str(RATE), "--", "sh", "-c", script, TUNER]
@@ -342,27 +341,27 @@ def try_crash(room):
         others.append(bytes_of(room.path("other")).decode().strip())
         room.want(room.comes(lambda: not any(map(is_there, others))), "the server and the command end", others)
         room.want(room.comes(lambda: not os.path.exists(left)), "the folder goes", left)
-        os.mkdir(left)
-        with open(os.path.join(left, "held"), "wb") as file:
-            file.write(MARK)
-        call(room, ["--keep", "none", "--packets", str(RATE), room.stream], ["true"], env=dict(os.environ, TMPDIR=place))
-        room.want(os.path.isdir(left), "a new one is nobody else's to take", left)
-        os.utime(left, (time.time() - OLD, time.time() - OLD))
-        call(room, ["--keep", "none", "--packets", str(RATE), room.stream], ["true"], env=dict(os.environ, TMPDIR=place))
-        room.want(not os.path.exists(left), "an old one is taken away", left)
-        os.mkdir(left)
-        with open(os.path.join(left, "held"), "wb"):
-            pass
-        os.utime(left, (time.time() - OLD, time.time() - OLD))
-        call(room, ["--keep", "none", "--packets", str(RATE), room.stream], ["true"], env=dict(os.environ, TMPDIR=place))
-        room.want(os.path.exists(left), "one that has its name, and isn't of dvbemu serve, stays", left)
-        words, blank = ["--keep", "none", "--packets", str(RATE), room.stream], os.path.join(place, "a folder of mine")
-        long = os.path.join(place, 250 * "l")
-        for folder in blank, long:
+
+
+def try_folders(room):
+    """A folder that a wrapper has left the next one takes away, where it is old, nobody holds it, and it has the mark; and a TMPDIR that
+    the preload can't have isn't taken."""
+    words = ["--keep", "none", "--packets", str(RATE), room.stream]
+    with tempfile.TemporaryDirectory() as place:
+        left = os.path.join(place, "dvbemu-left")
+        for mark, age, stays in (MARK, 0, True), (MARK, OLD, False), (b"", OLD, True):
+            os.makedirs(left, exist_ok=True)
+            with open(os.path.join(left, "held"), "wb") as file:
+                file.write(mark)
+            os.utime(left, (time.time() - age, time.time() - age))
+            call(room, words, ["true"], env=dict(os.environ, TMPDIR=place))
+            room.want(os.path.exists(left) == stays, f"a folder with {mark}, {age} s old, stays: {stays}")
+        for name in "a folder of mine", 250 * "l":
+            folder = os.path.join(place, name)
             os.mkdir(folder)
             out, status = call(room, words, ["ls", "/dev/dvb"], env=dict(os.environ, TMPDIR=folder))
             room.want(status == 0 and out == "adapter0\n", f"TMPDIR is {folder}", out)
 
 
 PARTS = (try_channels, try_systems, try_megahertz, try_shared, try_live, try_adapters, try_forms, try_faults, try_reports, try_libudev,
-         try_clocks, try_crash)  # fmt: skip
+         try_clocks, try_crash, try_folders)  # fmt: skip
