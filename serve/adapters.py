@@ -41,20 +41,28 @@ def adopt():
     SYSTEM.prctl(PR_SET_CHILD_SUBREAPER, 1, 0, 0, 0)
 
 
+def is_fit(place):
+    """Whether the preload can have a folder there: its path is short, and without a blank or a colon, where the system's loader ends a name."""
+    return len(os.fsencode(place)) <= ROOM and not set(" :;,\t\n") & set(place) and os.access(place, os.W_OK)
+
+
+def is_open(place):
+    """Whether others can look into a folder, as who has given up root's rights has to."""
+    return all(os.stat(place[:at] or "/").st_mode & stat.S_IXOTH for at, letter in enumerate(f"{place}/") if letter == "/")
+
+
 def place_of_folders():
-    """Where temporary files go: to a short path, without a blank or a colon, at which the system's loader would end a name."""
+    """Where temporary files go."""
     places = [os.path.realpath(place) for place in (tempfile.gettempdir(), "/tmp", "/var/tmp", "/dev/shm")]
-    for place in places:
-        if len(os.fsencode(place)) <= ROOM and not set(" :;,\t\n") & set(place) and os.access(place, os.W_OK):
-            return place
-    raise Stopped(f"{places[0]} can't have the adapter's folder: set TMPDIR to one of at most {ROOM} bytes, without blanks and colons")
+    fit = list(filter(is_fit, places))
+    if not fit:
+        raise Stopped(f"{places[0]} can't have the adapter's folder: set TMPDIR to one of at most {ROOM} bytes, without blanks and colons")
+    return fit[0] if os.geteuid() else next(filter(is_open, fit), fit[0])
 
 
-def tell_root(path):
+def tell_root(place):
     """Says what a program finds that gives up root's rights."""
-    parents = [path[:at] or "/" for at, letter in enumerate(path) if letter == "/"]
-    is_open = all(os.stat(parent).st_mode & stat.S_IXOTH for parent in parents)
-    finds = "can't open the adapter's devices" if is_open else f"sees the machine's own /dev/dvb, as {os.path.dirname(path)} is closed to others"
+    finds = "can't open the adapter's devices" if is_open(place) else f"sees the machine's own /dev/dvb, as {place} is closed to others"
     print(f"dvbemu serve: started by root: a program that gives up root's rights {finds}; start dvbemu serve as its user", file=sys.stderr)
 
 
@@ -96,7 +104,7 @@ class Folder:
         shutil.copyfile(PRELOAD, self.preload)
         if os.geteuid() == 0:
             self.show_to_others()
-            tell_root(self.path)
+            tell_root(place)
 
     def show_to_others(self):
         """Who has given up root's rights has the preload and sees the tree, and not the machine's own devices; the rest is root's alone."""

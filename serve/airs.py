@@ -321,6 +321,8 @@ def is_there(pid):
 def try_crash(room):
     """Where the wrapper is killed its server ends, programs that wait are told, those that don't end are ended, and its folder goes."""
     with tempfile.TemporaryDirectory() as place:
+        # (one of root's that is closed to others isn't taken)
+        os.chmod(place, 0o755)
         script = "ls -d \"$TMPDIR\"/dvbemu-*/ > folder; \"$0\" hold > held; trap '' TERM; sleep 600 & echo $! > other; wait; exec sleep 600"
         words = [SERVE, "--keep", "none", room.stream, "--packets", str(RATE), "--", "sh", "-c", script, TUNER]
         with subprocess.Popen(words, cwd=room.folder, env=dict(os.environ, TMPDIR=place), start_new_session=True) as child:
@@ -348,6 +350,7 @@ def try_folders(room):
     the preload can't have isn't taken."""
     words = ["--keep", "none", "--packets", str(RATE), room.stream]
     with tempfile.TemporaryDirectory() as place:
+        os.chmod(place, 0o755)
         left = os.path.join(place, "dvbemu-left")
         for mark, age, stays in (MARK, 0, True), (MARK, OLD, False), (b"", OLD, True):
             os.makedirs(left, exist_ok=True)
