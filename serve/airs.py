@@ -7,10 +7,11 @@ import subprocess
 import tempfile
 import time
 
-from building import SERVER
+from building import built_server
 from programs import packets_of
-from room import HERE, SERVE, TOP, bytes_of, ran
+from room import HERE, SERVE, TOP, bytes_of, ran, without_hints
 from stations import NULL, RATE, Station
+from adapters import MARK
 import clock
 
 TUNER = os.path.join(HERE, "tuner.py")
@@ -22,7 +23,7 @@ UNBUILT = """import runpy, sys
 _, here, top, *sys.argv = sys.argv
 sys.path[1:1] = here, top + "/tools/lib"
 import building
-building.build_preload = building.build_server = lambda: sys.exit("built")
+building.build_preload = building.built_server = lambda: sys.exit("built")
 runpy.run_path(sys.argv[0], run_name="__main__")
 """
 
@@ -38,9 +39,9 @@ def stations(room):
 
 def call(room, words, command, serve=(SERVE,), **more):
     """What dvbemu-serve writes with these words, and its status."""
-    called = subprocess.run([*serve, *words, "--", *command], stdout=subprocess.PIPE, stderr=subprocess.STDOUT, text=True,
-                            cwd=room.folder, timeout=100, check=False, **{"stdin": subprocess.DEVNULL, **more})  # fmt: skip
-    return called.stdout, called.returncode
+    ends = {"stdin": subprocess.DEVNULL, "stdout": subprocess.PIPE, "stderr": subprocess.STDOUT, **more}
+    called = subprocess.run([*serve, *words, "--", *command], text=True, cwd=room.folder, timeout=100, check=False, **ends)
+    return without_hints(called.stdout), called.returncode
 
 
 def tunes(room, paths):
@@ -108,6 +109,15 @@ def try_systems(room):
     room.want(out.split("\n")[:-1] == heard, "a file of channels", out)
 
 
+def try_megahertz(room):
+    """A number that is too small for Hz, or for a satellite's kHz, is one of MHz, which is told."""
+    paths = stations(room)
+    out, _ = call(room, ["--keep", "none", "--tune", f"474={paths[0]}", f"11362:DVBS2:H={paths[1]}"], [TUNER, "474000000", "1612000:6:1:1"])
+    told = [f"dvbemu serve: 474={paths[0]}: 474 is taken as 474 MHz", f"dvbemu serve: 11362:DVBS2:H={paths[1]}: 11362 is taken as 11362 MHz",
+            "474000000 Alpha Beta", "1612000:6:1:1 Gamma Delta"]  # fmt: skip
+    room.want(out.split("\n")[:-1] == told, "frequencies in MHz", out)
+
+
 def try_shared(room):
     """A program beside one that has tuned sees its lock, and records what it has tuned to."""
     paths = stations(room)
@@ -168,7 +178,7 @@ def try_forms(room):
         out, status = call(room, ["--keep", "none", "-"], [TUNER, "474000000"], stdin=file)
     room.want(status == 0 and out == "474000000 Alpha Beta\n", "standard input", out)
     script = f"cat {room.path('long')} | \"$0\" --keep none /dev/stdin -- \"$1\" 474000000"
-    out = ran(["sh", "-c", script, SERVE, TUNER]).stdout
+    out = without_hints(ran(["sh", "-c", script, SERVE, TUNER]).stdout)
     room.want(out == "474000000 Alpha Beta\n", "a pipe", out)
     script = "cat long; exec sleep 1000"
     with subprocess.Popen(["sh", "-c", script], stdout=subprocess.PIPE, cwd=room.folder) as source:
@@ -189,6 +199,10 @@ def try_faults(room):
     os.link(path, room.path("r.tunings"))
     with open(room.path("channels"), "w", encoding="utf-8") as file:
         file.write("474000000=Alpha.ts\n")
+    with open(room.path("wrong"), "w", encoding="utf-8") as file:
+        file.write("# two\n474000000:DVBT a.ts\n")
+    with open(room.path("dvbemu.report"), "w", encoding="ascii") as file:
+        file.write("a text of the user's\n")
     with open(room.path("noise"), "wb") as file:
         file.write(os.urandom(300_000).replace(b"\x47", b"\x48"))
     for name, data in ("timeless", NULL * 1000), ("empty", b""), ("short", NULL[:100]):
@@ -197,18 +211,21 @@ def try_faults(room):
     for words, told in (
         (["noise"], "is no transport stream"), (["timeless"], "has no program clock"), (["nowhere"], "No such file"),
         (["empty"], "has no packet"), (["short"], "has no packet"),
-        (["."], "is a folder"), (["--report", path, path], "is the recording"),
+        (["."], "is a folder"), (["--report", path, path], "is the recording: give --report another name"),
         (["--report", "/nowhere/r", path], "No such file"), (["--tune", "474=x:y"], "No such file"),
         (["--tune", f"474000000:DVBX={path}"], "DVBX is none of"), (["--tune", path], "is expected"),
-        (["--channels", path], "lines HZ"), (["--adapter", path, "--adapter", path], "--report FILE"),
+        (["--channels", path], "are wanted, and it is no text"), (["--channels", "wrong"], "are wanted, and line 2 is '474000000:DVBT a.ts'"),
+        (["--report", "-", "--adapter", path, "--adapter", path], "--report FILE"),
         (["--packets", "0", path], "is expected"), ([], "STREAM is missing"),
         (["--tune", f"474000000:DVBT:H={path}"], "has no polarisation"),
-        (["--played", "/nowhere/p", path], "/nowhere/p: No such file"), (["--played", path, path], "is the recording"),
+        (["--keep", "none", "--played", "/nowhere/p", path], "/nowhere/p: No such file"),
+        (["--keep", "none", "--played", path, path], "is the recording: give --played another name"),
         (["--keep", ".", path], "isn't empty"), (["--keep", "noise/kept", path], "Not a directory"),
         (["--report", "r", "--tune", f"474000000={path}"], "r.tunings is the recording"),
         (["--report", "channels", "--channels", "channels"], "channels is the file of channels"),
         (["--keep", "none", "--played", "channels", "--adapter", "channels"], "channels is the file of channels"),
-        (["--report", "both", "--played", "both", path], "both is written already"), ([path], "built\n"),
+        (["--report", "both", "--played", "both", path], "both is written already"), ([path], "dvbemu.report is no report"),
+        (["--keep", "none", path], "built\n"),
     ):  # fmt: skip
         before = sizes(room.folder)
         out, status = call(room, words, ["true"], serve=["python3", "-Bc", UNBUILT, HERE, TOP, SERVE])
@@ -218,11 +235,22 @@ def try_faults(room):
 
 def try_reports(room):
     """A report goes to a device and into a pipe, a file is written anew, and a report that can't be written is told."""
-    words = ["--packets", str(RATE), room.stream, "--report"]
+    words, told = ["--packets", str(RATE), room.stream, "--report"], "dvbemu serve: the report is dvbemu.report; `dvbemu explain "
+    for turn in range(2):
+        out, status = call(room, words[:-1], ["echo", "first"], stderr=subprocess.DEVNULL)
+        report = bytes_of(room.path("dvbemu.report"))
+        room.want((status, out) == (0, "first\n") and report.startswith(b"dvbemu 1\n"), f"a report that no word names, {turn}", out)
+    out, _ = call(room, words[:-1], ["true"])
+    room.want(told in out, "where that is", out)
+    os.remove(room.path("dvbemu.report"))
+    os.symlink("/nowhere/r", room.path("dvbemu.report"))
+    out, status = call(room, words[:-1], ["true"])
+    told = "dvbemu serve: dvbemu.report: No such file or directory; --report FILE names another file\n"
+    room.want((status, out) == (1, told), "a report that no word names, and that can't be written", out)
     out, status = call(room, [*words, "/dev/null", "--played", "/dev/null"], ["true"])
     room.want(status == 0 and not out, "a report to /dev/null", out)
-    for where in [], ["--report", "/dev/stdout"]:
-        out, status = call(room, [*words[:-1], *where], ["echo", "first"])
+    for where in "-", "/dev/stdout":
+        out, status = call(room, [*words, where], ["echo", "first"])
         room.want(status == 0 and out.startswith("first\ndvbemu 1\n"), f"a report into a pipe {where}", out[:100])
     with open(room.report, "w", encoding="ascii") as file:
         file.write("old" * 100_000)
@@ -291,9 +319,10 @@ def is_there(pid):
 
 
 def try_crash(room):
-    """Where the wrapper is killed its server ends, programs that wait are told, those that don't end are ended, and its folder goes. One that
-    is left nevertheless the next wrapper takes away."""
+    """Where the wrapper is killed its server ends, programs that wait are told, those that don't end are ended, and its folder goes."""
     with tempfile.TemporaryDirectory() as place:
+        # (one of root's that is closed to others isn't taken)
+        os.chmod(place, 0o755)
         script = "ls -d \"$TMPDIR\"/dvbemu-*/ > folder; \"$0\" hold > held; trap '' TERM; sleep 600 & echo $! > other; wait; exec sleep 600"
         words = [SERVE, "--keep", "none", room.stream, "--packets", str(RATE), "--", "sh", "-c", script, TUNER]
         with subprocess.Popen(words, cwd=room.folder, env=dict(os.environ, TMPDIR=place), start_new_session=True) as child:
@@ -301,7 +330,8 @@ def try_crash(room):
             room.want(room.comes(lambda: os.path.exists(held) and b"held" in bytes_of(held)), "a program that waits")
             with open(f"/proc/{child.pid}/task/{child.pid}/children", encoding="ascii") as file:
                 others = file.read().split()
-            servers = [pid for pid in others if os.fsencode(SERVER.split()[0]) in bytes_of(f"/proc/{pid}/cmdline").split(b"\0")]
+            server = os.fsencode(built_server()[0])
+            servers = [pid for pid in others if server in bytes_of(f"/proc/{pid}/cmdline").split(b"\0")]
             until = time.monotonic() + ENDS
             child.send_signal(signal.SIGKILL)
         has_ended = room.comes(lambda: not any(map(is_there, servers)), until - time.monotonic())
@@ -313,19 +343,28 @@ def try_crash(room):
         others.append(bytes_of(room.path("other")).decode().strip())
         room.want(room.comes(lambda: not any(map(is_there, others))), "the server and the command end", others)
         room.want(room.comes(lambda: not os.path.exists(left)), "the folder goes", left)
-        os.mkdir(left)
-        with open(os.path.join(left, "held"), "wb"):
-            pass
-        call(room, ["--keep", "none", "--packets", str(RATE), room.stream], ["true"], env=dict(os.environ, TMPDIR=place))
-        room.want(os.path.isdir(left), "a new one is nobody else's to take", left)
-        os.utime(left, (time.time() - OLD, time.time() - OLD))
-        call(room, ["--keep", "none", "--packets", str(RATE), room.stream], ["true"], env=dict(os.environ, TMPDIR=place))
-        room.want(not os.path.exists(left), "an old one is taken away", left)
-        words, blank = ["--keep", "none", "--packets", str(RATE), room.stream], os.path.join(place, "a folder of mine")
-        os.mkdir(blank)
-        out, status = call(room, words, ["ls", "/dev/dvb"], env=dict(os.environ, TMPDIR=blank))
-        room.want(status == 0 and out == "adapter0\n", "a folder with blanks", out)
 
 
-PARTS = (try_channels, try_systems, try_shared, try_live, try_adapters, try_forms, try_faults, try_reports, try_libudev,
-         try_clocks, try_crash)  # fmt: skip
+def try_folders(room):
+    """A folder that a wrapper has left the next one takes away, where it is old, nobody holds it, and it has the mark; and a TMPDIR that
+    the preload can't have isn't taken."""
+    words = ["--keep", "none", "--packets", str(RATE), room.stream]
+    with tempfile.TemporaryDirectory() as place:
+        os.chmod(place, 0o755)
+        left = os.path.join(place, "dvbemu-left")
+        for mark, age, stays in (MARK, 0, True), (MARK, OLD, False), (b"", OLD, True):
+            os.makedirs(left, exist_ok=True)
+            with open(os.path.join(left, "held"), "wb") as file:
+                file.write(mark)
+            os.utime(left, (time.time() - age, time.time() - age))
+            call(room, words, ["true"], env=dict(os.environ, TMPDIR=place))
+            room.want(os.path.exists(left) == stays, f"a folder with {mark}, {age} s old, stays: {stays}")
+        for name in "a folder of mine", 250 * "l":
+            folder = os.path.join(place, name)
+            os.mkdir(folder)
+            out, status = call(room, words, ["ls", "/dev/dvb"], env=dict(os.environ, TMPDIR=folder))
+            room.want(status == 0 and out == "adapter0\n", f"TMPDIR is {folder}", out)
+
+
+PARTS = (try_channels, try_systems, try_megahertz, try_shared, try_live, try_adapters, try_forms, try_faults, try_reports, try_libudev,
+         try_clocks, try_crash, try_folders)  # fmt: skip

@@ -4,16 +4,22 @@ import pty
 import select
 import shutil
 import signal
+import subprocess
+import sys
 import tempfile
 import time
 
 from airs import NAMES, TUNER, call, stations
-from room import RATE, SERVE, calls_of, is_passed, ran
+from room import RATE, SERVE, calls_of, is_passed, ran, without_hints
+from adapters import end_with
+from clearing import VARIABLE, tell_program
+from commands import unseen_as
 
 # The seconds in which a terminal tells what is waited for, and the byte that stands for Ctrl-C there.
 TELLS, CTRL_C = 20, b"\x03"
 # How many bells there are when a program begins, when it has opened a node, and that one once more with another.
 BELLS = "0\n1\n2\n"
+DEMUX = "/dev/dvb/adapter0/demux0"
 # Scripts, with the statuses that they end with.
 ENDS = {"exit 77": 77, "kill -SEGV $$": 139, "kill -KILL $$": 137, "(trap '' TERM; sleep 100) & exit 5": 5}
 
@@ -113,4 +119,66 @@ def try_bells(room):
     room.want(out == BELLS, "a bell's file comes with the first open of its node", out)
 
 
-PARTS = try_terminal, try_bare, try_ends, try_nested, try_bells
+def try_root(room):
+    """A program that gives up root's rights sees the adapter, and can't open it; and that is told."""
+    if os.geteuid():
+        print("serve: not root, who could give up rights, skipped")
+        return
+    script = "import os, sys; os.setgroups([]); os.setgid(65534); os.setuid(65534); os.execvp(sys.argv[1], sys.argv[1:])"
+    os.mkdir(room.path("closed"), 0o700)
+    for command, wanted in (["ls", "/dev/dvb/adapter0"], "demux0\ndvr0\nfrontend0\n"), (["cat", DEMUX], f"cat: {DEMUX}: Permission denied\n"):
+        words = ["env", f"TMPDIR={room.path('closed')}", SERVE, "--keep", "none", "--packets", RATE, room.stream, "--", sys.executable, "-c", script, *command]
+        out = ran(words).stdout
+        has_told = out.startswith("dvbemu serve: started by root: a program that gives up root's rights can't open")
+        room.want(has_told and without_hints(out) == wanted, f"a program without root's rights: {' '.join(command)}", out)
+
+
+def try_unseen(room):
+    """What won't have the preload is told at the start, and at the end that nobody has opened the adapter; a command of one word that
+    isn't there is asked for its quotes, and no report is begun."""
+    source, plain, other = (room.path(name) for name in ("small.c", "small", "other"))
+    with open(source, "w", encoding="ascii") as file:
+        file.write("int main(void) { return 0; }\n#ifdef GO\n__asm__(\".pushsection .note.go.buildid,\\\"a\\\",@note\\n"
+                   ".long 4, 0, 4\\n.ascii \\\"Go\\\\0\\\\0\\\"\\n.popsection\");\n#endif\n")  # fmt: skip
+    for flags, wanted in ([], None), (["-static"], "is linked statically"), (["-static-pie"], "is linked statically"), (["-DGO"], "is made by Go"):
+        built = subprocess.call(["cc", *flags, "-o", plain, source])
+        why = None if built else unseen_as(plain)
+        room.want(not built and (why == wanted or wanted and why.startswith(wanted)), f"a program by {flags}", why)
+    subprocess.call(["cc", "-static", "-o", plain, source])
+    out = ran([SERVE, "--keep", "none", "--packets", RATE, room.stream, "--", plain]).stdout
+    said = f"dvbemu serve: {plain} is linked statically: it will not see the emulated adapter\n"
+    room.want(out.startswith(said) and "\ndvbemu serve: no program opened the adapter; " in out, "a static program", out)
+    for opened in f"exec 3<{DEMUX}", "exec 3<>/dev/dvb/adapter0/frontend0":
+        out = ran([SERVE, "--keep", "none", "--packets", RATE, room.stream, "--", "sh", "-c", opened]).stdout
+        room.want("no program opened" not in out, opened, out)
+    with open(plain, "rb") as file, open(other, "wb") as into:
+        head = file.read()
+        into.write(head[:4] + b"\1" + head[5:])
+    room.want(unseen_as(other) == "is a program of 32 bits" and unseen_as(source) is None, "other files", unseen_as(other))
+    if os.geteuid() == 0:
+        os.chown(plain, 65534, -1)
+        os.chmod(plain, 0o4755)
+        room.want(unseen_as(plain) == "is setuid or setgid", "a program that is another's", unseen_as(plain))
+    ended = ran([SERVE, "--packets", RATE, "--report", room.path("none"), room.stream, "--", f"{plain} x"])
+    room.want(ended.returncode == 127 and ended.stdout.endswith("; is the command quoted as one word?\n"), "a quoted command", ended.stdout)
+    room.want(not os.path.exists(room.path("none")), "no report of it")
+
+
+def try_parent(room):
+    """A server ends at once where its parent has gone before it could say so, and else it begins."""
+    for parent, wanted in (os.getpid(), 0), (1, -signal.SIGKILL):
+        ended = subprocess.run(["true"], preexec_fn=lambda number=parent: end_with(number), check=False)
+        room.want(ended.returncode == wanted, f"a child of {parent}", ended.returncode)
+
+
+def try_number(room):
+    """Only who finds the adapters is ended, and not who has got its number since."""
+    with subprocess.Popen(["sleep", "100"], env={VARIABLE: room.folder}) as child:
+        tell_program(child.pid, "/another", signal.SIGKILL)
+        time.sleep(0.1)
+        room.want(child.poll() is None, "another process goes on", child.returncode)
+        tell_program(child.pid, room.folder, signal.SIGKILL)
+        room.want(child.wait() == -signal.SIGKILL, "one of these adapters ends", child.returncode)
+
+
+PARTS = try_unseen, try_root, try_parent, try_number, try_terminal, try_bare, try_ends, try_nested, try_bells

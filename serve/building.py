@@ -1,13 +1,14 @@
 """Builds what dvbemu-serve needs, where it isn't built: the server, dvb_serve, and the preload, serve/*.c."""
 import glob
 import os
+import shlex
 import shutil
 import subprocess
 import sys
 
 TOP = os.path.dirname(os.path.dirname(os.path.realpath(__file__)))
-OWN_SERVER = os.path.join(TOP, "crates", "dvb_serve", "out", "dvb_serve")
-SERVER = os.environ.get("DVBEMU_SERVER") or OWN_SERVER
+CRATE = os.path.join(TOP, "crates", "dvb_serve")
+OWN_SERVER, IN_HASTE = os.path.join(CRATE, "out", "dvb_serve"), os.path.join(CRATE, "out", "haste", "dvb_serve")
 PRELOAD = os.path.join(TOP, "serve", "out", "preload.so")
 PARTS = "descriptors", "device", "exec", "frontend", "line", "kept", "tree", "udev", "wait", "watch"
 FLAGS = "-O2", "-Wall", "-Wextra", "-shared", "-fPIC", "-fvisibility=hidden"
@@ -22,17 +23,39 @@ def is_newer(made, sources):
     return os.path.exists(made) and all(os.path.getmtime(path) <= os.path.getmtime(made) for path in sources)
 
 
-def build_server():
-    """Proves and builds the server where there is none or its code is newer."""
+def built_server():
+    """The words that start the server, which is DVBEMU_SERVER or dvb_serve. That is proved and built where there is none or its code is
+    newer; with DVBEMU_UNPROVED=1 it is compiled in haste."""
+    if named := shlex.split(os.environ.get("DVBEMU_SERVER", "")):
+        return named
     parts = (glob.glob(os.path.join(TOP, "crates", "*", part, "**", "*.*"), recursive=True) for part in ("src", "specs"))
     sources = [os.path.join(TOP, "crates.txt"), *(path for part in parts for path in part)]
-    if SERVER != OWN_SERVER or is_newer(OWN_SERVER, sources):
-        return
+    if is_newer(OWN_SERVER, sources):
+        return [OWN_SERVER]
+    in_haste = os.environ.get("DVBEMU_UNPROVED", "0") not in ("", "0")
+    if in_haste and is_newer(IN_HASTE, sources):
+        print("dvbemu serve: the server is not proved; compiled in haste", file=sys.stderr)
+        return [IN_HASTE]
     if shutil.which("rt") is None:
         raise Stopped("the server isn't built, and the toolchain's command rt isn't in the PATH")
-    print("dvbemu serve: proving and building the server; this takes a quarter of an hour or more", file=sys.stderr)
+    return compiled_server() if in_haste else proved_server()
+
+
+def compiled_server():
+    """Compiles the server in haste, and keeps it."""
+    print("dvbemu serve: the server is not proved; compiling in haste, some minutes, once", file=sys.stderr)
+    if subprocess.call([sys.executable, os.path.join(TOP, "tools", "lib", "haste.py"), CRATE], stdin=subprocess.DEVNULL):
+        raise Stopped("the server can't be compiled in haste")
+    return [IN_HASTE]
+
+
+def proved_server():
+    """Proves and builds the server."""
+    print("dvbemu serve: proving and building the server; this takes a quarter of an hour or more (in a hurry: DVBEMU_UNPROVED=1, not proved)",
+          file=sys.stderr)  # fmt: skip
     if subprocess.call([os.path.join(TOP, "tools", "build"), "--program", "dvb_serve"], stdin=subprocess.DEVNULL):
         raise Stopped("the server can't be built")
+    return [OWN_SERVER]
 
 
 def build_preload():

@@ -11,6 +11,8 @@ from recording import Recording, Unplayable
 SYSTEMS = {"DVBC": 1, "DVBCB": 2, "DVBT": 3, "DVBS": 5, "DVBS2": 6, "ISDBT": 8, "ATSC": 11, "DVBT2": 16}
 SATELLITE, TERRESTRIAL, WITH_STREAMS, ANY_STREAM, FIRST = (5, 6), (3,), (6, 16), 0xFFFFFFFF, {6: 5, 16: 3}
 LINE = re.compile(r"(\d+)(?::([A-Za-z0-9/-]+?))?(?::([HVLR]))?=(.+)")
+# Below this many Hz, and of a satellite kHz, nothing is sent: such a number is one of MHz.
+LEAST = 100_000
 # How far a tuner may be off, in Hz, and for a satellite in kHz; and the converters' oscillators in kHz: for the lower band, the upper
 # band, which a tone chooses, and that of C band, above its signals.
 NEAR, NEAR_KHZ, LOW, HIGH, C_BAND, HIGHEST_IF = 2_000_000, 2_000, 9_750_000, 10_600_000, 5_150_000, 3_000_000
@@ -71,7 +73,11 @@ def channel_of(word, rate):
     systems = (SYSTEMS[system],) if system else SATELLITE if polarisation else ()
     if polarisation and not set(systems) <= set(SATELLITE):
         raise Unplayable(f"{word}: {system} has no polarisation")
-    return Channel(int(found[1]), systems, polarisation, Recording(found[4], rate))
+    frequency, recording = int(found[1]), Recording(found[4], rate)
+    if frequency < LEAST:
+        recording.told.append(f"{word}: {frequency} is taken as {frequency} MHz")
+        frequency *= 1_000 if set(systems) & set(SATELLITE) else 1_000_000
+    return Channel(frequency, systems, polarisation, recording)
 
 
 def lines_in(path):
@@ -88,13 +94,25 @@ def lines_in(path):
     return [f"{head}={os.path.join(os.path.dirname(path), file)}" for head, file in parts]
 
 
+def not_lines(path):
+    """What a file of channels has in the place of such lines. One that can't be read is told as such."""
+    with open(path, "rb") as file:
+        data = file.read(1 << 20)
+    try:
+        lines = data.decode().split("\n")
+    except UnicodeDecodeError:
+        return "it is no text"
+    for number, line in enumerate(map(str.strip, lines), 1):
+        if line and not line.startswith("#") and not LINE.fullmatch(line):
+            return f"line {number} is {line[:60]!r}"
+    return "it has none"
+
+
 def channels_of(tunings, file, stream, rate):
     """The channels of these words, of the lines of a file, and of a stream that plays everywhere else."""
     lines = [] if file is None else lines_in(file)
     if lines is None:
-        # (one that can't be read is told as such)
-        os.close(os.open(file, os.O_RDONLY))
-        raise Unplayable(f"{file}: lines HZ[:SYSTEM][:H|V|L|R]=FILE are wanted")
+        raise Unplayable(f"{file}: lines HZ[:SYSTEM][:H|V|L|R]=FILE are wanted, and {not_lines(file)}")
     found = [channel_of(word, rate) for word in [*tunings, *lines]]
     return found + ([Channel(None, (), None, Recording(stream, rate))] if stream is not None else [])
 
@@ -109,7 +127,7 @@ class Front:
     """The page that a frontend's programs and this one share."""
 
     SIZE, MOST_SYSTEMS = 4096, 7
-    HEAD, PACKETS_AT, SYSTEMS_AT = struct.Struct("=9I"), 40, 48
+    HEAD, PACKETS_AT, SYSTEMS_AT, SYSTEM_AT = struct.Struct("=9I"), 40, 48, 80 + 4 * 17
 
     def __init__(self, path, systems):
         self.file = os.open(path, os.O_RDWR | os.O_CREAT | os.O_CLOEXEC, 0o600)
@@ -122,6 +140,10 @@ class Front:
         """The count of a tuning that isn't done yet, and what it asks for; None where there is none."""
         wanted, granted, _, _, *asked = self.HEAD.unpack_from(self.page)
         return None if wanted == granted else (wanted, Asked(*asked))
+
+    def was_opened(self):
+        """Whether a program has used the frontend: it has a delivery system from then on."""
+        return struct.unpack_from("=I", self.page, self.SYSTEM_AT) != (0,)
 
     def grant(self, wanted, status):
         """A tuning is done. Programs that wait are told of it by the file."""

@@ -3,6 +3,7 @@ end the kernel brings however this one ends. By then the calls of programs are t
 later are ended, and the folder is removed. Where the folder is gone already there is nothing to do.
 """
 import contextlib
+import errno
 import fcntl
 import os
 import shutil
@@ -41,20 +42,35 @@ def programs_of(value):
     return [number for number in processes() if finds(number, value)]
 
 
-def end_all(those_left, seconds):
+def end_all(those_left, seconds, tell=os.kill):
     """Ends the processes that are left, which are asked for again and again: by SIGTERM, and from some seconds on by SIGKILL. One that
     stays for so many seconds is left."""
     begun = time.monotonic()
     while (gone := time.monotonic() - begun) < seconds and (left := those_left()):
         for number in left:
             with contextlib.suppress(OSError):
-                os.kill(number, signal.SIGTERM if gone < LEAVES else signal.SIGKILL)
+                tell(number, signal.SIGTERM if gone < LEAVES else signal.SIGKILL)
         time.sleep(0.05)
+
+
+def tell_program(number, value, sent):
+    """Sends a signal to a process that finds these adapters, and to none that has got its number since; a kernel before 5.3 can't tell."""
+    try:
+        held = os.pidfd_open(number)
+    except (AttributeError, OSError) as fault:
+        if getattr(fault, "errno", errno.ENOSYS) == errno.ENOSYS:
+            os.kill(number, sent)
+        return
+    try:
+        if finds(number, value):
+            signal.pidfd_send_signal(held, sent)
+    finally:
+        os.close(held)
 
 
 def end_programs(value):
     """Ends the processes that find these adapters; one that stays for some seconds behind SIGKILL is left."""
-    end_all(lambda: programs_of(value), 2 * LEAVES)
+    end_all(lambda: programs_of(value), 2 * LEAVES, lambda number, sent: tell_program(number, value, sent))
 
 
 def watch(pipe, path, value):

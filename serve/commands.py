@@ -2,11 +2,16 @@
 import math
 import os
 import signal
+import stat
+import struct
 import subprocess
 import sys
 
-from building import PRELOAD, Stopped
+from building import Stopped
 from clearing import VARIABLE, end_all, end_programs
+
+# Of an executable file: the kind of a segment that names the system's loader, and the kind and name of a note of Go's linker.
+PT_INTERP, GO_NOTE = b"\3\0\0\0", b"\4\0\0\0Go\0\0"
 
 
 def children():
@@ -27,6 +32,26 @@ def end_all_but(servers, folder):
     """Ends what the command has left running, for as long as that takes, and what else has found the adapters."""
     end_all(lambda: still_there(servers), math.inf)
     end_programs(folder.value())
+
+
+def unseen_as(path):
+    """Why a program won't have the preload, as far as its file tells; None where nothing says so."""
+    try:
+        with open(path, "rb") as file:
+            head, there = file.read(4096).ljust(64, b"\0"), os.fstat(file.fileno())
+    except OSError:
+        return None
+    if head[:4] != b"\x7fELF":
+        return None
+    if head[4] == 1:
+        return "is a program of 32 bits"
+    if there.st_mode & stat.S_ISUID and there.st_uid != os.geteuid() or there.st_mode & stat.S_ISGID and there.st_gid != os.getegid():
+        return "is setuid or setgid"
+    (begin,), (size, count) = struct.unpack_from("<Q", head, 32), struct.unpack_from("<HH", head, 54)
+    kinds = [head[at:at + 4] for at in range(begin, begin + size * count, size or 1)]
+    if GO_NOTE in head:
+        return "is made by Go, which calls the kernel past the C library"
+    return None if PT_INTERP in kinds or len(head) < begin + size * count else "is linked statically"
 
 
 class Interrupted(Stopped):
@@ -68,9 +93,7 @@ class Signals:
 def environment(folder):
     """The environment of the command, in which the user's own preloads come first. A sanitizer of gcc is told that this
     is meant."""
-    preload = os.path.join(folder.path, "preload.so")
-    os.symlink(PRELOAD, preload)
-    ours = {"LD_PRELOAD": preload, "ASAN_OPTIONS": "verify_asan_link_order=0"}
+    ours = {"LD_PRELOAD": folder.preload, "ASAN_OPTIONS": "verify_asan_link_order=0"}
     both = {name: ":".join(filter(None, [os.environ.get(name), word])) for name, word in ours.items()}
     return {**os.environ, VARIABLE: folder.value(), **both}
 

@@ -33,6 +33,13 @@ static long told(long result)
 
 /* ------ open and close */
 
+/* whether a program may open a device so: one that has given up root's rights may not, as of a kernel's */
+static int may_open(const char *place, int flags)
+{
+	int access = flags & O_ACCMODE, mode = access == O_RDONLY ? R_OK : access == O_WRONLY ? W_OK : R_OK | W_OK;
+	return !NEXT(faccessat)(AT_FDCWD, place, mode, AT_EACCESS) || errno != EACCES;
+}
+
 static int open_led(const char *place, int flags, mode_t mode)
 {
 	int adapter, kind = kind_of(place, &adapter);
@@ -40,7 +47,7 @@ static int open_led(const char *place, int flags, mode_t mode)
 		return NEXT(openat)(AT_FDCWD, place, flags, mode);
 	if ((flags & (O_CREAT | O_EXCL)) == (O_CREAT | O_EXCL) || flags & O_DIRECTORY)
 		return (int)told(flags & O_DIRECTORY ? -ENOTDIR : -EEXIST);
-	return (int)told(device_open(adapter, kind, flags));
+	return (int)told(may_open(place, flags) ? device_open(adapter, kind, flags) : -EACCES);
 }
 
 static int open_at(int there, const char *path, int flags, mode_t mode)

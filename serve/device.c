@@ -73,12 +73,12 @@ void ring(struct at at)
 /* takes all bytes but so many out of the pipe */
 static void hush(struct device *device, int fd, uint32_t left)
 {
-	char bytes[MOST_TOKENS];
+	char bytes[256];
 	int there = 0;
 	if (device->tokens <= left || !is_object(fd, device->ino) || syscall(SYS_ioctl, fd, FIONREAD, &there))
 		return;
-	for (there -= (int)left; there > 0; there -= MOST_TOKENS)
-		syscall(SYS_read, fd, bytes, there < MOST_TOKENS ? there : MOST_TOKENS);
+	for (there -= (int)left; there > 0; there -= (int)sizeof bytes)
+		syscall(SYS_read, fd, bytes, there < (int)sizeof bytes ? there : (int)sizeof bytes);
 	device->tokens = left;
 }
 

@@ -160,47 +160,38 @@ EXPORT int fexecve(int fd, char *const words[], char *const env[])
 EXPORT int execv(const char *path, char *const words[]) { return execve(path, words, environ); }
 EXPORT int execvp(const char *file, char *const words[]) { return execvpe(file, words, environ); }
 
-/* the words of a list up to a null pointer, behind which the environment may stand */
-static char **words_in(const char *first, va_list list, char **into, size_t room, int has_env)
+/* how many words a list has up to its null pointer, that one too */
+static size_t count_of(const char *first, va_list list)
 {
-	size_t count = 0;
-	for (const char *word = first; word && count + 1 < room; word = va_arg(list, char *))
-		into[count++] = (char *)word;
-	into[count] = NULL;
+	size_t count = 1;
+	for (const char *word = first; word; word = va_arg(list, char *))
+		count++;
+	return count;
+}
+
+/* the words of a list up to a null pointer, behind which the environment may stand */
+static char **words_in(const char *first, va_list list, char **into, int has_env)
+{
+	for (const char *word = first; word; word = va_arg(list, char *))
+		*into++ = (char *)word;
+	*into = NULL;
 	return has_env ? va_arg(list, char **) : environ;
 }
 
-enum { MOST_WORDS = 4096 };
+/* a call of a list of words, as one of an array of them, which is as long as the list */
+#define BY_LIST(call, has_env)                                                                                          \
+	va_list list, counted;                                                                                          \
+	va_start(list, first);                                                                                          \
+	va_copy(counted, list);                                                                                         \
+	char *words[count_of(first, counted)];                                                                          \
+	va_end(counted);                                                                                                \
+	char **env = words_in(first, list, words, has_env);                                                             \
+	va_end(list);                                                                                                   \
+	return call(path, words, env)
 
-EXPORT int execl(const char *path, const char *first, ...)
-{
-	char *words[MOST_WORDS];
-	va_list list;
-	va_start(list, first);
-	char **env = words_in(first, list, words, MOST_WORDS, 0);
-	va_end(list);
-	return execve(path, words, env);
-}
-
-EXPORT int execlp(const char *file, const char *first, ...)
-{
-	char *words[MOST_WORDS];
-	va_list list;
-	va_start(list, first);
-	char **env = words_in(first, list, words, MOST_WORDS, 0);
-	va_end(list);
-	return execvpe(file, words, env);
-}
-
-EXPORT int execle(const char *path, const char *first, ...)
-{
-	char *words[MOST_WORDS];
-	va_list list;
-	va_start(list, first);
-	char **env = words_in(first, list, words, MOST_WORDS, 1);
-	va_end(list);
-	return execve(path, words, env);
-}
+EXPORT int execl(const char *path, const char *first, ...) { BY_LIST(execve, 0); }
+EXPORT int execlp(const char *path, const char *first, ...) { BY_LIST(execvpe, 0); }
+EXPORT int execle(const char *path, const char *first, ...) { BY_LIST(execve, 1); }
 
 /* (the library begins the shell of these by none of the calls above; while it runs the line stays open) */
 EXPORT int system(const char *command)

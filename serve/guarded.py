@@ -10,11 +10,11 @@ from building import FLAGS, PARTS as SOURCES
 from room import HERE, calls_of, cases_of, is_passed, passes, ran
 
 # The packets a second; what valgrind keeps for itself or does otherwise (vfork is a fork there), and pointers that are bad on purpose;
-# what a sanitizer finds in Debian's dd; and that a program that leaks is as ever.
+# what a sanitizer finds in Debian's dd, and stacks that are too small for one; and that a program that leaks is as ever.
 SLOW = "200"
 NOT_BY_VALGRIND = ("-numbers_of_the_preload", "-few_descriptors", "-a_high_number", "-by_io_uring", "-by_vfork",
                    "-bad_pointers", "-another_process_sees_the_lock")  # fmt: skip
-NOT_OVER_SANITIZERS = "-by_the_shell"
+NOT_OVER_SANITIZERS = "-by_the_shell", "-small_stacks"
 ADDRESSES, BOTH = ["-g", "-fsanitize=address"], ["-g", "-fsanitize=address,undefined", "-fno-sanitize-recover=undefined"]
 SANITIZED = "ASAN_OPTIONS=verify_asan_link_order=0:detect_leaks=0"
 FOUR = 4
@@ -51,7 +51,7 @@ def try_sanitizers(room):
                         (preload, [*FLAGS, *BOTH, *(os.path.join(HERE, f"{part}.c") for part in SOURCES), "-ldl"])):  # fmt: skip
         made = ran(["gcc", *words, "-o", name])
         room.want(not made.returncode, f"{os.path.basename(name)} is built with sanitizers", made.stdout)
-    out, status = room.run("env", SANITIZED, cases, keep="none", rate=SLOW)
+    out, status = room.run("env", SANITIZED, cases, "-small_stacks", keep="none", rate=SLOW)
     room.want(status == 0 and is_passed(out), f"own calls of a program with a sanitizer, status {status}", out)
     late = room.path("late.so")
     made = ran(["gcc", "-O2", "-Wall", "-Wextra", "-shared", "-fPIC", os.path.join(HERE, "late.c"), "-o", late, "-ldl"])
@@ -60,7 +60,7 @@ def try_sanitizers(room):
     out, status = room.run("env", SANITIZED, "sh", "-c", script, cases, keep="none", rate=SLOW)
     room.want(status == 0 and is_passed(out) and "late\n" in out, f"a fork while a thread begins, status {status}", out)
     loaded = f"LD_PRELOAD={':'.join([*libraries, preload])}"
-    out, status = room.run("env", SANITIZED, loaded, cases_of(room), NOT_OVER_SANITIZERS, keep="none", rate=SLOW)
+    out, status = room.run("env", SANITIZED, loaded, cases_of(room), *NOT_OVER_SANITIZERS, keep="none", rate=SLOW)
     room.want(status == 0 and is_passed(out), f"own calls over a preload with sanitizers, status {status}", out)
 
 

@@ -8,6 +8,7 @@ import time
 
 from airs import call
 from room import HERE, RATE, bytes_of, calls_of, is_passed, passes
+from adapters import MARK
 
 BAD = os.path.join(HERE, "bad.py")
 # How often a program comes in beside a flood; in how many seconds a server ends behind what would keep it; and an age of folders in
@@ -28,7 +29,8 @@ def try_bad_requests(room):
     out, status = room.run("sh", "-c", script, BAD, calls_of(room), seats="2")
     room.want(status == 0 and is_passed(out), "a program behind others that ask badly", out)
     room.want(re.search(r"^\d+ answered$", out, re.M), "each bad request is answered", out)
-    room.want("mode 700\n" in out, "the folder of pipes", out)
+    # (root's can be passed through by others, who see the tree below it and no pipe)
+    room.want(f"mode {700 if os.geteuid() else 711}\n" in out, "the folder of pipes", out)
     room.is_right("bad requests")
 
 
@@ -92,6 +94,8 @@ def aged(path, owner=None):
 def try_others(room):
     """What isn't a wrapper's own, or is held, stays: files, folders by links, folders of others, and processes that it hasn't begun."""
     with tempfile.TemporaryDirectory() as place:
+        # (one of root's that is closed to others isn't taken)
+        os.chmod(place, 0o755)
         paths = {name: os.path.join(place, f"dvbemu-{name}") for name in ("file", "link", "plain", "other", "kept")}
         with open(paths["file"], "w", encoding="ascii") as file:
             file.write("mine")
@@ -99,7 +103,8 @@ def try_others(room):
             os.mkdir(paths[name])
         # (what marks a wrapper's folder, in another user's and behind a link)
         for name in "other", "kept":
-            os.close(os.open(os.path.join(paths[name], "held"), os.O_CREAT | os.O_WRONLY, 0o600))
+            with open(os.path.join(paths[name], "held"), "wb") as file:
+                file.write(MARK)
         os.rename(paths["kept"], os.path.join(place, "kept"))
         os.symlink(os.path.join(place, "kept"), paths["link"])
         for name in "file", "link", "plain", "other":

@@ -1,9 +1,10 @@
 """The parts of serve/check on what lasts and what ends: a stream that is played once, files that can't be written or were there
 before, seats of many calls, and programs beside others where nothing is kept."""
 import os
+import shlex
 import subprocess
 
-from building import SERVER
+from building import built_server
 from room import HERE, PACKET, RATE, TOP, bytes_of, calls_of, is_passed
 
 BAD, MERGE = os.path.join(HERE, "bad.py"), os.path.join(TOP, "tools", "merge")
@@ -37,10 +38,10 @@ def try_once(room):
 
 def try_full(room):
     """Where a file can't be written the program is served on, and that is told at the end; no report is made of such a folder."""
-    folder, server = room.path("full"), room.path("server")
+    folder, server = room.path("full"), room.path("a server")
     with open(server, "w", encoding="ascii", opener=lambda path, flags: os.open(path, flags, 0o700)) as file:
-        file.write(f"#!/bin/sh\nulimit -f {BLOCKS}\nexec {SERVER} \"$@\"\n")
-    out, status = room.run(calls_of(room), keep=folder, before=["env", f"DVBEMU_SERVER={server}"])
+        file.write(f"#!/bin/sh\nulimit -f {BLOCKS}\nexec {shlex.join(built_server())} \"$@\"\n")
+    out, status = room.run(calls_of(room), keep=folder, before=["env", f"DVBEMU_SERVER={shlex.quote(server)}"])
     all_passed(room, out, status, "a program whose calls can't be written", 1)
     room.want("dvb_serve: what was called can't be written\n" in out, "that is told", out)
     sizes = [os.path.getsize(os.path.join(folder, name)) for name in os.listdir(folder)]
@@ -59,7 +60,7 @@ def try_old(room):
     for path in os.path.join(folder, "door"), *(os.path.join(kept, name) for name in names):
         with open(path, "wb") as file:
             file.write(b"" if path.endswith("door") else 1000 * b"0 64 0\n")
-    ran = subprocess.run([*SERVER.split(), folder, "1", kept], stdin=subprocess.DEVNULL, capture_output=True, check=False)
+    ran = subprocess.run([*built_server(), folder, "1", kept], stdin=subprocess.DEVNULL, capture_output=True, check=False)
     room.want(ran.returncode == 0, "a server whose folder isn't empty", ran.stderr.decode())
     found = [bytes_of(os.path.join(kept, name)) for name in names]
     room.want(found == [b"", b"", EMPTY], "files of before are emptied", [some[:100] for some in found])

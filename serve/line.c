@@ -20,7 +20,7 @@
 
 #include "preload.h"
 
-enum { ARGUMENT = 60, NAME = 64, SEAT_MS = 5000, SCRATCH = 4096 };
+enum { ARGUMENT = 60, NAME = 64, SEAT_MS = 5000, SCRATCH = 512 };
 
 struct request {
 	uint32_t verb, node, number, length;

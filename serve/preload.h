@@ -20,7 +20,8 @@
 	})
 
 enum { NONE, FRONTEND, DEMUX, DVR };
-enum { MOST_ADAPTERS = 8, MOST_LINES = 16, MOST_DEVICES = 48, FOLDER = 4096, PATH = FOLDER + 256 };
+/* (paths lie on the stacks of the program's threads, which may be of 16 KiB; dvbemu-serve sees that its folder's name is short enough) */
+enum { MOST_ADAPTERS = 8, MOST_LINES = 16, MOST_DEVICES = 48, FOLDER = 256, PATH = FOLDER + 256 };
 
 /* the verbs of requests, and the bits of a poll's answer */
 enum { OPEN_DEMUX = 1, OPEN_DVR, CLOSE, IOCTL, READ, POLL };

@@ -48,6 +48,11 @@ def ran(words):
     return subprocess.run(words, text=True, errors="replace", check=False, **ends)
 
 
+def without_hints(text):
+    """What the wrapper has written but for its lines on root, where root starts it, and on an adapter that nobody opens."""
+    return re.sub(r"^dvbemu serve: (started by root: |no program opened the adapter; ).*\n", "", text, flags=re.M)
+
+
 def plain(report):
     """A report without its moments."""
     return re.sub(r" at=\d+", "", report)
@@ -75,7 +80,7 @@ class Room:
         with subprocess.Popen(words, stdin=subprocess.DEVNULL, stdout=subprocess.PIPE, stderr=subprocess.STDOUT, text=True,
                               errors="replace", cwd=self.folder) as child:  # fmt: skip
             try:
-                return child.communicate(timeout=MOST)[0], child.returncode
+                return without_hints(child.communicate(timeout=MOST)[0]), child.returncode
             except subprocess.TimeoutExpired:
                 # (it ends then what it has started)
                 child.terminate()

@@ -6,6 +6,7 @@
 #include <dirent.h>
 #include <errno.h>
 #include <fcntl.h>
+#include <glob.h>
 #include <limits.h>
 #include <stdio.h>
 #include <stdlib.h>
@@ -13,6 +14,7 @@
 #include <sys/stat.h>
 #include <sys/syscall.h>
 #include <sys/sysmacros.h>
+#include <sys/xattr.h>
 #include <unistd.h>
 
 #include "preload.h"
@@ -60,7 +62,7 @@ static int base_of(int there, char *into)
 	snprintf(link, sizeof link, there == AT_FDCWD ? "/proc/self/cwd" : "/proc/self/fd/%d", there);
 	long n = syscall(SYS_readlinkat, AT_FDCWD, link, into, PATH - 1);
 	into[n < 0 ? 0 : n] = 0;
-	return n > 0 && *into == '/';
+	return n > 0 && n < PATH - 1 && *into == '/';
 }
 
 static int in_tree(const char *path, char *into)
@@ -73,15 +75,15 @@ static int in_tree(const char *path, char *into)
 /* The place in the tree of a path below /dev/dvb; 0 where it is none, as far as its words say. */
 int led(int there, const char *path, char *into)
 {
-	char base[PATH], whole[2 * PATH], clean[PATH];
+	char base[PATH], whole[PATH], clean[PATH];
 	if (!adapters || !path || !*path)
 		return 0;
 	if (*path == '/')
 		return (is_below(path) || strstr(path, "dvb")) && strlen(path) < PATH && plain(path, clean) && in_tree(clean, into);
-	if (!base_of(there, base))
+	if (!base_of(there, base) || !tree_in(base))
 		return 0;
-	snprintf(whole, sizeof whole, "%s/%s", base + tree_in(base), path);
-	return tree_in(base) && strlen(whole) < PATH && plain(whole, clean) && in_tree(clean, into);
+	int length = snprintf(whole, sizeof whole, "%s/%s", base + tree_in(base), path);
+	return length < PATH && plain(whole, clean) && in_tree(clean, into);
 }
 
 /* puts the file of a link in the place of its name, where a path up to `end` is one: whether it was */
@@ -285,6 +287,65 @@ EXPORT int scandir(const char *path, struct dirent ***names, int (*wanted)(const
 	return NEXT(scandir)(by(path, into), names, wanted, order);
 }
 
+EXPORT int scandir64(const char *path, struct dirent64 ***names, int (*wanted)(const struct dirent64 *),
+		     int (*order)(const struct dirent64 **, const struct dirent64 **))
+{
+	char into[PATH];
+	init();
+	return NEXT(scandir64)(by(path, into), names, wanted, order);
+}
+
+static void closes(void *folder) { closedir(folder); }
+
+/* (the library looks for names by calls that are its own, but where it is given others) */
+EXPORT int glob(const char *restrict form, int flags, int (*failed)(const char *, int), glob_t *restrict names)
+{
+	init();
+	if (adapters && !(flags & GLOB_ALTDIRFUNC)) {
+		flags |= GLOB_ALTDIRFUNC;
+		names->gl_opendir = (void *(*)(const char *))opendir;
+		names->gl_readdir = (struct dirent *(*)(void *))readdir;
+		names->gl_closedir = closes;
+		names->gl_stat = stat;
+		names->gl_lstat = lstat;
+	}
+	return NEXT(glob)(form, flags, failed, names);
+}
+
+EXPORT int glob64(const char *restrict form, int flags, int (*failed)(const char *, int), glob64_t *restrict names)
+{
+	return glob(form, flags, failed, (glob_t *)names);
+}
+
+/* extended attributes, for which `ls -l` asks */
+EXPORT ssize_t getxattr(const char *path, const char *name, void *value, size_t room)
+{
+	char into[PATH];
+	init();
+	return NEXT(getxattr)(by(path, into), name, value, room);
+}
+
+EXPORT ssize_t lgetxattr(const char *path, const char *name, void *value, size_t room)
+{
+	char into[PATH];
+	init();
+	return NEXT(lgetxattr)(led(AT_FDCWD, path, into) ? into : path, name, value, room);
+}
+
+EXPORT ssize_t listxattr(const char *path, char *names, size_t room)
+{
+	char into[PATH];
+	init();
+	return NEXT(listxattr)(by(path, into), names, room);
+}
+
+EXPORT ssize_t llistxattr(const char *path, char *names, size_t room)
+{
+	char into[PATH];
+	init();
+	return NEXT(llistxattr)(led(AT_FDCWD, path, into) ? into : path, names, room);
+}
+
 EXPORT int chdir(const char *path)
 {
 	char into[PATH];
@@ -309,13 +370,33 @@ EXPORT char *getcwd(char *into, size_t room)
 
 EXPORT char *realpath(const char *restrict path, char *restrict into)
 {
-	char place[PATH], real[PATH];
+	char place[PATH];
 	init();
 	if (!leads(AT_FDCWD, path, place))
 		return NEXT(realpath)(path, into);
-	if (!NEXT(realpath)(place, real))
-		return NULL;
-	return into ? strcpy(into, told(real)) : strdup(told(real));
+	char *real = told(NEXT(realpath)(place, NULL));
+	if (!real || !into)
+		return real;
+	strcpy(into, real);
+	free(real);
+	return into;
+}
+
+EXPORT ssize_t readlinkat(int there, const char *restrict path, char *restrict into, size_t room)
+{
+	char place[PATH];
+	init();
+	int is_led = led(there, path, place);
+	return NEXT(readlinkat)(is_led ? AT_FDCWD : there, is_led ? place : path, into, room);
+}
+
+EXPORT ssize_t readlink(const char *restrict path, char *restrict into, size_t room) { return readlinkat(AT_FDCWD, path, into, room); }
+EXPORT ssize_t __readlink_chk(const char *path, char *into, size_t room, size_t whole);
+EXPORT ssize_t __readlink_chk(const char *path, char *into, size_t room, size_t whole) { return (void)whole, readlink(path, into, room); }
+EXPORT ssize_t __readlinkat_chk(int there, const char *path, char *into, size_t room, size_t whole);
+EXPORT ssize_t __readlinkat_chk(int there, const char *path, char *into, size_t room, size_t whole)
+{
+	return (void)whole, readlinkat(there, path, into, room);
 }
 
 EXPORT char *canonicalize_file_name(const char *path) { return realpath(path, NULL); }

@@ -31,7 +31,7 @@ struct one {
 };
 #define CASE(name) { #name, name, 0 }
 #define ALONE(name) { #name, name, 1 }
-extern const struct one paths[], descriptors[], waits[], reads[], tunings[];
+extern const struct one paths[], descriptors[], waits[], reads[], tunings[], stacks[];
 
 extern unsigned char bytes[1 << 21];
 

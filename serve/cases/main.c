@@ -161,7 +161,7 @@ static int is_asked(const char *name, char **words)
 
 int main(int count, char **words)
 {
-	const struct one *const all[] = { paths, descriptors, waits, reads, tunings };
+	const struct one *const all[] = { paths, descriptors, waits, reads, tunings, stacks };
 	fe_status_t status = 0;
 	if (count == 2 && !strcmp(words[1], "+lock"))
 		return ioctl(open(TUNER, O_RDONLY), FE_READ_STATUS, &status) || !(status & FE_HAS_LOCK);

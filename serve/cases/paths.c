@@ -2,9 +2,11 @@
 #define _GNU_SOURCE
 #include <dirent.h>
 #include <dlfcn.h>
+#include <glob.h>
 #include <limits.h>
 #include <sys/stat.h>
 #include <sys/sysmacros.h>
+#include <sys/xattr.h>
 
 #include "cases.h"
 
@@ -61,12 +63,36 @@ static int adapters_in(DIR *folder)
 
 static int is_node(const struct dirent *entry) { return *entry->d_name != '.'; }
 
+static int is_node64(const struct dirent64 *entry) { return *entry->d_name != '.'; }
+
 static void folders_are_read(void)
 {
 	struct dirent **names;
+	struct dirent64 **names64;
+	want(scandir64("/dev/dvb", &names64, is_node64, alphasort64) == 1 && !strcmp(names64[0]->d_name, "adapter0"), "scandir64 of /dev/dvb");
 	want(adapters_in(opendir("/dev/dvb")) == 1, "opendir of /dev/dvb finds an adapter");
 	want(adapters_in(opendir("/dev/dvb/")) == 1, "opendir with a slash behind it");
 	want(scandir("/dev/dvb/adapter0", &names, is_node, alphasort) == 3 && !strcmp(names[0]->d_name, "demux0"), "scandir of adapter0");
+}
+
+static void patterns(void)
+{
+	glob_t names;
+	glob64_t names64;
+	want(!glob("/dev/dvb/adapter[0-9]/d*0", 0, NULL, &names) && names.gl_pathc == 2, "glob");
+	want(!strcmp(names.gl_pathv[0], DEMUX) && !strcmp(names.gl_pathv[1], RECORDER), "the names that it gives");
+	globfree(&names);
+	want(!glob64(TUNER, GLOB_MARK, NULL, &names64) && !strcmp(names64.gl_pathv[0], TUNER), "glob64 without a pattern");
+	want(!glob("/et[c]", GLOB_ONLYDIR, NULL, &names) && names.gl_pathc == 1, "glob of another folder");
+	want(glob("/dev/dvb/adapter7*", 0, NULL, &names) == GLOB_NOMATCH, "glob of no adapter");
+}
+
+static void attributes(void)
+{
+	want(lgetxattr(DEMUX, "user.none", bytes, 8) < 0 && errno != ENOENT, "lgetxattr");
+	want(getxattr(DEMUX, "user.none", bytes, 8) < 0 && errno != ENOENT, "getxattr");
+	want(llistxattr(DEMUX, (char *)bytes, 0) >= 0 && listxattr("/dev/dvb", (char *)bytes, 0) >= 0, "llistxattr, listxattr");
+	want(getxattr("/dev/dvb/adapter9", "user.none", bytes, 8) < 0 && errno == ENOENT, "getxattr of what isn't there");
 }
 
 static void open_from_a_folder(void)
@@ -122,6 +148,10 @@ static void real_paths(void)
 	want(made && !strcmp(made, DEMUX), "realpath");
 	want(realpath("/dev/dvb", real) && !strcmp(real, "/dev/dvb"), "realpath of the folder");
 	want(!realpath("/dev/dvb/adapter0/demux7", real) && errno == ENOENT, "realpath of what isn't there");
+	want(readlink("/dev/dvb", real, sizeof real) < 0 && errno == EINVAL, "readlink of the folder, which is no link");
+	want(readlinkat(AT_FDCWD, DEMUX, real, sizeof real) < 0 && errno == EINVAL, "readlinkat of a device");
+	want(readlink("/dev/dvb/adapter9", real, sizeof real) < 0 && errno == ENOENT, "readlink of what isn't there");
+	want(readlink("/proc/self/exe", real, sizeof real) > 0, "readlink of a link");
 }
 
 static void flags_of_open(void)
@@ -147,5 +177,5 @@ static void other_files(void)
 
 const struct one paths[] = { CASE(stat_of_a_device), CASE(statx_of_a_device), CASE(fstat_of_a_device),
 			     CASE(stat_by_its_older_names), CASE(access_to_a_device),
-			     CASE(folders_are_read), CASE(open_from_a_folder), CASE(open_from_the_working_folder), CASE(slashes_and_dots),
+			     CASE(folders_are_read), CASE(patterns), CASE(attributes), CASE(open_from_a_folder), CASE(open_from_the_working_folder), CASE(slashes_and_dots),
 			     CASE(links), CASE(real_paths), CASE(flags_of_open), CASE(other_files), { 0 } };
