@@ -22,7 +22,7 @@ def plain(name, value):
     if name == "bytes":
         return [{"place": place, "filter": three[0], "mask": three[1], "mode": three[2]} for place, three in value.items()]
     if name == "node":
-        return reports.node_name(value)
+        return f"n{value}"
     return list(value) if isinstance(value, tuple) else value
 
 

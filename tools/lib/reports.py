@@ -11,6 +11,9 @@ FORMAT = "dvbemu 1"
 DVR = 32
 CLIENTS = 8
 LARGEST_PID = 0x1FFF
+# The numbers that have 16 and 32 bits; all others have 64.
+BITS_16, BITS_32 = 2**16 - 1, 2**32 - 1
+MOST_PIDS, MOST_BYTES = 128, 65536
 HEX_DIGITS = b"0123456789abcdef"
 
 
@@ -96,9 +99,9 @@ def span(word):
 
 def pids(word):
     """The PIDs of a list `P,P,P`."""
-    listed = [] if word == "-" else [number(part, 0xFFFF) for part in word.split(",")]
-    if listed != sorted(set(listed)):
-        raise Wrong("PIDs in ascending order")
+    listed = [] if word == "-" else [number(part, BITS_16) for part in word.split(",")]
+    if listed != sorted(set(listed)) or len(listed) > MOST_PIDS:
+        raise Wrong(f"PIDs in ascending order, at most {MOST_PIDS}")
     return listed
 
 
@@ -134,10 +137,10 @@ def client_name(word):
     return word
 
 
-# Places that have a form of their own; all others are numbers.
+# Places that have a form of their own, or fewer bits; all others are numbers.
 PLACES = {
-    "pid": at_most(0xFFFF),
-    "node": at_most(DVR - 1),
+    **dict.fromkeys(("node", "rest", "timeout", "flags", "type", "size", "count", "base"), at_most(BITS_32)),
+    "pid": at_most(BITS_16),
     "ended": at_most(1),
     "readable": at_most(1),
     "input": one_of("frontend", "dvr"),
@@ -210,7 +213,7 @@ def readers_of(places):
 
 READERS = {places: readers_of(places) for places in [*ACTS.values(), *REPLIES.values()]}
 # The line of a batch, which most lines of a long report are.
-PASSED = re.compile(r"(N) feed (N) (pass input=frontend first=N count=N at=N) = passed".replace("N", r"(?:0|[1-9]\d{0,17})"), re.ASCII)
+PASSED = re.compile(r"(N) feed (N) (pass input=frontend first=N count=C at=N) = passed".replace("N", r"(?:0|[1-9]\d{0,17})").replace("C", r"(?:0|[1-9]\d{0,8})"), re.ASCII)
 
 
 def read_places(name, places, words):
@@ -233,8 +236,8 @@ def filter_bytes(words):
         place, sign, values = word.partition("=")
         parts = values.split("/")
         hexadecimal = all(len(part) == 2 and is_hexadecimal(part) for part in parts)
-        if not sign or len(parts) != 3 or not hexadecimal or not last < number(place, 15):
-            raise Wrong("filter bytes `I=FF/MM/DD` in ascending order")
+        if not sign or len(parts) != 3 or not hexadecimal or not last < number(place, 15) or values == "00/00/00":
+            raise Wrong("filter bytes `I=FF/MM/DD` in ascending order, of which one isn't 0")
         last = int(place)
         found[last] = tuple(int(part, 16) for part in parts)
     return found
@@ -276,6 +279,8 @@ def read_data(text):
     digits = text[5:]
     if not digits or len(digits) % 2 or not is_hexadecimal(digits):
         raise Wrong("two lower-case hexadecimal digits a byte")
+    if len(digits) > 2 * MOST_BYTES:
+        raise Wrong(f"at most {MOST_BYTES} bytes")
     return {"name": "data", "length": len(digits) // 2}
 
 
@@ -376,6 +381,7 @@ def pid_rows(lines):
         row = read_places("pid", ("pid", "packets=", "breaks=", "duplicates=", "errors="), lines.text[4:].split(" "))
         del row["name"]
         lines.want(last < row["pid"] <= LARGEST_PID, f"a PID above {last}, at most {LARGEST_PID}")
+        lines.want(row["packets"], "a PID that has a packet")
         last = row["pid"]
         rows.append(PidRow(**row))
         lines.go_on()
@@ -398,7 +404,7 @@ def outcomes_of(lines):
         words = lines.text.split(" ")
         lines.want(len(words) > 4 and words[2] == "steps", "`line L steps A..B OUTCOME`")
         first, after = span(words[3])
-        found.append(Outcome(number(words[1]), first, after, kind_of(words[4:])))
+        found.append(Outcome(number(words[1], BITS_32), first, after, kind_of(words[4:])))
         lines.go_on()
     return found
 
