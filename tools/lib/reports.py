@@ -18,10 +18,11 @@ HEX_DIGITS = b"0123456789abcdef"
 
 
 class NotAReport(Exception):
-    """A text that is no report: the number of the line, from 1, what was expected there, and what was found."""
+    """A text that is no report: the number of the line, from 1, what was expected there, what was found, and what the text is instead, where
+    that is known."""
 
-    def __init__(self, line, expected, found=None):
-        super().__init__(f"line {line}: expected {expected}{'' if found is None else f', found {found}'}")
+    def __init__(self, line, expected, found=None, kind=""):
+        super().__init__(f"line {line}: expected {expected}{'' if found is None else f', found {found}'}{kind and f'; {kind}'}")
         self.line, self.expected, self.found = line, expected, found
 
 
@@ -323,7 +324,25 @@ def node_name(node):
     return "dvr" if node == DVR else f"n{node}"
 
 
+def node_of(name):
+    """The node of a name: `n0` to `n31` or `dvr`, or as its device is called, `demux0` to `demux31` or `dvr0`."""
+    return DVR if name in ("dvr", "dvr0") else number(re.sub("^(demux|n)", "", name), DVR - 1)
+
+
 # ------ lines
+
+
+BEGINNING = 4096
+
+
+def instead(text):
+    """What a text is that is no report, by its beginning; nothing where that isn't known."""
+    if re.match(r"(G.{187}|G.{203}|.{4}G.{191})G", text, re.DOTALL):
+        return "this is a recording"
+    first = next((line for line in text.split("\n") if line and line[0] != "#"), "")
+    if re.match(r"c[0-7] [a-z]+ |(feed|tick) \d+$|stream$", first):
+        return "this is a script: `dvbemu steps` writes its report"
+    return "these are JSON Lines: `dvbemu json --back` writes their report" if text.startswith('{"kind": ') else ""
 
 
 def shown(text):
@@ -345,7 +364,7 @@ class Lines:
         line = self.file.readline()
         self.line += 1
         if line and not line.endswith("\n"):
-            raise NotAReport(self.line, "a line feed at the end of the line")
+            raise NotAReport(self.line, "a line feed at the end of the line", kind=instead(line[:BEGINNING]) if self.line == 1 else "")
         self.text = line[:-1] if line else None
 
     def starts(self, beginning):
@@ -366,7 +385,9 @@ def head_of(lines):
     """The numbers of the stream's cutting."""
     if lines.starts("dvbemu ") and lines.text != FORMAT:
         raise AnotherFormat(lines.line, f"`{FORMAT}`", shown(lines.text))
-    lines.want(lines.text == FORMAT, f"`{FORMAT}`")
+    if lines.text != FORMAT:
+        beginning = f"{lines.text or ''}\n"[:BEGINNING]
+        raise NotAReport(lines.line, f"`{FORMAT}`", shown(lines.text), instead(beginning + lines.file.read(BEGINNING)))
     lines.go_on()
     lines.want(lines.text is not None, "`packets=.. skipped=.. rest=..`")
     found = read_places("", ("packets=", "skipped=", "rest="), lines.text.split(" "))
