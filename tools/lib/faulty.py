@@ -7,7 +7,7 @@ import tool
 
 PACKET = "a packet begins with G, 0x47: is the line `stream` missing in front of it?"
 REPORT = b"dvbemu 1\n"
-WITH_REPORT, SECTION = ("check", "why"), ("PID", "TIMEOUT", "FLAGS")
+WITH_REPORT = "check", "why"
 LINE = re.compile(rb"(c[0-7] [a-z]+ \w+|(feed|tick) \d+)[^\n]*(?=\n)")
 
 
@@ -28,7 +28,9 @@ def of_file(script, names, word):
         return f"{names[0]}: a script comes first, and then the streams: {usage(word, names[:1])}"
     if script.startswith(REPORT) and word in WITH_REPORT:
         return f"{names[0]}: this is a report, which comes first: " + " ".join(["dvbemu", word, names[0], "SCRIPT", *names[1:]])
-    return f"{names[0]}: this is a report, and no script: `dvbemu explain {names[0]}` tells it" if script.startswith(REPORT) else ""
+    if script.startswith(REPORT):
+        return f"{names[0]}: this is a report, and no script: `dvbemu explain {names[0]}` tells it"
+    return ""
 
 
 def no_stream(names, word):
@@ -49,10 +51,10 @@ def pause(words):
 
 def short_section(words):
     """What is told of a line `section` whose first byte stands where a number should."""
-    byte = next((place for place, word in enumerate(words[3:6]) if "=" in word), None)
+    byte = next((place for place, word in enumerate(words[3:6]) if "=" in word), None)  # that stands for PID, TIMEOUT or FLAGS
     if words[1:2] != ["section"] or byte is None:
         return ""
-    missing = "TIMEOUT is" if byte == 2 else f"{' and '.join(SECTION[byte:])} are" if byte == 1 else "numbers are"
+    missing = ("numbers are", "TIMEOUT and FLAGS are", "TIMEOUT is")[byte]
     return f"the line is cK section T PID TIMEOUT FLAGS BYTE..; it seems that {missing} missing"
 
 
@@ -82,10 +84,11 @@ def hint(told, script, names, word):
     """What is told behind a fault of a script in one of these files, of which this is the beginning, to this word; nothing where no more is
     known."""
     found = re.match(r"dvbemu: script line (\d+): (\w+)\n", told)
-    more = of_file(script, names, word)
-    if found and not more:
-        number, lines = int(found[1]), script.split(b"\n")
-        more = no_stream(names, word) if found[2] == "nostream" else of_line(found[2], lines[number - 1], number, names) if number <= len(lines) else ""
+    more, number, lines = of_file(script, names, word), int(found[1]) if found else 0, script.split(b"\n")
+    if found and not more and found[2] == "nostream":
+        more = no_stream(names, word)
+    elif not more and 0 < number <= len(lines):
+        more = of_line(found[2], lines[number - 1], number, names)
     return f"  {more}\n" if more else ""
 
 
@@ -104,14 +107,11 @@ def is_text(beginning):
 
 
 def warnings(head, files):
-    """The lines on what is likely a mistake: a line of a script behind the line `stream`, and a text that is taken for a stream. The files are
-    those of `inputs.opened`, of which the first has this beginning."""
-    told, place = "", 0 if head.startswith(b"stream\n") else head.find(b"\nstream\n") + 1
-    found = LINE.match(head, place + 7) if head.startswith(b"stream\n", place) else None
-    if found:
-        line = head.count(b"\n", 0, found.start()) + 1
-        told = f"dvbemu: {files[0].name}: line {line}, '{found[0].decode(errors='replace')}', stands behind `stream`: a part of the stream, and no call\n"
-    for file in files[1:]:
-        if is_text(file.beginning):
-            told += f"dvbemu: {file.name}: this is a text, and no stream of packets\n"
-    return told
+    """The lines on what is likely a mistake: a line of a script behind the line `stream`, and a text that is taken for a stream. The files
+    are those of `inputs.opened`, of which the first has this beginning."""
+    place, told = 0 if head.startswith(b"stream\n") else head.find(b"\nstream\n") + 1, []
+    if head.startswith(b"stream\n", place) and (found := LINE.match(head, place + 7)):
+        line, text = head.count(b"\n", 0, found.start()) + 1, found[0].decode(errors="replace")
+        told = [f"{files[0].name}: line {line}, '{text}', stands behind `stream`: a part of the stream, and no call"]
+    told += [f"{file.name}: this is a text, and no stream of packets" for file in files[1:] if is_text(file.beginning)]
+    return "".join(f"dvbemu: {line}\n" for line in told)

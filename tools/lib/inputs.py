@@ -80,7 +80,7 @@ def head_of(script):
 
 
 def with_line(head):
-    """The beginning of a script, with the line `stream` at its end where it has none. A last line `stream` without a line feed gets that."""
+    """The beginning of a script, with the line `stream` behind it where it has none. Without its line feed that gets one."""
     if ends_script(head) or len(head) >= SCRIPT:
         return head
     if head == LINE[:-1] or head.endswith(b"\n" + LINE[:-1]):

@@ -18,8 +18,8 @@ HEX_DIGITS = b"0123456789abcdef"
 
 
 class NotAReport(Exception):
-    """A text that is no report: the number of the line, from 1, what was expected there, what was found, and what the text is instead, where
-    that is known."""
+    """A text that is no report: the number of the line, from 1, what was expected there, what was found, and what the text is instead,
+    where that is known."""
 
     def __init__(self, line, expected, found=None, kind=""):
         super().__init__(f"line {line}: expected {expected}{'' if found is None else f', found {found}'}{kind and f'; {kind}'}")
@@ -213,8 +213,9 @@ def readers_of(places):
 
 
 READERS = {places: readers_of(places) for places in [*ACTS.values(), *REPLIES.values()]}
-# The line of a batch, which most lines of a long report are.
-PASSED = re.compile(r"(N) feed (N) (pass input=frontend first=N count=C at=N) = passed".replace("N", r"(?:0|[1-9]\d{0,17})").replace("C", r"(?:0|[1-9]\d{0,8})"), re.ASCII)
+# The line of a batch, which most lines of a long report are; a greater number is left to what reads all other lines.
+NUMBER, COUNT = r"(?:0|[1-9]\d{0,17})", r"(?:0|[1-9]\d{0,8})"
+PASSED = re.compile(f"({NUMBER}) feed ({NUMBER}) (pass input=frontend first={NUMBER} count={COUNT} at={NUMBER}) = passed", re.ASCII)
 
 
 def read_places(name, places, words):
