@@ -7,6 +7,7 @@ import subprocess
 from dataclasses import dataclass
 from typing import Iterable, Sequence, Union
 
+from . import _inputs
 from .report import Report
 from .script import Script
 
@@ -101,9 +102,7 @@ def _session(script: Source, streams: Sequence[Stream]) -> list[bytes]:
     if isinstance(script, Script):
         return [str(script).encode("utf-8", "surrogateescape") + b"stream\n", *map(_bytes, streams)]
     text = _bytes(script)
-    if streams and not (text.startswith(b"stream\n") or b"\nstream\n" in text):
-        text += b"\n" * (text[-1:] not in (b"", b"\n")) + b"stream\n"
-    return [text, *map(_bytes, streams)]
+    return [_inputs.with_line(text) if streams else text, *map(_bytes, streams)]
 
 
 def _bytes(source: Stream) -> bytes:

@@ -19,7 +19,7 @@ from typing import Any, Mapping, Optional
 PYTHON = os.path.dirname(os.path.dirname(os.path.realpath(__file__)))
 TOP = os.path.dirname(PYTHON)
 # The modules of the tools that the module takes.
-TOOLS = "naming.py", "reports.py"
+TOOLS = "inputs.py", "naming.py", "reports.py"
 # The first moment that a zip file can tell.
 TIME = (1980, 1, 1, 0, 0, 0)
 ABOUT = """\

@@ -17,26 +17,26 @@ class Gap:
         self.nodes, self.clients, self.width = {}, {}, 0
 
     def add(self, node, client, step):
-        """Adds a call; node is None for a command that makes none."""
-        call = (client, step)
+        """Adds a call; node is None for a command that makes none, whose step is a pair: the step before it, and its number."""
         if node is not None:
-            self.nodes.setdefault(node, []).append(call)
+            self.nodes.setdefault(node, []).append((client, step))
         self.clients.setdefault(client, []).append((step, node))
 
     def place(self):
         """A place from 0 on for each call, greater than those of the calls before it on its node and by its client."""
         waiting = {node: list(reversed(calls)) for node, calls in self.nodes.items()}
-        own = {client: sorted(calls, reverse=True) for client, calls in self.clients.items()}
+        own = {client: sorted(calls, key=order_of, reverse=True) for client, calls in self.clients.items()}
         places, behind = {}, {}
         while any(own.values()):
             if not self.place_some(waiting, own, places, behind):
-                break  # no report of a program: two callers each before the other
+                self.place_rest(waiting, own, places)
+                break
         self.width = max(places.values(), default=-1) + 1
         return places
 
     def place_some(self, waiting, own, places, behind):
         """Places the calls that are the next ones of their client and their node; tells whether there was one."""
-        count = len(places)
+        has_placed = False
         for client, calls in own.items():
             while calls and (calls[-1][1] is None or waiting[calls[-1][1]][-1] == (client, calls[-1][0])):
                 step, node = calls.pop()
@@ -45,7 +45,22 @@ class Gap:
                 behind.update(dict.fromkeys(keys, places[client, step] + 1))
                 if node is not None:
                     waiting[node].pop()
-        return len(places) > count
+                has_placed = True
+        return has_placed
+
+    @staticmethod
+    def place_rest(waiting, own, places):
+        """Places what is left in the order of its node alone: in no report of a program is each of two callers before the other."""
+        place = max(places.values(), default=-1) + 1
+        commands = [(client, step) for client, calls in own.items() for step, node in reversed(calls) if node is None]
+        for call in [*(call for calls in waiting.values() for call in reversed(calls)), *commands]:
+            places[call] = place
+            place += 1
+
+
+def order_of(call):
+    """Where a call stands among those of its client: a command that makes none behind the call of the step before it."""
+    return call[0] if isinstance(call[0], tuple) else (call[0],)
 
 
 class Axis:
@@ -54,20 +69,20 @@ class Axis:
     def __init__(self, report, width=WIDTH):
         self.width = width
         self.gaps = self.gaps_of(report)
-        self.calls, self.starts, column = {}, [], 0
+        self.calls, starts, column = {}, [], 0
         for gap in self.gaps:
             self.calls.update({call: column + place for call, place in gap.place().items()})
-            self.starts.append(column)
+            starts.append(column)
             column += gap.width + 1
         self.count = column - 1
-        self.batches = [start + gap.width for start, gap in zip(self.starts[:-1], self.gaps)]
+        self.batches = [start + gap.width for start, gap in zip(starts[:-1], self.gaps)]
         self.gathers = self.count * CELL > width
         self.edges = self.gathered_edges() if self.gathers else self.plain_edges()
         self.right = self.edges[-1]
         self.cuts = self.strips()
 
     def gaps_of(self, report):
-        """The calls between the batches, and the commands that make none."""
+        """The calls between the batches, and the commands that make none, or none that a node has."""
         found, seen = [Gap()], {}
         for node, entries in report.nodes.items():
             passed = 0
@@ -82,22 +97,20 @@ class Axis:
                     seen[client, entry.step] = passed
         for client, outcomes in enumerate(report.clients):
             for number, outcome in enumerate(outcomes):
-                if outcome.first == outcome.after:
+                if not any((client, step) in seen for step in ends_of(outcome)):
                     passed = seen.get((client, outcome.first - 1), 0)
                     found[passed].add(None, client, self.step_of(outcome, number))
         return found
 
     @staticmethod
     def step_of(outcome, number):
-        """A step for a command that makes no call: between the calls before and behind it, in the order of the commands."""
-        return outcome.first - 1 / (number + 2)
+        """A step for a command that makes no call: the step before it, and its number."""
+        return outcome.first - 1, number
 
     def command(self, client, number, outcome):
-        """The first and the last column of a command."""
-        if outcome.first == outcome.after:
-            column = self.calls.get((client, self.step_of(outcome, number)), 0)
-            return column, column
-        columns = [self.calls.get((client, step), 0) for step in (outcome.first, outcome.after - 1)]
+        """The first and the last column of a command. One whose calls no node has stands where one without calls does."""
+        columns = [self.calls[client, step] for step in ends_of(outcome) if (client, step) in self.calls]
+        columns = columns or [self.calls.get((client, self.step_of(outcome, number)), 0)]
         return min(columns), max(columns)
 
     def columns_of(self, entries):
@@ -108,7 +121,7 @@ class Axis:
                 found.append(self.batches[passed])
                 passed += 1
             else:
-                found.append(self.calls.get((int(entry.who[1]), entry.step), self.starts[passed]))
+                found.append(self.calls[int(entry.who[1]), entry.step])
         return found
 
     # ------ from columns to places on the paper
@@ -187,6 +200,11 @@ class Axis:
         for thing in things:
             found.setdefault(self.cell(column_of(thing)), []).append(thing)
         return sorted(found.items())
+
+
+def ends_of(outcome):
+    """The first and the last step of a command; none where it makes no call."""
+    return (outcome.first, outcome.after - 1) if outcome.first < outcome.after else ()
 
 
 def parts(begin, wide, count):

@@ -203,15 +203,16 @@ def over_files(words, given, word):
         return standard.end_by(signal.SIGPIPE)
     sys.stderr.buffer.write(run.told)
     sys.stderr.flush()
-    tell_more(status, run, kept[0], given.files)
+    tell_more(status, run, kept[0], files, word)
     return ended(status)
 
 
-def tell_more(status, run, script, names):
-    """What a script's fault may be about, behind the program's lines."""
-    if status == 3:
-        import faulty  # pylint: disable=import-outside-toplevel
-        sys.stderr.write(faulty.hint(run.told.decode(errors="replace"), script, names))
+def tell_more(status, run, script, files, word):
+    """What a script's fault may be about, behind the program's lines; or that what was taken for a stream is likely none."""
+    import faulty  # pylint: disable=import-outside-toplevel
+    names = ["-" if file.is_standard else file.name for file in files]
+    told = faulty.hint(run.told.decode(errors="replace"), script, names, word) if status == 3 else faulty.warnings(script, files)
+    sys.stderr.write(told)
 
 
 def kept_head(pieces, kept, work):
@@ -233,7 +234,9 @@ def check_files(words, given):
             words.tell_waiting()
         work = progress.Work([report, *session], "checking")
         progress.show(words.teller, work.text)
-        text, behind = report.whole(), b"".join(inputs.session_pieces(session))
+        text, (head, *others) = report.whole(), inputs.session_pieces(session)
+        behind = b"".join([head, *others])
+        del others
         progress.end()
         run = started(plain("check", given), True)
         work.begin("checking")
@@ -247,8 +250,9 @@ def check_files(words, given):
     if status or run.output != b"no\n":
         sys.stderr.buffer.write(run.told)
         sys.stderr.flush()
-        tell_more(status, run, behind, given.files[1:])
+        tell_more(status, run, head, session, "check")
         return ended(status)
+    tell_more(status, run, head, session, "check")
     import reasons  # pylint: disable=import-outside-toplevel
     work.begin(reasons.LOOKS)
     progress.show(words.teller, work.text)
@@ -308,7 +312,7 @@ def main(program, *words):
         return main(program, words[1], "--help")
     if word in ("-h", "--help", "help"):
         sys.stdout.write(whole_help())
-    elif word == "--version":
+    elif word in ("--version", "version", "-V"):
         print(tool.version())
     elif word in PROVED:
         return done(word, words[1:])

@@ -3,7 +3,7 @@ import os
 import stat
 import sys
 
-PIECE, SCRIPT = 1 << 20, 1 << 20
+PIECE, SCRIPT, BEGINNING = 1 << 20, 1 << 20, 4096
 LINE = b"stream\n"
 
 
@@ -31,10 +31,11 @@ class Input:
             raise Broken(self.name, getattr(fault, "strerror", None) or "it is closed") from None
         if stat.S_ISDIR(status.st_mode):
             raise Broken(self.name, "Is a directory")
-        self.is_terminal = name == "-" and os.isatty(self.file)
+        self.is_standard = name == "-"
+        self.is_terminal = self.is_standard and os.isatty(self.file)
         # (how many bytes a file has; a pipe, a device and what the system makes up have no size)
         self.size = status.st_size - os.lseek(self.file, 0, os.SEEK_CUR) if stat.S_ISREG(status.st_mode) and status.st_size else None
-        self.taken = 0
+        self.taken, self.beginning = 0, b""
 
     def read(self, most=PIECE):
         """The next bytes, as they come; none at the end. A file that has become shorter is broken."""
@@ -42,6 +43,7 @@ class Input:
             piece = os.read(self.file, most)
         except OSError as fault:
             raise Broken(self.name, f"reading failed behind {many(self.taken, 'byte')}: {fault.strerror}") from None
+        self.beginning = self.beginning or piece[:BEGINNING]
         self.taken += len(piece)
         if not piece and self.size is not None and self.taken < self.size:
             raise Broken(self.name, f"it ended behind {self.taken:,} of its {many(self.size, 'byte')}")
@@ -77,16 +79,20 @@ def head_of(script):
     return head
 
 
+def with_line(head):
+    """The beginning of a script, with the line `stream` behind it where it has none. Without its line feed that gets one."""
+    if ends_script(head) or len(head) >= SCRIPT:
+        return head
+    if head == LINE[:-1] or head.endswith(b"\n" + LINE[:-1]):
+        return head + b"\n"
+    return head + b"\n" * (head[-1:] not in (b"", b"\n")) + LINE
+
+
 def session_pieces(files):
     """The pieces of the session of a script and of the streams behind it. A script without the line `stream` gets it where a stream
     follows."""
     script, *streams = files
     head = head_of(script)
-    if streams and not ends_script(head) and len(head) < SCRIPT:
-        if head == LINE[:-1] or head.endswith(b"\n" + LINE[:-1]):
-            head += b"\n"
-        else:
-            head += b"\n" * (head[-1:] not in (b"", b"\n")) + LINE
-    yield head
+    yield with_line(head) if streams else head
     for file in files:
         yield from file.pieces()

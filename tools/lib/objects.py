@@ -22,7 +22,7 @@ def plain(name, value):
     if name == "bytes":
         return [{"place": place, "filter": three[0], "mask": three[1], "mode": three[2]} for place, three in value.items()]
     if name == "node":
-        return reports.node_name(value)
+        return f"n{value}"
     return list(value) if isinstance(value, tuple) else value
 
 
@@ -138,7 +138,10 @@ def back(lines):
             elif found["kind"] in UNDER and found[UNDER[found["kind"]]] != under.get(UNDER[found["kind"]]):
                 raise KeyError(f"{UNDER[found['kind']]} isn't the one above")
             yield written
+        except RecursionError:
+            raise NoObjects(line, "no line of a report: too much stands within one another") from None
         except ValueError as wrong:
-            raise NoObjects(line, f"no object of JSON: {wrong}") from None
+            what = "this is a report, and json without --back writes its JSON Lines" if text == f"{reports.FORMAT}\n" else wrong
+            raise NoObjects(line, f"no object of JSON: {what}") from None
         except (KeyError, TypeError, IndexError, AttributeError) as wrong:
             raise NoObjects(line, f"no line of a report, {type(wrong).__name__}: {wrong}") from None

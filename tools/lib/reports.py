@@ -11,14 +11,18 @@ FORMAT = "dvbemu 1"
 DVR = 32
 CLIENTS = 8
 LARGEST_PID = 0x1FFF
+# The numbers that have 16 and 32 bits; all others have 64.
+BITS_16, BITS_32 = 2**16 - 1, 2**32 - 1
+MOST_PIDS, MOST_BYTES = 128, 65536
 HEX_DIGITS = b"0123456789abcdef"
 
 
 class NotAReport(Exception):
-    """A text that is no report: the number of the line, from 1, what was expected there, and what was found."""
+    """A text that is no report: the number of the line, from 1, what was expected there, what was found, and what the text is instead,
+    where that is known."""
 
-    def __init__(self, line, expected, found=None):
-        super().__init__(f"line {line}: expected {expected}{'' if found is None else f', found {found}'}")
+    def __init__(self, line, expected, found=None, kind=""):
+        super().__init__(f"line {line}: expected {expected}{'' if found is None else f', found {found}'}{kind and f'; {kind}'}")
         self.line, self.expected, self.found = line, expected, found
 
 
@@ -96,9 +100,9 @@ def span(word):
 
 def pids(word):
     """The PIDs of a list `P,P,P`."""
-    listed = [] if word == "-" else [number(part, 0xFFFF) for part in word.split(",")]
-    if listed != sorted(set(listed)):
-        raise Wrong("PIDs in ascending order")
+    listed = [] if word == "-" else [number(part, BITS_16) for part in word.split(",")]
+    if listed != sorted(set(listed)) or len(listed) > MOST_PIDS:
+        raise Wrong(f"PIDs in ascending order, at most {MOST_PIDS}")
     return listed
 
 
@@ -134,10 +138,10 @@ def client_name(word):
     return word
 
 
-# Places that have a form of their own; all others are numbers.
+# Places that have a form of their own, or fewer bits; all others are numbers.
 PLACES = {
-    "pid": at_most(0xFFFF),
-    "node": at_most(DVR - 1),
+    **dict.fromkeys(("node", "rest", "timeout", "flags", "type", "size", "count", "base"), at_most(BITS_32)),
+    "pid": at_most(BITS_16),
     "ended": at_most(1),
     "readable": at_most(1),
     "input": one_of("frontend", "dvr"),
@@ -209,8 +213,9 @@ def readers_of(places):
 
 
 READERS = {places: readers_of(places) for places in [*ACTS.values(), *REPLIES.values()]}
-# The line of a batch, which most lines of a long report are.
-PASSED = re.compile(r"(N) feed (N) (pass input=frontend first=N count=N at=N) = passed".replace("N", r"(?:0|[1-9]\d{0,17})"), re.ASCII)
+# The line of a batch, which most lines of a long report are; a greater number is left to what reads all other lines.
+NUMBER, COUNT = r"(?:0|[1-9]\d{0,17})", r"(?:0|[1-9]\d{0,8})"
+PASSED = re.compile(f"({NUMBER}) feed ({NUMBER}) (pass input=frontend first={NUMBER} count={COUNT} at={NUMBER}) = passed", re.ASCII)
 
 
 def read_places(name, places, words):
@@ -233,8 +238,8 @@ def filter_bytes(words):
         place, sign, values = word.partition("=")
         parts = values.split("/")
         hexadecimal = all(len(part) == 2 and is_hexadecimal(part) for part in parts)
-        if not sign or len(parts) != 3 or not hexadecimal or not last < number(place, 15):
-            raise Wrong("filter bytes `I=FF/MM/DD` in ascending order")
+        if not sign or len(parts) != 3 or not hexadecimal or not last < number(place, 15) or values == "00/00/00":
+            raise Wrong("filter bytes `I=FF/MM/DD` in ascending order, of which one isn't 0")
         last = int(place)
         found[last] = tuple(int(part, 16) for part in parts)
     return found
@@ -276,6 +281,8 @@ def read_data(text):
     digits = text[5:]
     if not digits or len(digits) % 2 or not is_hexadecimal(digits):
         raise Wrong("two lower-case hexadecimal digits a byte")
+    if len(digits) > 2 * MOST_BYTES:
+        raise Wrong(f"at most {MOST_BYTES} bytes")
     return {"name": "data", "length": len(digits) // 2}
 
 
@@ -318,7 +325,25 @@ def node_name(node):
     return "dvr" if node == DVR else f"n{node}"
 
 
+def node_of(name):
+    """The node of a name: `n0` to `n31` or `dvr`, or as its device is called, `demux0` to `demux31` or `dvr0`."""
+    return DVR if name in ("dvr", "dvr0") else number(re.sub("^(demux|n)", "", name), DVR - 1)
+
+
 # ------ lines
+
+
+BEGINNING = 4096
+
+
+def instead(text):
+    """What a text is that is no report, by its beginning; nothing where that isn't known."""
+    if re.match(r"(G.{187}|G.{203}|.{4}G.{191})G", text, re.DOTALL):
+        return "this is a recording"
+    first = next((line for line in text.split("\n") if line and line[0] != "#"), "")
+    if re.match(r"c[0-7] [a-z]+ |(feed|tick) \d+$|stream$", first):
+        return "this is a script: `dvbemu steps` writes its report"
+    return "these are JSON Lines: `dvbemu json --back` writes their report" if text.startswith('{"kind": ') else ""
 
 
 def shown(text):
@@ -340,7 +365,7 @@ class Lines:
         line = self.file.readline()
         self.line += 1
         if line and not line.endswith("\n"):
-            raise NotAReport(self.line, "a line feed at the end of the line")
+            raise NotAReport(self.line, "a line feed at the end of the line", kind=instead(line[:BEGINNING]) if self.line == 1 else "")
         self.text = line[:-1] if line else None
 
     def starts(self, beginning):
@@ -361,7 +386,9 @@ def head_of(lines):
     """The numbers of the stream's cutting."""
     if lines.starts("dvbemu ") and lines.text != FORMAT:
         raise AnotherFormat(lines.line, f"`{FORMAT}`", shown(lines.text))
-    lines.want(lines.text == FORMAT, f"`{FORMAT}`")
+    if lines.text != FORMAT:
+        beginning = f"{lines.text or ''}\n"[:BEGINNING]
+        raise NotAReport(lines.line, f"`{FORMAT}`", shown(lines.text), instead(beginning + lines.file.read(BEGINNING)))
     lines.go_on()
     lines.want(lines.text is not None, "`packets=.. skipped=.. rest=..`")
     found = read_places("", ("packets=", "skipped=", "rest="), lines.text.split(" "))
@@ -376,6 +403,7 @@ def pid_rows(lines):
         row = read_places("pid", ("pid", "packets=", "breaks=", "duplicates=", "errors="), lines.text[4:].split(" "))
         del row["name"]
         lines.want(last < row["pid"] <= LARGEST_PID, f"a PID above {last}, at most {LARGEST_PID}")
+        lines.want(row["packets"], "a PID that has a packet")
         last = row["pid"]
         rows.append(PidRow(**row))
         lines.go_on()
@@ -398,7 +426,7 @@ def outcomes_of(lines):
         words = lines.text.split(" ")
         lines.want(len(words) > 4 and words[2] == "steps", "`line L steps A..B OUTCOME`")
         first, after = span(words[3])
-        found.append(Outcome(number(words[1]), first, after, kind_of(words[4:])))
+        found.append(Outcome(number(words[1], BITS_32), first, after, kind_of(words[4:])))
         lines.go_on()
     return found
 

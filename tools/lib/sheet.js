@@ -121,7 +121,8 @@ function sift() {
     sentence.classList.toggle("found", has);
     told += has;
   }
-  $("count").textContent = `${shown} of ${rows.length} commands` + (asked ? `, ${told} sentences` : "");
+  $("count").textContent = `${shown} of ${rows.length} ${rows.length === 1 ? "command" : "commands"}`
+    + (asked ? `, ${told} ${told === 1 ? "sentence" : "sentences"}` : "");
 }
 
 function theme(name) {

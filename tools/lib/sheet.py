@@ -137,7 +137,7 @@ def page(report, title):
 </head>
 <body>
 <header><h1>{escape(title)}</h1><input id="search" type="search" placeholder="search"><span id="count"></span>
-<button id="smaller">-</button><span id="zoomed"></span><button id="larger">+</button><button id="theme"></button></header>
+<button id="smaller" aria-label="smaller">-</button><span id="zoomed"></span><button id="larger" aria-label="larger">+</button><button id="theme"></button></header>
 <main>
 <section id="told">
 {sentences_of(report, story)}
