@@ -11,9 +11,10 @@ import re
 import sys
 
 sys.path.insert(1, os.path.join(os.path.dirname(os.path.realpath(__file__)), "..", "tools", "lib"))
+sys.path.insert(1, os.path.join(os.path.dirname(os.path.realpath(__file__)), "..", "python", "src"))
 
-import reports  # noqa: E402
-from judge import MOST_PACKETS, node_text, outcome_text  # noqa: E402
+from dvbemu import reports
+from dvbemu.oracle.judge import MOST_PACKETS, node_text, outcome_text
 
 RIGHT, WRONG, OPEN = True, False, None
 BYTES = "0123456789abcdef=. -\n"

@@ -8,7 +8,7 @@ It shares no code with dvbemu and isn't proved. The generator's multiplier is PC
 """
 import sys
 
-import second
+from dvbemu.oracle import second
 
 SCRIPT = """c0 open n0
 c0 size n0 16777216

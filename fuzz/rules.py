@@ -18,7 +18,7 @@ HERE = os.path.dirname(os.path.realpath(__file__))
 sys.path.insert(1, os.path.join(HERE, "..", "tools", "lib"))
 sys.dont_write_bytecode = True
 
-from checks import ROOT, Tally  # noqa: E402
+from checks import ROOT, Tally
 
 DOCUMENTS = "BEHAVIOUR.md", "MADE.md"
 PROGRAMS = "second.py", "judge.py", "made.py", "fuzz"

@@ -20,9 +20,8 @@ ROOT = os.path.dirname(HERE)
 LIBRARY, DOC, MAN = os.path.join("lib", "dvbemu"), os.path.join("share", "doc", "dvbemu"), os.path.join("share", "man")
 # What isn't packed: what builds, proves and checks, and what is made.
 LEFT_OUT = {
-    "tools": ("build", "checks", "install", "package", "lib/haste.py", "lib/checks.py", "lib/crates.py"),
-    "serve": ("check", "cases", "calls.c", "late.c", "out", "airs.py", "bad.py", "beginnings.py", "devices.py", "guarded.py", "hostile.py",
-              "lasting.py", "loops.py", "programs.py", "receivers.py", "room.py", "stations.py", "tuner.py"),  # fmt: skip
+    "python": ("src/dvbemu/haste.py",),
+    "preload": ("cases", "out"),
 }
 MADE = "__pycache__", "out"
 # The documents beside docs/.
@@ -148,11 +147,8 @@ def copy_tools(library, programs, proof):
     loads."""
     for name in "dvbemu", "dvbemu-serve", "crates.txt":
         shutil.copy(os.path.join(ROOT, name), library)
-    for name in "tools", "serve", "python":
+    for name in "preload", "python":
         shutil.copytree(os.path.join(ROOT, name), os.path.join(library, name), ignore=ignored, dirs_exist_ok=True)
-    os.makedirs(os.path.join(library, "fuzz"), exist_ok=True)
-    for name in "judge.py", "second.py":
-        shutil.copy(os.path.join(ROOT, "fuzz", name), os.path.join(library, "fuzz"))
     for name, path in (("dvbemu", programs.dvbemu), ("dvb_serve", programs.server)):
         out = os.path.join(library, "crates", name, "out")
         os.makedirs(out, exist_ok=True)
@@ -160,7 +156,7 @@ def copy_tools(library, programs, proof):
     write(os.path.join(library, "VERSION"), f"{proof.version} (commit {proof.short()})\nproved with {proof.toolchain}\n")
     # (by these pytest finds the module's plugin)
     for name, text in wheel_of(library).information().items():
-        write(os.path.join(library, "python", f"dvbemu-{proof.version}.dist-info", name), text)
+        write(os.path.join(library, "python", "src", f"dvbemu-{proof.version}.dist-info", name), text)
 
 
 def wheel_of(library):
@@ -180,7 +176,7 @@ def write(path, text):
 
 def preload_in(library):
     """Where what `serve` loads into programs is, when it is compiled."""
-    return os.path.join(library, "serve", "out", "preload.so")
+    return os.path.join(library, "preload", "out", "preload.so")
 
 
 def build_preload(library):
@@ -409,7 +405,7 @@ def deb(root, path, proof):
         packages = os.path.join(top, "usr", "lib", "python3", "dist-packages")
         os.makedirs(packages)
         for name in "dvbemu", f"dvbemu-{proof.version}.dist-info":
-            os.symlink(os.path.join("..", "..", "dvbemu", "python", name), os.path.join(packages, name))
+            os.symlink(os.path.join("..", "..", "dvbemu", "python", "src", name), os.path.join(packages, name))
         overrides = os.path.join(top, "usr", "share", "lintian", "overrides")
         os.makedirs(overrides)
         shutil.copyfile(os.path.join(HERE, "lintian-overrides"), os.path.join(overrides, "dvbemu"))

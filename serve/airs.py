@@ -7,24 +7,25 @@ import subprocess
 import tempfile
 import time
 
-from building import built_server
+from dvbemu.server.building import built_server
 from programs import packets_of
 from room import HERE, SERVE, TOP, bytes_of, ran, without_hints
 from stations import NULL, RATE, Station
-from adapters import MARK
-import clock
+from dvbemu.server.adapters import MARK
+from dvbemu import clock
 
 TUNER = os.path.join(HERE, "tuner.py")
+# Where a Python that is started finds the package.
+PACKAGE = "PYTHONPATH=" + os.path.join(TOP, "python", "src")
 HERTZ = 474_000_000, 482_000_000, 490_000_000
 NAMES = ("Alpha", "Beta"), ("Gamma", "Delta"), ("Epsilon", "Zeta")
 SECONDS, ENDS, OLD = 2, 3, 3600
 # dvbemu-serve, which ends with a word where it would build.
-UNBUILT = """import runpy, sys
-_, here, top, *sys.argv = sys.argv
-sys.path[1:1] = here, top + "/tools/lib"
-import building
+UNBUILT = """import sys
+from dvbemu.server import building
 building.build_preload = building.built_server = lambda: sys.exit("built")
-runpy.run_path(sys.argv[0], run_name="__main__")
+from dvbemu.cli import begin
+begin("", "serve", *sys.argv[1:])
 """
 
 
@@ -228,7 +229,7 @@ def try_faults(room):
         (["--keep", "none", path], "built\n"),
     ):  # fmt: skip
         before = sizes(room.folder)
-        out, status = call(room, words, ["true"], serve=["python3", "-Bc", UNBUILT, HERE, TOP, SERVE])
+        out, status = call(room, words, ["true"], serve=["env", PACKAGE, "python3", "-Bc", UNBUILT])
         is_first = "built" not in out or told == "built\n"
         room.want(status in (1, 2) and told in out and is_first and before <= sizes(room.folder), f"{words}: {told}", out)
 
@@ -293,8 +294,8 @@ def leaping(data, begin, leap, flag=0):
 def try_clocks(room):
     """A clock is followed PCR by PCR: also where recordings are joined, their halves exchanged, or it goes round, where a long
     step comes over 2^33, and where another clock begins, as a discontinuity_indicator says."""
-    script = "import sys; sys.path[1:1] = sys.argv[2:4]\nfrom recording import Recording\nprint(Recording(sys.argv[1]).length())"
-    words, folders = ["python3", "-c", script], [HERE, os.path.join(TOP, "tools", "lib")]
+    script = "import sys\nfrom dvbemu.server.recording import Recording\nprint(Recording(sys.argv[1]).length())"
+    words = ["env", PACKAGE, "python3", "-c", script]
     data = bytes_of(stations(room)[0])
     other = Station(2, NAMES[1], HERTZ).stream(3 * SECONDS)
     half = len(data) // 376 * 188
@@ -305,7 +306,7 @@ def try_clocks(room):
     for name, joined, seconds in ((name, joined, count * SECONDS) for name, joined, count in joins):
         with open(room.path(name), "wb") as file:
             file.write(joined)
-        length = float(ran([*words, room.path(name), *folders]).stdout or 0)
+        length = float(ran([*words, room.path(name)]).stdout or 0)
         room.want(abs(length - seconds) < 0.1, f"the length of {name}", f"{length} of {seconds} s at {RATE} packets a second")
 
 

@@ -11,9 +11,9 @@ import time
 
 from airs import NAMES, TUNER, call, stations
 from room import RATE, SERVE, calls_of, is_passed, ran, without_hints
-from adapters import end_with
-from clearing import VARIABLE, tell_program
-from commands import unseen_as
+from dvbemu.server.adapters import end_with
+from dvbemu.server.clearing import VARIABLE, tell_program
+from dvbemu.server.commands import unseen_as
 
 # The seconds in which a terminal tells what is waited for, and the byte that stands for Ctrl-C there.
 TELLS, CTRL_C = 20, b"\x03"

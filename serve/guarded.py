@@ -6,8 +6,8 @@ import shlex
 import shutil
 import tempfile
 
-from building import FLAGS, PARTS as SOURCES
-from room import HERE, calls_of, cases_of, is_passed, passes, ran
+from dvbemu.server.building import FLAGS, PARTS as SOURCES
+from room import HERE, TOP, calls_of, cases_of, is_passed, passes, ran
 
 # The packets a second; what valgrind keeps for itself or does otherwise (vfork is a fork there), and pointers that are bad on purpose;
 # what a sanitizer finds in Debian's dd, and stacks that are too small for one; and that a program that leaks is as ever.
@@ -47,8 +47,8 @@ def try_sanitizers(room):
         skipped("gcc's sanitizers aren't there")
         return
     cases, preload = room.path("cases"), room.path("preload.so")
-    for name, words in ((cases, [*ADDRESSES, *glob.glob(os.path.join(HERE, "cases", "*.c")), "-lpthread"]),
-                        (preload, [*FLAGS, *BOTH, *(os.path.join(HERE, f"{part}.c") for part in SOURCES), "-ldl"])):  # fmt: skip
+    for name, words in ((cases, [*ADDRESSES, *glob.glob(os.path.join(TOP, "preload", "cases", "*.c")), "-lpthread"]),
+                        (preload, [*FLAGS, *BOTH, *(os.path.join(TOP, "preload", f"{part}.c") for part in SOURCES), "-ldl"])):  # fmt: skip
         made = ran(["gcc", *words, "-o", name])
         room.want(not made.returncode, f"{os.path.basename(name)} is built with sanitizers", made.stdout)
     out, status = room.run("env", SANITIZED, cases, "-small_stacks", keep="none", rate=SLOW)

@@ -8,7 +8,7 @@ import time
 
 from airs import call
 from room import HERE, RATE, bytes_of, calls_of, is_passed, passes
-from adapters import MARK
+from dvbemu.server.adapters import MARK
 
 BAD = os.path.join(HERE, "bad.py")
 # How often a program comes in beside a flood; in how many seconds a server ends behind what would keep it; and an age of folders in

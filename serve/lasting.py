@@ -4,10 +4,10 @@ import os
 import shlex
 import subprocess
 
-from building import built_server
+from dvbemu.server.building import built_server
 from room import HERE, PACKET, RATE, TOP, bytes_of, calls_of, is_passed
 
-BAD, MERGE = os.path.join(HERE, "bad.py"), os.path.join(TOP, "tools", "merge")
+BAD = os.path.join(HERE, "bad.py")
 NULL = b"\x47\x1f\xff\x10" + 184 * b"\xff"
 # The packets in front of the last section of a stream, which take some seconds, and those behind it: the last batch isn't whole.
 AHEAD, BEHIND = 6000, 10
@@ -46,7 +46,7 @@ def try_full(room):
     room.want("dvb_serve: what was called can't be written\n" in out, "that is told", out)
     sizes = [os.path.getsize(os.path.join(folder, name)) for name in os.listdir(folder)]
     room.want(BLOCKS * 512 <= max(sizes, default=0) <= BLOCKS * 1024, "a file is written as far as there is room", sizes)
-    merged = subprocess.run([MERGE, folder], stdin=subprocess.DEVNULL, capture_output=True, check=False)
+    merged = subprocess.run([os.path.join(TOP, "dvbemu"), "merge", folder], stdin=subprocess.DEVNULL, capture_output=True, check=False)
     room.want(merged.returncode == 1 and b"has no file `head`" in merged.stderr, "no report is made", merged.stderr.decode())
 
 

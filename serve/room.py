@@ -8,11 +8,12 @@ import time
 HERE = os.path.dirname(os.path.realpath(__file__))
 TOP = os.path.dirname(HERE)
 sys.path[1:1] = [os.path.join(TOP, "tools", "lib"), os.path.join(TOP, "fuzz")]
+sys.path.insert(1, os.path.join(os.path.dirname(os.path.realpath(__file__)), "..", "python", "src"))
 sys.dont_write_bytecode = True
 
-import judge  # noqa: E402
-import second  # noqa: E402
-from checks import EXAMPLES, Tally, asked_of, bytes_of  # noqa: E402, F401
+from dvbemu.oracle import judge
+from dvbemu.oracle import second
+from checks import EXAMPLES, Tally, asked_of, bytes_of
 
 SERVE = os.path.join(TOP, "dvbemu-serve")
 CHECKER = os.path.join(TOP, "crates", "dvbemu", "out", "dvbemu")
@@ -28,7 +29,7 @@ def calls_of(room):
 
 
 def cases_of(room):
-    """The program of serve/cases."""
+    """The program of preload/cases."""
     return os.path.join(os.path.dirname(room.folder), "cases")
 
 
@@ -107,8 +108,7 @@ class Room:
         session, told = self.path("session"), self.path("told")
         for path, words in (session, []), (told, ["--report"]):
             with open(path, "wb") as out:
-                tool = os.path.join(TOP, "tools", "session")
-                made = subprocess.run([tool, *words, self.report, self.stream], stdout=out, stderr=subprocess.PIPE, check=False)
+                made = subprocess.run([os.path.join(TOP, "dvbemu"), "session", *words, self.report, self.stream], stdout=out, stderr=subprocess.PIPE, check=False)
             if made.returncode:
                 return made.stderr.decode()
         given, report = bytes_of(session), bytes_of(told)

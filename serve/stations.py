@@ -6,9 +6,10 @@ import os
 
 HERE = os.path.dirname(os.path.realpath(__file__))
 sys.path.insert(1, os.path.join(HERE, "..", "tools", "lib"))
+sys.path.insert(1, os.path.join(os.path.dirname(os.path.realpath(__file__)), "..", "python", "src"))
 sys.dont_write_bytecode = True
 
-import clock  # noqa: E402
+from dvbemu import clock
 
 PACKET, RATE, NETWORK = 188, 1500, 8468
 NULL = bytes([0x47, 0x1F, 0xFF, 0x10]) + b"\xff" * 184

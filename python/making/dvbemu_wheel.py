@@ -3,9 +3,7 @@
 
 It needs the standard library alone, so that pip fetches nothing for it, and writes into no other folder than the one that it is
 told: that of the module may be one in which nobody may write. (Python itself keeps what it compiles of this file in __pycache__
-beside it, where it may.) What is packed is the module, and of the tools the modules that it
-takes from tools/lib, beside `python` here and in a package (dvbemu/_tools.py). All bears one time: the same sources make the same
-bytes.
+beside it, where it may.) All bears one time: the same sources make the same bytes.
 """
 from __future__ import annotations
 
@@ -17,9 +15,7 @@ import zipfile
 from typing import Any, Mapping, Optional
 
 PYTHON = os.path.dirname(os.path.dirname(os.path.realpath(__file__)))
-TOP = os.path.dirname(PYTHON)
-# The modules of the tools that the module takes.
-TOOLS = "inputs.py", "naming.py", "reports.py"
+SOURCE, TOP = os.path.join(PYTHON, "src"), os.path.dirname(PYTHON)
 # The first moment that a zip file can tell.
 TIME = (1980, 1, 1, 0, 0, 0)
 ABOUT = """\
@@ -45,9 +41,9 @@ class UnsupportedOperation(Exception):
 
 def see_whole() -> None:
     """Ends with a line where what the module takes isn't beside its folder."""
-    for path in os.path.join(TOP, "VERSION"), *(os.path.join(TOP, "tools", "lib", name) for name in TOOLS):
-        if not os.path.exists(path):
-            sys.exit(f"dvbemu: {path} is missing: the module is installed from the repository, or from a package's lib/dvbemu/python")
+    path = os.path.join(TOP, "VERSION")
+    if not os.path.exists(path):
+        sys.exit(f"dvbemu: {path} is missing: the module is installed from the repository, or from a package's lib/dvbemu/python")
 
 
 def version() -> str:
@@ -64,16 +60,15 @@ def information() -> dict[str, str]:
 def build_wheel(wheel_directory: str, config_settings: Config = None, metadata_directory: Optional[str] = None) -> str:
     """Writes the wheel into a folder, and gives its name."""
     see_whole()
-    module, tools = os.path.join(PYTHON, "dvbemu"), os.path.join(TOP, "tools", "lib")
-    names = sorted(name for name in os.listdir(module) if name.endswith((".py", ".typed")))
-    files = {f"dvbemu/{name}": bytes_of(os.path.join(module, name)) for name in names}
-    return written(wheel_directory, files | {f"dvbemu/_lib/{name}": bytes_of(os.path.join(tools, name)) for name in TOOLS})
+    paths = [os.path.join(folder, name) for folder, _, names in os.walk(os.path.join(SOURCE, "dvbemu")) for name in names]
+    packed = sorted(path for path in paths if path.endswith((".py", ".typed", ".css", ".js")))
+    return written(wheel_directory, {os.path.relpath(path, SOURCE): bytes_of(path) for path in packed})
 
 
 def build_editable(wheel_directory: str, config_settings: Config = None, metadata_directory: Optional[str] = None) -> str:
     """The same for `pip install -e`: the module stays where it is."""
     see_whole()
-    return written(wheel_directory, {"dvbemu.pth": f"{PYTHON}\n".encode()})
+    return written(wheel_directory, {"dvbemu.pth": f"{SOURCE}\n".encode()})
 
 
 def build_sdist(sdist_directory: str, config_settings: Config = None) -> str:

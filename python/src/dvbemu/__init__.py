@@ -1,0 +1,91 @@
+"""dvbemu from Python: scripts, their reports as objects, and a device for the programs of a test.
+
+    import dvbemu
+
+    script = dvbemu.Script()
+    demux = script.client(0).open("demux0")
+    demux.set_filter(pid=0, table_id=0x00, flags=dvbemu.DMX_CHECK_CRC | dvbemu.DMX_IMMEDIATE_START)
+    demux.read(4096, waits=True)
+    report = dvbemu.steps(script, "my.ts")
+    assert report.node("n0").data()[:1] == b"\\x00"
+
+    with dvbemu.serve("my.ts", packets=3000) as adapter:
+        adapter.run(["dvbv5-scan", "-o", "channels", "dvbv5.conf"], timeout=60)
+    print(adapter.report.explain())
+
+It needs the standard library alone, and calls the programs `dvbemu` and `dvbemu-serve`: those that `DVBEMU` and `DVBEMU_SERVE` of
+the environment name, else those beside this module, else those of the PATH. Whether a reply is right is decided by the program,
+whose `steps`, `run` and `check` are proved; this module is tested, and neither the server's outside nor the preload is proved
+(docs/PROVED.md).
+"""
+import importlib
+from typing import TYPE_CHECKING, Any
+
+if TYPE_CHECKING:
+    from .adapter import Adapter, NoAdapter, serve
+    from .calls import (
+        DMX_CHECK_CRC,
+        DMX_IMMEDIATE_START,
+        DMX_IN_DVR,
+        DMX_IN_FRONTEND,
+        DMX_ONESHOT,
+        DMX_OUT_DECODER,
+        DMX_OUT_TAP,
+        DMX_OUT_TS_TAP,
+        DMX_OUT_TSDEMUX_TAP,
+        KEEP,
+        Flag,
+        Input,
+        Output,
+        PesType,
+    )
+    from .program import Failed, ScriptFault, Verdict, check, run, steps
+    from .report import (
+        Again,
+        Busy,
+        Call,
+        Data,
+        Done,
+        Entry,
+        Node,
+        NotAReport,
+        Outcome,
+        Overflow,
+        Passed,
+        PidCount,
+        Ready,
+        Refused,
+        Reply,
+        Report,
+        TimedOut,
+    )
+    from .script import Client, Device, Script
+
+# The module of each public name: it is loaded when the name is asked for, so that a command loads what it needs alone.
+_MODULES = {
+    "adapter": "Adapter NoAdapter serve",
+    "calls": "DMX_CHECK_CRC DMX_IMMEDIATE_START DMX_IN_DVR DMX_IN_FRONTEND DMX_ONESHOT DMX_OUT_DECODER DMX_OUT_TAP "
+        "DMX_OUT_TS_TAP DMX_OUT_TSDEMUX_TAP KEEP Flag Input Output PesType",
+    "program": "Failed ScriptFault Verdict check run steps",
+    "report": "Again Busy Call Data Done Entry Node NotAReport Outcome Overflow Passed PidCount Ready Refused Reply Report "
+        "TimedOut",
+    "script": "Client Device Script",
+}
+_HOMES = {name: module for module, names in _MODULES.items() for name in names.split()}
+
+__all__ = [
+    "Adapter", "Again", "Busy", "Call", "Client", "Data", "Device", "Done", "Entry", "Failed", "Flag", "Input", "KEEP", "NoAdapter", "Node",
+    "NotAReport", "Outcome", "Output", "Overflow", "Passed", "PesType", "PidCount", "Ready", "Refused", "Reply", "Report", "Script",
+    "ScriptFault", "TimedOut", "Verdict", "check", "run", "serve", "steps", "DMX_CHECK_CRC", "DMX_IMMEDIATE_START", "DMX_IN_DVR",
+    "DMX_IN_FRONTEND", "DMX_ONESHOT", "DMX_OUT_DECODER", "DMX_OUT_TAP", "DMX_OUT_TSDEMUX_TAP", "DMX_OUT_TS_TAP",
+]  # fmt: skip
+
+
+def __getattr__(name: str) -> Any:
+    if name not in _HOMES:
+        raise AttributeError(f"module {__name__!r} has no attribute {name!r}")
+    return getattr(importlib.import_module(f".{_HOMES[name]}", __name__), name)
+
+
+def __dir__() -> list[str]:
+    return sorted({*globals(), *_HOMES})

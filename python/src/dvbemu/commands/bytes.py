@@ -1,0 +1,124 @@
+"""Writes what a node's clients have read, as a file: `dvbemu bytes --help`.
+
+The bytes of all reads of the node stand there in the order of its entries. What isn't among them is told on standard error: what was lost,
+how many bytes, and behind which of those that are written; and each filter, PID or start that was asked for and refused.
+"""
+import re
+import sys
+
+from .. import tool
+from .. import reports
+from ..explain.captures import Filter
+from ..inputs import many
+from ..explain.refusals import refusal
+from ..explain.walk import Walk
+
+# The calls that say what comes.
+ASKING = "section", "pes", "add", "start"
+
+
+def command():
+    """The command and its words."""
+    words = tool.Command(
+        "bytes",
+        "[--node NODE] [-o FILE] [REPORT]",
+        "Writes the bytes that were read from a node, as a file: what a recorder would have on its disk.",
+        reads="a report, from the file REPORT; from standard input without it or for `-`",
+        writes="the bytes, on standard output or into FILE; on standard error what was lost between them, and "
+        "what was asked for and refused",
+        status="0, where bytes were lost too; 1 where a file can't be read or written, REPORT is no report, nobody has read, or "
+        "several nodes were read and none is named; 2 for wrong words",
+        example="dvbemu steps record.script my.ts | dvbemu bytes --node dvr -o recorded.ts",
+    )
+    words.add_argument("--node", metavar="NODE", type=tool.reader(reports.node_of, "n0 to n31 or dvr"), help="which node: n0 to n31, or dvr; "
+                       "without it the one that was read")  # fmt: skip
+    words.add_argument("-o", metavar="FILE", dest="to", help="where the bytes are written, if not to standard output")
+    words.add_argument("report", metavar="REPORT", nargs="?", help="the report")
+    return words
+
+
+def has_data(entry):
+    """Whether a read gave bytes."""
+    return entry.reply.startswith("data ") and entry.reply != "data -"
+
+
+def chosen(words, given, report):
+    """The node whose bytes are asked for."""
+    if given.node is not None:
+        if given.node not in report.nodes:
+            words.fail(f"no client called {reports.node_name(given.node)}")
+        return given.node
+    found = [node for node, entries in sorted(report.nodes.items()) if any(map(has_data, entries))]
+    if not found:
+        for node, entries in sorted(report.nodes.items()):
+            for entry in entries:
+                tell_lost(words, node, entry, 0)
+        words.fail("nobody has read a byte; `dvbemu explain` says more")
+    if len(found) > 1:
+        words.fail(f"{', '.join(map(reports.node_name, found))} were read; --node says which is meant")
+    return found[0]
+
+
+class Asked(Walk):
+    """What clients have asked a node for."""
+
+    def begin_capture(self, entry):
+        """What comes stands in the reads."""
+
+    def set_filter(self, entry, act):
+        self.filter = Filter(act, 0, int(entry.who[1]))
+
+    def refused(self, entries):
+        """The calls that were refused: the place of each, the call, and why."""
+        for entry in entries:
+            if entry.reply.startswith("done "):
+                self.accept(entry, reports.act_of(entry), reports.reply_of(entry))
+            elif entry.reply in reports.REFUSALS and entry.act.split(" ")[0] in ASKING:
+                error, reason = refusal(self, int(entry.who[1]), reports.act_of(entry)) or (entry.reply, "")
+                yield entry.place, re.sub(r" at=\d+", "", entry.act), error + (f": {reason}" if reason else "")
+
+
+def tell_refused(words, report, node):
+    """Tells what was asked for and refused; of the dvr node, what was asked of the nodes whose packets it gets."""
+    tapped = [number for number, entries in report.nodes.items() if any(" output=ts_tap " in entry.act for entry in entries)]
+    for number in tapped if node == reports.DVR else [node]:
+        for place, act, error in Asked(number).refused(report.nodes[number]):
+            print(f"{words.prog}: {reports.node_name(number)}: refused, and not among these bytes: {act} (place {place}: {error})",
+                  file=sys.stderr)  # fmt: skip
+
+
+def tell_lost(words, node, entry, written):
+    """Tells of an overflow, behind so many bytes that are written."""
+    if entry.reply.startswith("overflow "):
+        first, after = reports.span(entry.reply.split(" ")[1])
+        lost = many(after - first, "byte is", "bytes are")
+        print(f"{words.prog}: {reports.node_name(node)}: {lost} lost behind byte {written:,} (place {entry.place}: {entry.reply})",
+              file=sys.stderr)  # fmt: skip
+
+
+def copy(words, node, entries, out):
+    """Writes the bytes of a node's reads, and tells what was lost."""
+    written = 0
+    for entry in entries:
+        tell_lost(words, node, entry, written)
+        if has_data(entry):
+            data = bytes.fromhex(entry.reply[5:])
+            out.write(data)
+            written += len(data)
+
+
+def main():
+    """Writes the bytes."""
+    words = command()
+    given = words.parse_args()
+    try:
+        report = reports.read(reports.text_of(words.opened(given.report)))
+    except (reports.NotAReport, OSError) as wrong:
+        words.fail_on(given.report, wrong)
+    node = chosen(words, given, report)
+    tell_refused(words, report, node)
+    try:
+        with open(given.to, "wb") if given.to else sys.stdout.buffer as out:
+            copy(words, node, report.nodes[node], out)
+    except OSError as wrong:
+        words.fail_on(given.to or "standard output", wrong)

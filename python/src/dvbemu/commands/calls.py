@@ -1,0 +1,255 @@
+"""Runs a program and writes its calls on demux and dvr devices as lines of a script: `dvbemu calls --help`.
+
+All calls are those of client c0; each demux device that is opened is a slot. Calls of threads and of processes that the program
+starts are written too, in the order in which they are made. Structures are read from the stopped program's memory (x86-64 Linux)
+and written as they are, as lines `ioctl`; --plain writes the commands that these stand for. A call that no command spells stands
+behind `#`. The script ends with the line `stream`, behind which a stream may be put; `feed`
+and `tick` are for the user to write. epoll, descriptors that are sent through sockets and programs of 32 bits aren't followed.
+--demux PATH and --dvr PATH name other files that are taken for the devices. The exit status is the program's.
+"""
+import argparse
+import os
+import re
+import signal
+import struct
+import sys
+
+from .. import tool
+from ..inputs import many
+from ..traced import Traced, bytes_at, path_of, waits
+
+READ, WRITE, OPEN, CLOSE, POLL, IOCTL, SELECT, DUP, DUP2, CLONE, FCNTL = 0, 1, 2, 3, 7, 16, 23, 32, 33, 56, 72
+OPENAT, PSELECT, PPOLL, DUP3, CLONE3, CLOSE_RANGE, OPENAT2 = 257, 270, 271, 292, 435, 436, 437
+CLONE_FILES, CLOSE_RANGE_CLOEXEC = 0x400, 4
+DUPLICATES = 0, 1030  # F_DUPFD, F_DUPFD_CLOEXEC
+INPUTS, OUTPUTS = ("frontend", "dvr"), ("decoder", "tap", "ts_tap", "tsdemux_tap")
+SLOTS, LARGEST_READ, LARGEST_WRITE = 32, 65536, 12032
+
+
+def section(target, pid, filters, masks, modes, timeout, flags):
+    """The command of a section filter, with the places that aren't 0."""
+    places = [f"{i}={f:02x}/{m:02x}/{d:02x}" for i, (f, m, d) in enumerate(zip(filters, masks, modes)) if f or m or d]
+    return " ".join(["section", target, str(pid), str(timeout), str(flags), *places])
+
+
+def pes(target, pid, source, output, kind, flags):
+    """The command of a PES filter; None where input or output has no name."""
+    if source >= len(INPUTS) or output >= len(OUTPUTS):
+        return None
+    return f"pes {target} {pid} {INPUTS[source]} {OUTPUTS[output]} {kind} {flags}"
+
+
+# The requests with a structure: its form, and the command. The others are below.
+REQUESTS = {
+    0x403C6F2B: ("<H16s16s16s2xII", section),
+    0x40146F2C: ("<H2x4I", pes),
+    0x40026F33: ("<H", lambda target, pid: f"add {target} {pid}"),
+    0x40026F34: ("<H", lambda target, pid: f"remove {target} {pid}"),
+    0xC0106F32: ("<4s12x", lambda target, counter: f"ioctl {target} c0106f32 {counter.hex()}{'00' * 12}"),
+}
+
+
+def argument_of(thread, number, word):
+    """The bytes that a request has as its argument, read from the stopped program's memory; the size of a buffer is the word itself."""
+    if number == 0x6F2D:
+        return (word & 0xFFFFFFFF).to_bytes(4, "little")
+    return bytes_at(thread, word, struct.calcsize(REQUESTS[number][0])) if number in REQUESTS else b""
+
+
+def command_of(target, number, argument):
+    """The plain command of a request with this argument; None where there is none."""
+    if number == 0x6F2D:
+        return f"size {target} {int.from_bytes(argument, 'little')}"
+    if number in (0x6F29, 0x6F2A):
+        return f"{'start' if number == 0x6F29 else 'stop'} {target}"
+    form, command = REQUESTS.get(number, ("", None))
+    return command(target, *struct.unpack(form, argument)) if command and len(argument) == struct.calcsize(form) else None
+
+
+class Handle:
+    """A device that is open. Several descriptors may name it."""
+
+    def __init__(self, target):
+        self.target = target
+
+
+class Script:
+    """The descriptors of each thread that name devices, and the lines so far."""
+
+    def __init__(self, first, out, demux, dvr, plain):
+        self.out, self.demux, self.dvr, self.plain = out, demux, dvr, plain
+        # A table of descriptors a thread; threads of a process share one. What each thread asks for meanwhile.
+        self.tables, self.asked = {first: {}}, {}
+
+    def line(self, text):
+        self.out.write(text + "\n")
+
+    def open_targets(self):
+        """The targets of the devices that are open."""
+        return {handle.target for table in self.tables.values() for handle in table.values()}
+
+    def slot(self):
+        """The first slot that no open device has."""
+        used = self.open_targets()
+        return next((f"h{i}" for i in range(SLOTS) if f"h{i}" not in used), None)
+
+    def opened(self, thread, descriptor):
+        """A file was opened: a device gets a line."""
+        path = path_of(thread, descriptor) or ""
+        target = self.slot() if self.demux.fullmatch(path) else "dvr" if self.dvr.fullmatch(path) else ""
+        if target is None:
+            self.line("# a demux device more than there are slots")
+        elif target:
+            # (the dvr device may be open twice, to be read and to be written to; it is one node)
+            self.line("# the dvr device once more" if target in self.open_targets() else f"c0 open {target}")
+            self.tables[thread][descriptor] = Handle(target)
+
+    def closed(self, table, descriptor):
+        """A descriptor was closed: the last one of a device closes it."""
+        handle = table.pop(descriptor, None)
+        if handle and handle.target not in self.open_targets():
+            self.line(f"c0 close {handle.target}")
+
+    def copied(self, table, old, new):
+        """A descriptor names what another names."""
+        if old != new:
+            self.closed(table, new)
+        if old in table:
+            table[new] = table[old]
+
+    def polled(self, thread, call, words):
+        """The descriptors that a call asks after."""
+        if call in (POLL, PPOLL):
+            rows = bytes_at(thread, words[0], 8 * min(words[1], 1024))
+            return [descriptor for descriptor, _, _ in struct.iter_unpack("<ihh", rows[: len(rows) // 8 * 8])]
+        bits = [bytes_at(thread, place, (words[0] + 7) // 8) for place in words[1:4] if place]
+        return [i for i in range(min(words[0], 1024)) if any(row[i // 8] >> i % 8 & 1 for row in bits if i // 8 < len(row))]
+
+    def read(self, thread, target, descriptor, count):
+        """A read: that of a client that waits, unless the device is open without waiting."""
+        if count > LARGEST_READ:
+            self.line(f"# a read of {count} bytes; one asks for {LARGEST_READ} at most")
+        verb = "readw" if waits(thread, descriptor) else "read"
+        self.line(f"c0 {verb} {target} {min(count, LARGEST_READ)}")
+
+    def written(self, thread, target, place, count):
+        """A write to the dvr device, in lines of as many bytes as one takes."""
+        if target != "dvr":
+            self.line(f"# a write of {many(count, 'byte')} to {target}; a client writes to dvr alone")
+            return
+        for first in range(0, count, LARGEST_WRITE):
+            piece = bytes_at(thread, place + first, min(LARGEST_WRITE, count - first))
+            if not piece:
+                self.line(f"# a write of {many(count, 'byte')}, of which the program has {first}")
+                return
+            self.line(f"c0 write dvr {piece.hex()}")
+
+    def requested(self, target, number, argument):
+        """A request: its number and its bytes, or the plain command."""
+        command, spelled = command_of(target, number, argument), f"ioctl {target} {number:08x}"
+        if command is None:
+            self.line(f"# c0 {spelled}: no command of a script")
+        else:
+            self.line(f"c0 {command}" if self.plain else f"c0 {spelled} {argument.hex() or '-'}")
+
+    def enters(self, thread, call, *words):
+        """A system call begins."""
+        self.asked[thread] = (call, words)
+        table, descriptor = self.tables[thread], words[0] & 0xFFFFFFFF
+        if call == IOCTL and descriptor in table:
+            number = words[1] & 0xFFFFFFFF
+            self.requested(table[descriptor].target, number, argument_of(thread, number, words[2]))
+        elif call == READ and descriptor in table:
+            self.read(thread, table[descriptor].target, descriptor, words[2])
+        elif call == WRITE and descriptor in table:
+            self.written(thread, table[descriptor].target, words[1], words[2])
+        elif call in (POLL, PPOLL, SELECT, PSELECT):
+            for polled in self.polled(thread, call, words):
+                if polled in table:
+                    self.line(f"c0 poll {table[polled].target}")
+        elif call == CLOSE:
+            self.closed(table, descriptor)
+        elif call == CLOSE_RANGE and not words[2] & CLOSE_RANGE_CLOEXEC:
+            for descriptor in [known for known in table if words[0] <= known <= words[1]]:
+                self.closed(table, descriptor)
+
+    def leaves(self, thread, result):
+        """A system call has its result."""
+        call, words = self.asked.pop(thread, (None, ()))
+        if result < 0:
+            return
+        if call in (OPEN, OPENAT, OPENAT2):
+            self.opened(thread, result)
+        elif call in (DUP, DUP2, DUP3) or call == FCNTL and words[1] in DUPLICATES:
+            self.copied(self.tables[thread], words[0], result)
+
+    def born(self, maker, thread):
+        """A thread shares the table of its maker, a process has a copy."""
+        call, words = self.asked.get(maker, (None, ()))
+        flags = words[0] if call == CLONE else int.from_bytes(bytes_at(maker, words[0], 8), "little") if call == CLONE3 else 0
+        table = self.tables[maker]
+        self.tables[thread] = table if flags & CLONE_FILES else dict(table)
+
+    def began(self, thread, former):
+        """A process runs another program: what was to be closed then is closed."""
+        table = dict(self.tables.pop(former))
+        self.tables[thread] = table
+        for descriptor in [known for known in table if path_of(thread, known) is None]:
+            self.closed(table, descriptor)
+
+    def ended(self, thread):
+        """The last thread that shares a table closes its descriptors."""
+        table = self.tables.pop(thread, {})
+        if not any(other is table for other in self.tables.values()):
+            for descriptor in list(table):
+                self.closed(table, descriptor)
+
+
+def command():
+    """The command and its words."""
+    told = tool.Command(
+        "calls",
+        "[--plain] [--to FILE] [--demux PATH] [--dvr PATH] PROGRAM ARGUMENT ..",
+        "Runs a program on an adapter and writes its calls on demux and dvr devices as a script (x86-64 Linux).",
+        reads="the program's calls; its standard input is the program's",
+        writes="the script, which ends with the line `stream`, into FILE or on standard output",
+        status="that of the program, 128 and the signal's number where one ended it; 127 where there is no such program; 1 where FILE "
+        "can't be written; 2 for wrong words",
+        example="dvbemu calls --to my.script my-receiver ..; dvbemu steps my.script my.ts",
+    )
+    told.add_argument("--to", metavar="FILE", help="where the script is written, if not to standard output")
+    told.add_argument("--demux", metavar="PATH", type=re.escape, default=r"/dev/dvb/adapter\d+/demux\d+",
+                      help="another file that is taken for the demux device")  # fmt: skip
+    told.add_argument("--dvr", metavar="PATH", type=re.escape, default=r"/dev/dvb/adapter\d+/dvr\d+",
+                      help="another file that is taken for the dvr device")  # fmt: skip
+    told.add_argument("--plain", action="store_true", help="plain commands in place of request numbers and bytes")
+    told.add_argument("program", metavar="PROGRAM", nargs=argparse.REMAINDER, help="the program and its arguments")
+    return told
+
+
+def main():
+    told = command()
+    words = told.parse_args()
+    words.program = words.program[words.program[:1] == ["--"] :]
+    if not words.program:
+        told.error("PROGRAM is missing")
+    if words.program[0].startswith("-"):
+        told.error(f"unrecognized arguments: {words.program[0]}")
+    # (Ctrl-C is for the program: what it has called until it ends is written)
+    signal.signal(signal.SIGINT, lambda *_: None)
+    try:
+        out = open(words.to, "w", encoding="ascii") if words.to else sys.stdout
+    except OSError as fault:
+        told.fail_on(words.to, fault)
+    program = Traced(words.program)
+    try:
+        with out:
+            script = Script(program.first, out, re.compile(words.demux), re.compile(words.dvr), words.plain)
+            for event in program.events():
+                getattr(script, event.kind)(event.thread, *event.words)
+            script.line("stream")
+    except OSError as fault:
+        # (what ptrace refuses says so itself)
+        told.fail(fault.strerror if fault.strerror.startswith("ptrace") else f"{words.to}: {fault.strerror}")
+    code = os.waitstatus_to_exitcode(program.status)
+    return code if code >= 0 else 128 - code

@@ -1,0 +1,53 @@
+"""Tells a report of `dvbemu steps` or `dvbemu run` in plain sentences: `dvbemu explain --help`.
+
+With --node only what concerns that node is told, and with --client only what that client did. A text that is no report is told on
+standard error with its line; the status is then 1.
+"""
+import gc
+import sys
+
+from .. import progress
+from .. import reports
+from .. import tool
+from ..explain.told import Part, page
+
+
+def command():
+    """The command and its words."""
+    words = tool.Command(
+        "explain",
+        "[--node NODE] [--client CLIENT] [REPORT]",
+        "Tells a report in sentences: what each client asked, got, lost and was refused, with hints.",
+        reads="a report, as `steps`, `run` and `serve` write it, from the file REPORT; from standard input without it or for `-`",
+        writes="text",
+        status="0; 1 where REPORT can't be read or is no report; 2 for wrong words",
+        example="dvbemu steps my.script my.ts | dvbemu explain --node n0",
+    )
+    words.add_argument("--node", metavar="NODE", type=tool.reader(reports.node_of, "n0 to n31 or dvr"), help="only what concerns this node: n0 to n31, or dvr")
+    words.add_argument("--client", metavar="CLIENT", type=tool.reader(client_of, "c0 to c7"), help="only what this client did: c0 to c7")
+    words.add_argument("report", metavar="REPORT", nargs="?", help="the report")
+    return words
+
+
+def client_of(word):
+    """The client that a word of the command line names."""
+    return reports.number(word.removeprefix("c"), reports.CLIENTS - 1)
+
+
+def main():
+    """Tells the named report, or the one on standard input."""
+    gc.disable()  # what is made of a report stays until the end
+    words = command()
+    given = words.parse_args()
+    part = Part(given.node, given.client)
+    try:
+        report = reports.read(reports.text_of(progress.reading(words, given.report, "telling")))
+        if part.node is not None and part.node not in report.nodes:
+            words.fail(f"no client called {reports.node_name(part.node)}")
+        if part.client is not None and part.client >= len(report.clients):
+            words.fail(f"the report has no client {part.client}")
+        text = page(report, part)
+    except (reports.NotAReport, OSError) as wrong:
+        words.fail_on(given.report, wrong)
+    progress.clear()
+    sys.stdout.write(text)

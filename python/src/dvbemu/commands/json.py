@@ -1,0 +1,55 @@
+"""Writes a report as JSON Lines, and JSON Lines as a report: `dvbemu json --help`. The form of both is that of docs/JSON.md.
+
+Nothing is lost on the way: what --back writes is the report byte for byte. A text that is no report, or that --back would make none of,
+is told with its line, and the status is 1.
+"""
+import gc
+import io
+import sys
+
+from .. import objects
+from .. import progress
+from .. import reports
+from .. import tool
+
+
+def command():
+    """The command and its words."""
+    words = tool.Command(
+        "json",
+        "[--back] [REPORT]",
+        "Writes a report as JSON Lines: an object for each row of the stream, each command of a client and each entry of a node.",
+        reads="a report, from the file REPORT; from standard input without it or for `-`. With --back what json has written",
+        writes="JSON Lines in the form of docs/JSON.md, whose schema is docs/report.schema.json; with --back a report",
+        status="0; 1 where REPORT can't be read, or isn't what it should be; 2 for wrong words",
+        example="dvbemu json my.report | jq 'select(.reply.name == \"overflow\")'",
+    )
+    words.add_argument("--back", action="store_true", help="writes the report that JSON Lines are")
+    words.add_argument("report", metavar="REPORT", nargs="?", help="the report, or the JSON Lines")
+    return words
+
+
+def report_text(file):
+    """The report that JSON Lines are. Raises NotAReport where it would be none."""
+    text = "".join(line + "\n" for line in objects.back(reports.text_of(file)))
+    reports.read(io.StringIO(text))
+    return text
+
+
+def lines_of(report):
+    """The JSON Lines that a report is."""
+    return (text + "\n" for text in objects.texts_of(report))
+
+
+def main():
+    """Writes the one as the other."""
+    gc.disable()  # what is made of a report stays until the end
+    words = command()
+    given = words.parse_args()
+    try:
+        with progress.reading(words, given.report, "writing") as file:
+            texts = [report_text(file)] if given.back else lines_of(reports.read(reports.text_of(file)))
+    except (reports.NotAReport, objects.NoObjects, OSError) as wrong:
+        words.fail_on(given.report, wrong)
+    progress.clear()
+    sys.stdout.writelines(texts)

@@ -1,0 +1,76 @@
+"""Writes a transport stream at the pace of its program clock, or a number of times as fast: `dvbemu pace --help`.
+
+The clock is that of the PCRs of one PID: of the first PID that has one, or of P.
+Between two PCRs the bytes come evenly; what stands before the first comes at once. Where the clock makes a leap, by more than ten
+seconds or as the stream says itself, the pace before goes on. So a program that reads this meets the packets as a receiver would:
+
+    dvbemu pace my.ts | dvbemu run my.script -
+
+A stream with fewer than two PCRs is told on standard error, nothing is written, and the status is 1.
+"""
+import sys
+import time
+
+from .. import clock
+from .. import tool
+
+CHUNK, LEAST_WAIT = 65536, 0.001
+
+
+def rate(word):
+    """A number above 0."""
+    number = float(word)
+    if not 0 < number < float("inf"):
+        raise ValueError
+    return number
+
+
+def command():
+    """The command and its words."""
+    words = tool.Command(
+        "pace",
+        "[--rate R] [--pid P] [STREAM]",
+        "Writes a stream at the pace of its program clock (PCR), so that `run` meets it as a receiver would.",
+        reads="a transport stream, from the file STREAM; from standard input without it or for `-`",
+        writes="the same bytes, each when it is due",
+        status="0; 1 where STREAM can't be read or has fewer than two PCRs; 2 for wrong words",
+        example="dvbemu pace --rate 2 my.ts | dvbemu run my.script -",
+    )
+    words.add_argument("--rate", type=tool.reader(rate, "a number above 0"), default=1.0, metavar="R", help="so many times as fast; a number above 0")
+    words.add_argument("--pid", type=tool.number(0, 8191), metavar="P", help="the PID whose PCRs are the clock")
+    words.add_argument("stream", metavar="STREAM", nargs="?", help="a transport stream")
+    return words
+
+
+def chunks_of(file):
+    """What a file gives, as it comes."""
+    while chunk := file.read1(CHUNK):
+        yield chunk
+
+
+def write(pieces, times, out):
+    """Writes each piece when it is due, and none before."""
+    begin = None
+    for at, piece in pieces:
+        now = time.monotonic()
+        begin = now if begin is None else begin
+        early = begin + at / times - now
+        if early > 0:
+            out.flush()
+            time.sleep(max(early, LEAST_WAIT))
+        out.write(piece)
+    out.flush()
+
+
+def main():
+    """Writes the named stream, or that on standard input."""
+    words = command()
+    given = words.parse_args()
+    try:
+        with words.opened(given.stream) as file:
+            write(clock.timed(chunks_of(file), given.pid), given.rate, sys.stdout.buffer)
+    except clock.NoClock:
+        of = "" if given.pid is None else f" on PID {given.pid}"
+        words.fail_on(given.stream, f"fewer than two PCRs{of}, so there is no clock to go by")
+    except OSError as wrong:
+        words.fail_on(given.stream, wrong)

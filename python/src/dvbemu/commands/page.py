@@ -1,0 +1,42 @@
+"""Writes a report as a page of HTML that a browser shows without a network: `dvbemu page --help`. What is far away is summed, and the page
+says so. Not proved."""
+import gc
+import os
+import sys
+
+from .. import progress
+from .. import reports
+from .. import tool
+from ..picture.sheet import page
+
+
+def command():
+    """The command and its words."""
+    words = tool.Command(
+        "page",
+        "[--title TEXT] [REPORT]",
+        "Writes a report as a page for a browser: its sentences, its picture in strips that fit the window, and its commands.",
+        reads="a report, from the file REPORT; from standard input without it or for `-`",
+        writes="one file of HTML, which asks for no other and for no network",
+        status="0; 1 where REPORT can't be read or is no report; 2 for wrong words",
+        example="dvbemu page my.report > my.html",
+    )
+    words.add_argument("--title", metavar="TEXT", help="the page's title; without it the report's name")
+    words.add_argument("report", metavar="REPORT", nargs="?", help="the report")
+    return words
+
+
+def main():
+    """Writes the page of the named report, or of the one on standard input."""
+    gc.disable()  # what is made of a report stays until the end
+    words = command()
+    given = words.parse_args()
+    name = given.report if given.report != "-" else None
+    title = given.title or (os.path.basename(name).removesuffix(".report") if name else "a report of dvbemu")
+    try:
+        text = page(reports.read(reports.text_of(progress.reading(words, name, "making the page"))), title)
+    except (reports.NotAReport, OSError) as wrong:
+        words.fail_on(name, wrong)
+    progress.clear()
+    sys.stdout.reconfigure(encoding="utf-8", newline="\n")
+    sys.stdout.write(text)

@@ -1,0 +1,44 @@
+"""Draws a report of `dvbemu steps` or `dvbemu run`: `dvbemu picture --help`.
+
+The report is the only input. A text that is no report is told on standard error with its line, and the status is 1. Not proved; the
+form of a report is that of docs/BEHAVIOUR.md.
+"""
+import os
+import sys
+
+from .. import progress
+from .. import reports
+from .. import tool
+from ..picture.drawing import picture
+
+
+def command():
+    """The command and its words."""
+    words = tool.Command(
+        "picture",
+        "[--title TEXT] [REPORT]",
+        "Draws a report: who called which node when, and what each filter's buffer held, gave and lost.",
+        reads="a report, from the file REPORT; from standard input without it or for `-`",
+        writes="an SVG",
+        status="0; 1 where REPORT can't be read or is no report; 2 for wrong words",
+        example="dvbemu picture my.report > my.svg",
+    )
+    words.add_argument("--title", metavar="TEXT", help="the picture's title; without it the report's name")
+    words.add_argument("report", metavar="REPORT", nargs="?", help="the report")
+    return words
+
+
+def main():
+    """Draws the named report, or the one on standard input."""
+    words = command()
+    given = words.parse_args()
+    name = given.report if given.report != "-" else None
+    try:
+        report = reports.read(reports.text_of(progress.reading(words, name, "drawing")))
+    except (reports.NotAReport, OSError) as wrong:
+        words.fail_on(name, wrong)
+    title = given.title or (os.path.basename(name).removesuffix(".report") if name else "a report of dvbemu")
+    text = picture(report, title)
+    progress.clear()
+    sys.stdout.reconfigure(encoding="utf-8", newline="\n")
+    sys.stdout.write(text)

@@ -1,0 +1,297 @@
+"""`dvbemu serve`: runs a command whose DVB programs find an emulated adapter that a recording feeds, and writes the report of all their
+calls. Its --help tells of the words.
+
+The server is dvb_serve, which the first call proves and builds (tools/build); the preload, preload/*.c, is built at the first call by cc.
+"""
+import contextlib
+import os
+import shutil
+import signal
+import stat
+import sys
+
+
+from .. import tool
+from ..server.adapters import Adapter, Folder, adopt
+from ..server.building import Stopped, build_preload, built_server
+from ..server.channels import LINE, SATELLITE, SYSTEMS, channels_of, lines_in
+from ..server.commands import Interrupted, Signals, end_all_but, run_command, unseen_as
+from ..server.recording import PACKET, Unplayable
+
+# A stream passes by batches of 64 packets: with fewer packets a second than this a program waits too long for some tables. And the most
+# packets a second, and the most adapters.
+SLOW, FASTEST, MOST_ADAPTERS = 640, 10_000_000, 8
+# The report that no word names, and how one begins.
+REPORT, BEGINS = "dvbemu.report", b"dvbemu 1\n"
+CHANNEL = "HZ[:SYSTEM][:POL]=STREAM"
+EARTHLY = ", ".join(name for name, number in SYSTEMS.items() if number not in SATELLITE)
+ABOUT = """\
+Runs COMMAND, which finds /dev/dvb/adapter0, as all programs that it starts, and writes a report of their calls.
+
+The recording plays in a loop, at the pace of its program clock (PCR by PCR), also where no program tunes, and is at each frequency. With
+--tune, or --channels, a recording is at its frequency alone: it plays from its beginning, behind a lock that comes after a moment; elsewhere
+there is no lock. All programs of an adapter share its frontend, which is a stand-in.
+
+When COMMAND has ended, by Ctrl-C and SIGTERM too, what it has left running is ended, then the stream ends, and the report is written. Its
+calls are in memory until then: minutes, not days. With --keep none memory doesn't grow, nor with --keep FOLDER."""
+READS = "STREAM, a recording of packets of 188, 192 or 204 bytes, in a file; or a pipe or `-`, standard input, which is played as it comes"
+WRITES = "the report, into the file of --report, or dvbemu.report here; FILE.tunings beside it says at which packet each tuning stands. Of " \
+    "several adapters the files have .0, .1 and so on behind their names"
+STATUS = "that of COMMAND, 128 and the number of the signal where one has ended it, or 127 where it isn't there; 1 where a file can't be " \
+    "read or is no stream, or there is no report; 2 for wrong words"
+
+
+def rate(most):
+    """A reader of a rate above 0."""
+
+    def read(word):
+        number = float(word)
+        if not 0 < number <= most:
+            raise ValueError
+        return number
+
+    return tool.reader(read, f"a number above 0, and at most {most},")
+
+
+def channel(word):
+    """A word HZ[:SYSTEM][:POL]=STREAM."""
+    if not LINE.fullmatch(word):
+        raise ValueError
+    return word
+
+
+class Serve(tool.Command):
+    """The command. Where no word is `--`, a wrong word may be one of COMMAND."""
+
+    has_command = True
+    others = "; 70 for a fault of `serve` itself"
+
+    def message(self, text):
+        return super().message(text) + ("" if self.has_command else "; -- stands in front of COMMAND")
+
+
+def known_words():
+    """The command and its words: those in front of `--`."""
+    words = Serve("serve", "[OPTION ..] [STREAM] -- COMMAND [WORD ..]", ABOUT, reads=READS, writes=WRITES, status=STATUS,
+                  example="dvbemu serve --packets 3000 --report r my.ts -- dvbv5-scan -o channels dvbv5.conf")  # fmt: skip
+    pace = words.add_mutually_exclusive_group()
+    pace.add_argument("--packets", type=rate(FASTEST), metavar="N", help="so many packets a second, whatever the clock says")
+    pace.add_argument("--rate", type=rate(FASTEST * PACKET * 8), metavar="N", help="so many bits a second")
+    words.add_argument("--once", action="store_true", help="the stream is played once")
+    words.add_argument("--seats", type=tool.number(1, 8), default=8, metavar="N", help="how many programs at the same time: 1 to 8; without it, 8")
+    words.add_argument("--report", metavar="FILE", help="where the report goes; - is standard output; without it, dvbemu.report")
+    words.add_argument("--keep", default="all", metavar="all|none|FOLDER", help="what is kept of the calls: all in memory; nothing, and there "
+                       "is no report; or a line each, as they come, in a new or empty folder, of which `dvbemu merge` makes it")  # fmt: skip
+    words.add_argument("--tune", action="append", nargs="+", default=[], metavar=CHANNEL, type=tool.reader(channel, CHANNEL),
+                       help=f"a recording at a frequency: in Hz, 2 MHz near, for a delivery system ({EARTHLY}; DVBS and "
+                       "DVBS2, with kHz and H, V, L or R); a number below 100,000 is MHz")  # fmt: skip
+    words.add_argument("--channels", metavar="FILE", help="a file of such lines")
+    words.add_argument("--live", action="store_true", help="a recording goes on while another is watched")
+    words.add_argument("--adapter", action="append", default=[], metavar="STREAM|CHANNELS", help="one adapter more: adapter0, adapter1 and so on")
+    words.add_argument("--played", metavar="FILE", help="keeps the packets as they were played")
+    words.add_argument("stream", nargs="?", metavar="STREAM", help="a transport stream; `-` is standard input")
+    return words
+
+
+def adapters_in(options):
+    """Of each adapter the words of its channels, the file of such words, and the stream that is everywhere."""
+    first = [(options.tune, options.channels, options.stream)] if options.tune or options.channels or options.stream is not None else []
+    return first + [([], word, None) if lines_in(word) else ([], None, word) for word in options.adapter]
+
+
+def asked(words, known):
+    """The words in front of `--`, and the command behind it."""
+    known.has_command = "--" in words
+    at = words.index("--") if known.has_command else len(words)
+    options, command = known.parse_args(words[:at]), words[at + 1:]
+    options.tune = [word for some in options.tune for word in some]
+    if options.rate is not None:
+        options.packets = options.rate / 8 / PACKET
+    missing = [name for name, there in (("STREAM", adapters_in(options)), ("COMMAND", command)) if not there]
+    if missing:
+        known.error(f"the following arguments are required: {', '.join(missing)}")
+    if options.keep != "all" and options.report:
+        known.error(f"--report: with --keep {options.keep} no report is written")
+    if len(adapters_in(options)) > MOST_ADAPTERS:
+        known.error(f"--adapter: there are {MOST_ADAPTERS} adapters at most")
+    see_command(command[0], known)
+    return options, command
+
+
+def see_command(name, known):
+    """Ends where the command isn't there, and says so where it won't see the adapter."""
+    path = name if os.sep in name else shutil.which(name)
+    if path is None or not os.path.exists(path):
+        quoted = "; is the command quoted as one word?" if len(name.split()) > 1 else ""
+        known.exit(127, f"{known.teller}: {name}: No such file or directory{quoted}\n")
+    if os.path.isfile(path) and (why := unseen_as(path)):
+        print(f"{known.teller}: {name} {why}: it will not see the emulated adapter", file=sys.stderr)
+
+
+def air_of(options):
+    """The channels of each adapter."""
+    return [channels_of(*words, options.packets) for words in adapters_in(options)]
+
+
+def tell_paces(channels):
+    """Says what was seen of the recordings, and where their packets are few what comes of that."""
+    for recording in [channel.recording for channel in channels]:
+        for line in recording.told:
+            print(f"dvbemu serve: {line}", file=sys.stderr)
+        if not recording.is_pipe and (rate := recording.speed()) < SLOW:
+            print(f"dvbemu serve: {recording.path}: {rate:.0f} packets a second, of which 64 pass at a time: a program may give up before a "
+                  "table comes; --packets 3000 plays the stream faster", file=sys.stderr)
+
+
+def named(path, number, count):
+    """The file of an adapter, where there are several."""
+    return path if path is None or count == 1 else f"{path}.{number}"
+
+
+class Outs:
+    """What is written of an adapter: the files of its report (None is standard output), of what is played and of when programs
+    tune, or None; and what is kept of its calls."""
+
+    def __init__(self, report, played, tunings, keep):
+        self.report, self.played, self.tunings, self.keep = report, played, tunings, keep
+
+    def empty(self):
+        """Empties its files, which are made anew; a device and a pipe have nothing to lose."""
+        for file in filter(None, (self.report, self.played, self.tunings)):
+            if stat.S_ISREG(os.fstat(file.fileno()).st_mode):
+                file.truncate(0)
+
+
+def not_written(options, air):
+    """What nothing is written over: each file, and what it is."""
+    recordings = [(os.fstat(one.recording.file), "the recording") for channels in air for one in channels]
+    return recordings + [(os.stat(file), "the file of channels") for _, file, _ in adapters_in(options) if file is not None]
+
+
+def made(path, option, others, opened):
+    """Opens a file to be written, which is none of these others, and from now on one of them. A device or a pipe may be."""
+    file = opened.enter_context(open(path, "ab"))
+    there = os.fstat(file.fileno())
+    for other, what in others:
+        if stat.S_ISREG(there.st_mode) and os.path.samestat(there, other):
+            raise Stopped(f"{path} is {what}: give {option} another name")
+    others.append((there, "written already"))
+    return file
+
+
+def report_of(options):
+    """Where the report goes; None where there is none, or on standard output. Where no word says so an older report is written over, and
+    nothing else."""
+    if options.keep != "all" or options.report == "-":
+        return None
+    return options.report or REPORT
+
+
+def see_old(path):
+    """Sees that a file which no word names may be written: what is there is a report."""
+    try:
+        is_report = stat.S_ISREG(os.stat(path).st_mode)
+        with open(path, "rb") if is_report else contextlib.nullcontext() as file:
+            is_report = is_report and file.read(len(BEGINS)) in (b"", BEGINS)
+    except FileNotFoundError:
+        is_report = True
+    if not is_report:
+        raise Stopped(f"{path} is no report, and isn't written over: --report FILE names another file")
+
+
+def keep_of(options, number, count):
+    """What is kept of an adapter's calls: where a folder is, it is made, and has to be empty."""
+    if options.keep in ("all", "none"):
+        return options.keep
+    path = os.path.abspath(options.keep if count == 1 else os.path.join(options.keep, str(number)))
+    os.makedirs(path, exist_ok=True)
+    if os.listdir(path):
+        raise Stopped(f"{path} isn't empty")
+    return path
+
+
+def outs_of(options, air, opened):
+    """What is written of each adapter. It is opened before anything is built, and emptied behind that."""
+    if options.report == "-" and len(air) > 1:
+        raise Stopped("of several adapters the reports need --report FILE")
+    others, outs, count = not_written(options, air), [], len(air)
+    for number, channels in enumerate(air):
+        keep = keep_of(options, number, count)
+        report, played = (named(path, number, count) for path in (report_of(options), options.played))
+        if report and not options.report:
+            see_old(report)
+        tunings = f"{report}.tunings" if report and any(channel.frequency is not None for channel in channels) else None
+        files = [made(path, option, others, opened) if path else None
+                 for path, option in ((report, "--report"), (played, "--played"), (tunings, "--report"))]  # fmt: skip
+        outs.append(Outs(*files, keep))
+    return outs
+
+
+def tell_end(options, count, adapters, status):
+    """Says where the report is, where no word has, and of a command that no signal has ended that nobody has opened an adapter."""
+    if status < 128 and not any(adapter.was_opened() for adapter in adapters):
+        print("dvbemu serve: no program opened the adapter; one that is linked statically, made by Go, setuid or of 32 bits doesn't see it",
+              file=sys.stderr)  # fmt: skip
+    last = f".0 to .{count - 1}" if count > 1 else ""
+    if options.keep not in ("all", "none"):
+        print(f"dvbemu serve: `dvbemu merge {options.keep}{'/N' if count > 1 else ''}` writes the report", file=sys.stderr)
+    elif options.keep == "all" and not options.report:
+        print(f"dvbemu serve: the report is {REPORT}{last}; `dvbemu explain {REPORT}{last[:2]}` tells it", file=sys.stderr)
+
+
+def serve(options, command, air, folder, outs, server):
+    """Runs the command beside the servers, and says how it ended."""
+    signals, adapters = Signals(), []
+    adopt()
+    for out in outs:
+        out.empty()
+    try:
+        for place, channels, out in zip(folder.adapters, air, outs):
+            adapters.append(Adapter(server, place, channels, options, out))
+        for adapter in adapters:
+            adapter.feeder.on_fault = lambda: signals.command and signals.command.terminate()
+            adapter.start()
+        status = run_command(command, folder, signals)
+        end_all_but({adapter.server.pid for adapter in adapters}, folder)
+        for adapter in adapters:
+            adapter.end()
+    except BaseException:
+        for adapter in adapters:
+            adapter.kill()
+        end_all_but(set(), folder)
+        raise
+    tell_end(options, len(air), adapters, status)
+    return status
+
+
+def main():
+    """Does what the words ask for. The server and what feeds it are told of a program that has gone by a write that fails."""
+    for end in range(3):
+        # (where one is closed nothing else comes in its place in what is started either)
+        os.set_inheritable(end, True)
+    known = known_words()
+    options, command = asked(sys.argv[1:], known)
+    signal.signal(signal.SIGPIPE, signal.SIG_IGN)
+    folder = None
+    try:
+        with contextlib.ExitStack() as opened:
+            air = air_of(options)
+            if any(one.recording.path == "-" for channels in air for one in channels):
+                known.tell_waiting()
+            outs = outs_of(options, air, opened)
+            for channels in air:
+                tell_paces(channels)
+            build_preload()
+            server = built_server()
+            folder = Folder(len(air))
+            return serve(options, command, air, folder, outs, server)
+    except Interrupted as fault:
+        known.exit(fault.status, f"{known.teller}: {fault}\n")
+    except OSError as fault:
+        other = "; --report FILE names another file" if not options.report and str(fault.filename).startswith(REPORT) else ""
+        known.fail(": ".join(filter(None, [fault.filename, fault.strerror or str(fault)])) + other)
+    except (Stopped, Unplayable) as fault:
+        known.fail(fault)
+    finally:
+        if folder:
+            folder.remove()

@@ -1,0 +1,225 @@
+"""Runs sessions and compares what they write with the reports beside them: `dvbemu test --help`.
+
+A test is NAME.session, or NAME.script with NAME.ts beside it if there is one, and NAME.report; NAME.words has the words that it is run
+with, where they aren't `steps`. By `steps` the report is the same each time, byte for byte. By `run` it isn't: there the report that was
+kept must be one of a run of the session, as `check` says.
+"""
+import os
+from typing import NamedTuple
+
+from .. import tool
+from .. import cli
+from .. import inputs
+from .. import shares
+from .. import spawned
+from .. import standard
+
+# The columns that are shown of a line.
+SHOWN = 100
+
+
+class Failed(Exception):
+    """Why a test has failed."""
+
+
+class Test(NamedTuple):
+    """A test: its name, its files without their endings, and the words that it is run with."""
+
+    name: str
+    path: str
+    words: list
+
+    def session(self):
+        """The bytes of its session."""
+        names = [self.path + ".session"]
+        if not os.path.exists(names[0]):
+            names = [path for path in (self.path + ".script", self.path + ".ts") if os.path.exists(path)]
+        try:
+            return b"".join(inputs.session_pieces(inputs.opened(names)))
+        except inputs.Broken as fault:
+            raise Failed(str(fault)) from None
+
+    def kept(self):
+        """The report that was kept; None where there is none."""
+        try:
+            with open(self.path + ".report", "rb") as file:
+                return file.read()
+        except FileNotFoundError:
+            return None
+        except OSError as fault:
+            raise Failed(f"{fault.filename}: {fault.strerror}") from None
+
+    def packet(self):
+        """What a packet takes up in the stream."""
+        words = " ".join(self.words).replace("=", " ").split()
+        return int(words[words.index("--packet") + 1]) if "--packet" in words else 188
+
+
+def command():
+    """The command and its words."""
+    words = tool.Command(
+        "test",
+        "[--update] [--batch B] [--packet P] PATH .. | --jobs LOG",
+        "Runs sessions, as many at once as there are processors, and compares what they write with the reports beside them.",
+        reads="each PATH, a folder with all below it, or a file: NAME.session, or NAME.script with NAME.ts if there is one; "
+        "NAME.report; and NAME.words, the words that it is run with: without it `steps`, with --batch and --packet as they stand here; "
+        "or LOG, what GNU parallel has written of its jobs (--joblog)",
+        writes="TAP: `ok 1 - NAME`, or `not ok 1 - NAME`, and behind # the line, what stands there and what the rules give",
+        status="0; 1 where a report differs or is missing, a session can't be run, or there is no test; 2 for wrong words",
+        example="dvbemu test tests",
+    )
+    words.add_argument("--update", action="store_true", help="writes the reports that differ or are missing anew, and says which")
+    words.add_argument("--batch", type=tool.number(1, 64, True), metavar="B", help="for tests without words of their own")
+    words.add_argument("--packet", type=tool.choice(188, 204), metavar="P", help="for tests without words of their own")
+    words.add_argument("--jobs", metavar="LOG", help="tells of these jobs, and runs nothing")
+    words.add_argument("paths", metavar="PATH", nargs="*", help="a folder, or a test")
+    return words
+
+
+def stems_below(words, path):
+    """The files of tests below a folder, without their endings, or the one that is named."""
+    if os.path.isfile(path) and path.endswith((".session", ".script")):
+        return [os.path.splitext(path)[0]]
+    if not os.path.isdir(path):
+        words.fail(f"{path}: {'it is no session and no script' if os.path.exists(path) else 'No such file or directory'}")
+    return [os.path.join(folder, os.path.splitext(name)[0]) for folder, _, names in os.walk(path) for name in names
+            if name.endswith((".session", ".script"))]  # fmt: skip
+
+
+def tests_of(words, given):
+    """The tests that are asked for, by their names."""
+    plain = ["steps"]
+    for name in "batch", "packet":
+        if getattr(given, name) is not None:
+            plain += [f"--{name}", str(getattr(given, name))]
+    found = {}
+    for path in given.paths:
+        for stem in stems_below(words, path):
+            name = os.path.relpath(stem, path) if os.path.isdir(path) and len(given.paths) == 1 else stem
+            own = []
+            if os.path.exists(stem + ".words"):
+                own = words.bytes_of(stem + ".words").decode(errors="replace").split()
+            found[stem] = Test(name, stem, own or plain)
+    return [found[stem] for stem in sorted(found)]
+
+
+def ended(word, status, told):
+    """How the program has ended, and what it told."""
+    lines = told.decode(errors="replace").strip().split("\n")
+    return ": ".join(filter(None, [f"{word} {spawned.how(status)}", " ".join(map(str.strip, lines[:2]))]))
+
+
+def written_by(program, test, session):
+    """The report that a test's session gives."""
+    if test.words[0] not in ("steps", "run"):
+        raise Failed(f"{test.path}.words: expected steps or run, found {test.words[0]}")
+    report, told, status = spawned.ran([program, *test.words], [session], spawned.environment(test.words[0]))
+    if status:
+        raise Failed(ended(" ".join(test.words), status, told))
+    return report
+
+
+def checked(program, test, session, report):
+    """Whether `check` says yes of a report, and what it tells if it doesn't."""
+    words = ["check", "--packet", str(test.packet())]
+    asked = b"report %d\n" % len(report), report, session
+    answer, told, status = spawned.ran([program, *words], asked, spawned.environment("check"))
+    if status or answer not in (b"yes\n", b"no\n"):
+        raise Failed(ended("check", status, told))
+    return answer == b"yes\n", told
+
+
+def cut(line, other):
+    """A line for a reader: of a long one the part from where it differs."""
+    first = max(len(os.path.commonprefix([line, other])) - SHOWN // 2, 0) if len(line) > SHOWN else 0
+    return f"{'..' * (first > 0)}{line[first : first + SHOWN]}{'..' * (len(line) > first + SHOWN)}"
+
+
+def first_difference(report, other, words):
+    """The first line in which a report differs from another one."""
+    one, two = (text.decode(errors="replace").split("\n") for text in (report, other))
+    at = next((at for at, pair in enumerate(zip(one, two)) if pair[0] != pair[1]), min(len(one), len(two)))
+    stands, gives = (lines[at] if at < len(lines) else "the end" for lines in (one, two))
+    return f"line {at + 1}: {cut(stands, gives)}; {' '.join(words)} gives {cut(gives, stands)}"
+
+
+def difference(program, test, session, kept, report):
+    """What a report that was kept has wrong: by the rules; or, where it is one of another run, by what was written now. Nothing where it
+    is one of another run, and may be."""
+    is_right, told = checked(program, test, session, kept)
+    if not is_right:
+        from .. import reasons  # pylint: disable=import-outside-toplevel
+        return str(reasons.wrong(session, kept, test.packet(), told))
+    return "" if test.words[0] == "run" else first_difference(kept, report, test.words)
+
+
+def keep(path, report):
+    """Writes a report anew."""
+    try:
+        with open(path, "wb") as file:
+            file.write(report)
+    except OSError as fault:
+        raise Failed(f"{path}: {fault.strerror}") from None
+
+
+def tried(program, test, is_updated):
+    """What becomes of a test: + where it passes, or -, and behind that why it failed, or what was written anew."""
+    try:
+        session, kept = test.session(), test.kept()
+        report = written_by(program, test, session)
+        told = "" if report == kept else "there is no report" if kept is None else difference(program, test, session, kept, report)
+        if not told:
+            return "+"
+        if is_updated:
+            keep(test.path + ".report", report)
+            return f"+written anew: {told}"
+        return f"-{told}" if kept is not None else f"-{told}: --update writes {test.path}.report"
+    except Failed as why:
+        return f"-{why}"
+    except OSError as fault:
+        return f"-{standard.told_of(fault)[0]}"
+
+
+def tell_jobs(words, given):
+    """Tells how the jobs of a log have ended, as of tests that were run."""
+    if given.paths:
+        words.error(f"unrecognized arguments: {given.paths[0]}")
+    from .. import joblog  # pylint: disable=import-outside-toplevel
+    try:
+        jobs = joblog.read(words.bytes_of(given.jobs).decode(errors="replace"))
+    except joblog.NotALog as wrong:
+        words.fail_on(given.jobs, wrong)
+    print(f"1..{len(jobs)}")
+    for number, job in enumerate(jobs, 1):
+        print(f"{'not ' if job.fault() else ''}ok {number} - {job.command}{chr(10) + '# ' if job.fault() else ''}{job.fault()}")
+    failed = sum(bool(job.fault()) for job in jobs)
+    if failed:
+        print(f"# {failed} of {len(jobs)} failed")
+    return 1 if failed or not jobs else 0
+
+
+def main():
+    """Runs the tests."""
+    words = command()
+    given = words.parse_args()
+    if given.jobs is not None:
+        return tell_jobs(words, given)
+    if not given.paths:
+        words.error("the following arguments are required: PATH")
+    tests = tests_of(words, given)
+    if not tests:
+        words.fail(f"{', '.join(given.paths)}: there is no NAME.session and no NAME.script")
+    program = cli.program_for("steps")
+    if program is None:
+        return 1
+    print(f"1..{len(tests)}", flush=True)
+    told, failed = 0, 0
+    # (the texts first, so that at their end the processes are waited for)
+    for text, test in zip(shares.done(tests, lambda test: tried(program, test, given.update)), tests):
+        text = text or "-its process has ended before it had told of it"
+        told, failed = told + 1, failed + (text[:1] == "-")
+        print(f"{'not ' if text[:1] == '-' else ''}ok {told} - {test.name}")
+        print(f"# {text[1:]}\n" if text[1:] else "", end="", flush=True)
+    if failed:
+        print(f"# {failed} of {len(tests)} failed")
+    return 1 if failed else 0

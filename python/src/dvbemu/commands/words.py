@@ -1,0 +1,49 @@
+"""Writes a script with names and hexadecimal numbers as the plain one that the program reads: `dvbemu words --help`.
+
+What is read stands in tools/lib/naming.py; what it can't read is told with its line and word, as the program does. Behind the line
+`stream` all bytes are written as they are.
+"""
+import sys
+
+from .. import tool
+from .. import naming
+
+
+def command():
+    """The command and its words."""
+    words = tool.Command(
+        "words",
+        "[SCRIPT]",
+        "Writes a script with names and hexadecimal numbers as a plain one: 0x1000, CHECK_CRC+IMMEDIATE_START, table_id=0x42,\n"
+        "version_number!=3, table_id=0x40/0xc0 (under a mask), demux0, OTHER for the type 20; tabs and comments at a line's end too.",
+        reads="the script, from the file SCRIPT; from standard input without it or for `-`. Behind its line `stream` may stand a stream",
+        writes="the plain script, and the stream as it is",
+        status="0; 1 where SCRIPT can't be read; 2 for wrong words; 3 where the script has a fault, which is told as the program does",
+        example="dvbemu words my.script | dvbemu steps - my.ts",
+    )
+    words.add_argument("script", metavar="SCRIPT", nargs="?", help="the script")
+    return words
+
+
+def cut(text):
+    """The script in front of its line `stream`, in any spelling, and what stands from there on."""
+    place = 0
+    while place < len(text):
+        after = text.find(b"\n", place) + 1 or len(text)
+        if text[place:after].strip().lower() == b"stream":
+            return text[:place], b"stream\n" + text[after:]
+        place = after
+    return text, b""
+
+
+def main():
+    """Writes the plain script."""
+    words = command()
+    given = words.parse_args()
+    script, behind = cut(words.bytes_of(given.script))
+    try:
+        plain = naming.plain_script(script)
+    except naming.Fault as fault:
+        words.exit(3, f"{words.prog}: {fault.text()}\n")
+    sys.stdout.buffer.write(plain + behind)
+    sys.stdout.flush()

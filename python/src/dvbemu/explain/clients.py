@@ -1,0 +1,107 @@
+"""The clients of a report, what they called, and what they got, for tools/explain."""
+from bisect import bisect_right
+from typing import NamedTuple
+
+from ..psi.fields import NAMES, head_of
+from ..reports import DVR
+from ..psi.tables import read
+
+PACKET = 188
+
+
+class Call:
+    """A call of a client: its node, its entry, the names of its act and its reply, a reason that the entry hasn't, what is there of the
+    section that it begins or ends to give, whether that is all of it, the stream_ids of the PES packets that begin in its bytes, what
+    is known of what was lost where it is answered an Overflow, and how many sections it drops that are as long as those read before."""
+
+    __slots__ = ("node", "entry", "act", "reply", "reason", "section", "whole", "streams", "lost", "repeats")
+
+    def __init__(self, node, entry):
+        self.node, self.entry, self.reason, self.streams, self.lost = node, entry, "", (), None
+        self.section, self.whole, self.repeats = b"", False, 0
+        self.act = entry.act.partition(" ")[0]
+        self.reply = entry.reply.partition(" ")[0]
+
+    def length(self):
+        """How many bytes a read gave."""
+        return 0 if self.reply != "data" or self.entry.reply == "data -" else (len(self.entry.reply) - 5) // 2
+
+
+class Lost(NamedTuple):
+    """What is known of the span of an Overflow: whether KEEP has kept what was unread before, how many packets it has, where these are
+    given whole, how many sections it has at least, where these are given, and the numbers of the stream's packets from which and before
+    which its bytes came."""
+
+    kept: bool
+    packets: int | None
+    sections: int | None
+    first: int
+    after: int
+
+
+def lost_by(node, reply):
+    """What is known of the span of an Overflow. Of whole packets each item is another one of those that have passed since the capture began;
+    what clients write has no place in the stream."""
+    is_whole = node.number == DVR or bool(node.filter) and node.filter.output == "tsdemux_tap"
+    is_section = bool(node.filter) and node.filter.kind == "section"
+    kept, (begin, after) = bool(node.filter and node.filter.keeps), reply["span"]
+    packets = -(-after // PACKET) - begin // PACKET if is_whole else None
+    read = reply["item"] if kept else node.capture.items if node.capture else 0
+    sections = max(1, reply["item"] + 1 - read) if is_section else None
+    if node.capture is None or node.filter and node.filter.is_played:
+        return Lost(kept, packets, sections, 0, 0)
+    least = node.capture.begin + begin // PACKET if is_whole else 0
+    return Lost(kept, packets, sections, max(node.capture.clear, least), node.passed)
+
+
+class Got:
+    """What the reads of a node through one kind of filter gave: how often each section, and of payloads how often each stream_id stands in
+    them."""
+
+    def __init__(self):
+        self.reads, self.with_data, self.bytes, self.items, self.pids = 0, 0, 0, 0, set()
+        self.sections, self.streams = {}, {}
+
+    def take_section(self, data):
+        """Takes a section that was read to its end."""
+        self.sections[data] = self.sections.get(data, 0) + 1
+
+    def tables(self):
+        """The values of each field of the sections' heads, by table_id and table_id_extension, and whether it is the table of this number."""
+        found = {}
+        for data in self.sections:
+            head = head_of(data)
+            values = found.setdefault((*head[:2], read(data) is not None), [set() for _ in NAMES])
+            for known, value in zip(values, head):
+                if value is not None:
+                    known.add(value)
+        return found
+
+
+class Waits:
+    """How often a client waited on a node, and until what."""
+
+    def __init__(self):
+        self.lines, self.passes, self.ends, self.others = [], 0, 0, 0
+
+
+class Client:
+    """What one client asked and got."""
+
+    def __init__(self, number, outcomes):
+        self.number, self.outcomes = number, outcomes
+        calling = [outcome for outcome in outcomes if outcome.first < outcome.after]
+        self.firsts, self.lines = [outcome.first for outcome in calling], [outcome.line for outcome in calling]
+        self.afters, self.begins = [outcome.after for outcome in calling], set(self.firsts)
+        self.calls, self.got, self.waits = [], {}, {}
+        self.lost, self.timed, self.refused = [], [], []
+
+    def line_of(self, step):
+        """The line of the command that made this call, or 0 where no command did."""
+        place = bisect_right(self.firsts, step) - 1
+        return self.lines[place] if place >= 0 else 0
+
+    def is_last(self, step):
+        """Whether this call is the last one of its command."""
+        place = bisect_right(self.firsts, step) - 1
+        return place < 0 or self.afters[place] == step + 1

@@ -1,0 +1,295 @@
+"""What the packets of a stream brought to the filters of a report's nodes, for tools/hint: the sections that passed a filter that gave
+none, and the packets and sections that an Overflow lost.
+
+The rules are those of the plain second program, fuzz/second.py, which works out all sections of a capture anew at each packet; here each
+packet is taken once.
+"""
+from bisect import bisect_left, bisect_right
+from typing import NamedTuple
+
+from .. import reports
+from ..psi.tables import has_right_crc
+from .walk import CRC, ONESHOT, Walk, second
+
+PACKET = 188
+
+
+class Sections:
+    """The sections of a PID, by the rules of second.sections, each given with the packet that completes it."""
+
+    def __init__(self):
+        self.last, self.open = None, None
+
+    def take(self, packet):
+        """The sections that the PID's next packet completes."""
+        payload = second.payload_of(packet)
+        if second.error_bit(packet) or payload is None:
+            return []
+        last, self.last = self.last, packet
+        if last is not None and second.counter_of(last) == second.counter_of(packet) and second.payload_of(last) == payload:
+            return []
+        if last is not None and not second.joins(last, packet):
+            self.open = None
+        if not second.unit_start(packet):
+            return self.extend(payload)
+        behind = 1 + payload[0]
+        found = self.extend(payload[1:behind]) if behind <= len(payload) else []
+        self.open = bytearray() if behind <= len(payload) else None
+        return found + self.extend(payload[behind:])
+
+    def extend(self, data):
+        """The sections that are whole with further bytes of the open segment. It ends where no section can follow."""
+        if self.open is None:
+            return []
+        self.open += data
+        found, place = [], 0
+        while (after := self.end_of_section(place)) and after <= len(self.open):
+            found.append(bytes(self.open[place:after]))
+            place = after
+        del self.open[:place]
+        if after is None:
+            self.open = None
+        return found
+
+    def end_of_section(self, place):
+        """Where the section ends that begins here; 0 where that isn't known yet, and None where none can begin."""
+        head = self.open[place : place + 3]
+        if head[:1] == b"\xff":
+            return None
+        if len(head) < 3:
+            return 0
+        length = (head[1] & 0x0F) << 8 | head[2]
+        return place + 3 + length if length <= 4093 else None
+
+
+def sections_of(packets):
+    """The sections of packets of one PID."""
+    reader = Sections()
+    return [section for packet in packets for section in reader.take(packet)]
+
+
+def is_intact(section):
+    """Whether a section's CRC_32 is right, or it has none."""
+    return section[1] >> 7 == 0 or has_right_crc(section)
+
+
+def selects(act, section):
+    """Whether a section filter, given by its set call, selects a section."""
+    return second.matches(act["bytes"], section) and (not act["flags"] & CRC or is_intact(section))
+
+
+class Lost(NamedTuple):
+    """What an Overflow lost: its line, the node and the span, whether the items are sections, and the places in the stream of the packets
+    that brought the first and the last of so many items."""
+
+    line: int
+    node: int
+    span: tuple
+    is_section: bool
+    items: int
+    first: int
+    last: int
+
+
+class Used(NamedTuple):
+    """A section filter that ran and gave nothing, or any one that no packet passed: whose, its line, its node, its set call, the places of the
+    packets that each of its captures was offered, and its PIDs."""
+
+    client: int
+    line: int
+    node: int
+    act: dict
+    places: list
+    pids: set
+
+
+class Offered(Walk):
+    """A node with the stream at hand. `used` has its filters that gave nothing, `lost` what its Overflows lost, and `ran` says whether a
+    filter ran at all."""
+
+    def __init__(self, number, story, packets, by_pid):
+        super().__init__(number)
+        self.story, self.packets, self.by_pid = story, packets, by_pid
+        self.used, self.lost, self.ran, self.ever = [], [], False, set()
+        self.places, self.all_places, self.gave, self.line, self.client = [], [], False, 0, 0
+        self.taken, self.ends, self.bringers, self.sections = 0, [], [], Sections()
+        self.taps = {}
+
+    def take(self, entry):
+        """Takes the next entry."""
+        act, reply = reports.act_of(entry), reports.reply_of(entry)
+        name, told = act["name"], reply["name"]
+        if name == "pass":
+            self.take_pass(act)
+        elif name in ("attach", "detach"):
+            self.taps[act["node"]] = act.get("pids", [])
+        elif told == "overflow":
+            self.take_overflow(entry, reply)
+        elif told == "data" and reply["length"]:
+            self.gave = True
+        elif told == "done":
+            self.gave = self.gave or reply["drop"][1] > reply["drop"][0]
+            self.accept(entry, act, reply)
+
+    def take_pass(self, act):
+        """A batch passes; what clients write has no place in the stream."""
+        runs = self.runs or self.number == reports.DVR and self.owner is not None
+        if act["input"] != "frontend" or not runs or (self.filter or {}).get("input") == "dvr":
+            return
+        if self.due is not None and not self.gave and act["at"] >= self.due:
+            return
+        first, after = act["first"], act["first"] + act["count"]
+        pids = set().union(*self.taps.values()) if self.number == reports.DVR else self.pids
+        if second.ALL_PACKETS in pids:
+            self.places += range(first, after)
+            return
+        found = []
+        for pid in pids:
+            places = self.by_pid.get(pid, [])
+            found += places[bisect_left(places, first) : bisect_left(places, after)]
+        self.places += sorted(found)
+
+    def set_filter(self, entry, act):
+        """A filter, which has given nothing yet."""
+        self.filter, self.all_places, self.gave, self.ever = act, [], False, set()
+        self.line, self.client = self.story.line_of(entry), int(entry.who[1])
+
+    def change_pids(self, entry, act):
+        """The filter has another PID, or one less."""
+        self.ever |= self.pids if self.runs else set()
+
+    def begin_capture(self, entry):
+        """A capture is offered packets from here on."""
+        self.places, self.ran = [], True
+        self.ever |= self.pids if self.filter else set()
+        self.taken, self.ends, self.bringers, self.sections = 0, [], [], Sections()
+
+    def end_capture(self, entry, reply):
+        """A capture has ended."""
+        self.all_places.append(self.places)
+        self.places = []
+
+    def end_filter(self):
+        """The filter's time is over."""
+        self.all_places.append(self.places)
+        is_told = self.filter and (self.filter["name"] == "section" or self.filter["input"] != "dvr" and not any(self.all_places))
+        if is_told and self.ever and not self.gave:
+            self.used.append(Used(self.client, self.line, self.number, self.filter, self.all_places, self.ever))
+        self.filter, self.places, self.all_places = None, [], []
+
+    # ------ items
+
+    def take_items(self):
+        """Takes the items of the packets that have been offered to the capture: `ends` has where in it each ends, and `bringers` the place of
+        the packet that completes it."""
+        for place in self.places[self.taken :]:
+            for length in self.lengths(self.packets[place]):
+                self.ends.append(length + (self.ends[-1] if self.ends else 0))
+                self.bringers.append(place)
+        self.taken = len(self.places)
+
+    def lengths(self, packet):
+        """The lengths of the items that the capture's next packet completes."""
+        if self.filter and self.filter["name"] == "section":
+            found = [len(section) for section in self.sections.take(packet) if selects(self.filter, section)]
+            return found[: not self.ends] if self.filter["flags"] & ONESHOT else found
+        if self.filter and self.filter["output"] == "tap":
+            return [len(payload)] if (payload := second.payload_of(packet)) else []
+        return [PACKET]
+
+    def take_overflow(self, entry, reply):
+        """Finds what an Overflow lost."""
+        self.gave = True
+        if self.node.capture is None or (self.filter or {}).get("input") == "dvr":
+            return
+        begin, after = reply["span"]
+        self.take_items()
+        first, last = bisect_right(self.ends, begin), bisect_left(self.ends, after)
+        if first <= last < len(self.ends):
+            is_section = bool(self.filter) and self.filter["name"] == "section"
+            places = self.bringers[first], self.bringers[last]
+            self.lost.append(Lost(self.story.line_of(entry), self.number, (begin, after), is_section, last - first + 1, *places))
+
+
+# ------ what ruled a section out
+
+
+class Ruled(NamedTuple):
+    """Why a filter byte rules a section out: the byte's place, the section's byte there (None where it is too short), and the bits that
+    differ; no bits where one of those of a negative match would have to."""
+
+    place: int
+    found: int | None
+    bits: int
+
+
+def byte_at(place):
+    """The byte of a section that a filter byte stands against."""
+    return place if place == 0 else place + 2
+
+
+def ruled_out(places, section):
+    """What of a filter rules a section out, by the places of its bytes; nothing where it selects it."""
+    if second.matches(places, section):
+        return ()
+    found = []
+    for place, (value, mask, mode) in sorted(places.items()):
+        at = byte_at(place)
+        if mask and at >= len(section):
+            found.append(Ruled(place, None, 0))
+        elif mask and (value ^ section[at]) & mask & ~mode:
+            found.append(Ruled(place, section[at], (value ^ section[at]) & mask & ~mode))
+    if not found:
+        found = [Ruled(place, section[byte_at(place)], 0) for place, (_, mask, mode) in sorted(places.items()) if mask & mode]
+    return tuple(found)
+
+
+class Like(NamedTuple):
+    """A filter like another one: its bytes, its flags, and how many sections it selects."""
+
+    bytes: dict
+    flags: int
+    count: int
+
+
+def bad_places(places, sections):
+    """The places of the filter bytes that rule some of the sections out."""
+    return sorted({ruled.place for section in sections for ruled in ruled_out(places, section)})
+
+
+def tries(places, sections):
+    """Filters like this one that may select more: with the values that stand in the sections, and without the bytes that rule them out."""
+    bad = bad_places(places, sections)
+    named = {place: three for place, three in places.items() if place not in bad}
+    for section in sections:
+        if all(byte_at(place) < len(section) for place in bad):
+            yield {**named, **{place: (section[byte_at(place)], places[place][1], 0) for place in bad}}
+            break
+    yield named
+
+
+def like(places, flags, sections):
+    """A filter with these bytes and flags, without the flag for the CRC_32 where only that keeps sections away; None where it selects none."""
+    matched = [section for section in sections if second.matches(places, section)]
+    right = [section for section in matched if not flags & CRC or is_intact(section)]
+    if right:
+        return Like(places, flags, len(right))
+    return Like(places, flags & ~CRC, len(matched)) if matched else None
+
+
+def like_this(act, sections):
+    """The first filter like this one that selects some of the sections; None where none does."""
+    tried = (like(places, act["flags"], sections) for places in (act["bytes"], *tries(act["bytes"], sections)))
+    return next(filter(None, tried), None)
+
+
+def moved(act, sections):
+    """Filters with a byte two places before, each with the byte's place: a filter byte counted as those of a section are, of which a filter
+    leaves bytes 1 and 2 out. They are given where the byte's value stands there."""
+    places = act["bytes"]
+    for place in bad_places(places, sections):
+        value, mask, mode = places[place]
+        if place > 2 and value & mask and not mode and not places.get(place - 2, (0, 0, 0))[1]:
+            others = {other: three for other, three in places.items() if other != place}
+            if found := like({**others, place - 2: (value, mask, mode)}, act["flags"], sections):
+                yield place, found

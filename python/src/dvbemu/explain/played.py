@@ -1,0 +1,72 @@
+"""The packets that a report is of: those of its session, or of the recording that was played, which is told by how many packets of each PID
+there are. For tools/hint and tools/session."""
+from collections import Counter
+
+from ..psi.fields import pid_text
+from ..inputs import many
+
+from ..oracle import second
+
+# How many bytes a packet of a recording takes up, and how many of these stand in front of it (a time stamp of .m2ts); and how many packets
+# show that.
+FORMS, SHOWN, SYNC = ((188, 0), (204, 0), (192, 4)), 5, b"\x47"
+
+
+class NotPlayed(Exception):
+    """Packets that aren't those of the report."""
+
+
+def counted(packets):
+    """How many packets each PID has."""
+    return Counter(map(second.pid_of, packets))
+
+
+def of_session(stream, head, counts):
+    """The packets of a session's stream, by its report's head (packets, skipped and rest) and how many packets each PID has there."""
+    for size in (188, 204):
+        packets, skipped, rest = second.cut(stream, size)
+        if (len(packets), skipped, rest) == head and counted(packets) == counts:
+            return packets
+    packets = second.cut(stream)[0]
+    raise NotPlayed(f"no session of this report: {difference(counted(packets), len(packets), head[0], counts)}")
+
+
+def cuts_of(recording):
+    """The packets of a recording, for each number of bytes that they seem to take up."""
+    for size, ahead in FORMS:
+        for at in range(ahead, size + ahead):
+            syncs = recording[at : at + SHOWN * size : size]
+            if syncs and syncs == SYNC * len(syncs):
+                yield second.cut(recording[at:], size)[0]
+                break
+
+
+def is_recording(given):
+    """Whether a file seems to be a recording, and no session."""
+    return given[:1] == SYNC or given[4 : 5 + 192 : 192] == SYNC * 2
+
+
+def of_recording(recording, head, counts):
+    """The packets that were played of a recording: it is repeated where it is shorter, and cut where it is longer."""
+    told = "it has no packet"
+    for packets in filter(None, cuts_of(recording)):
+        mine = played_counts(packets, head[0])
+        if mine == counts:
+            return (packets * (head[0] // len(packets) + 1))[: head[0]]
+        told = difference(mine, head[0], sum(counts.values()), counts)
+    raise NotPlayed(f"no recording of this report: {told}")
+
+
+def played_counts(packets, number):
+    """How many packets each PID has where a recording is played up to so many packets."""
+    times, rest = divmod(number, len(packets))
+    whole = counted(packets)
+    return Counter({pid: times * count for pid, count in whole.items() if times}) + counted(packets[:rest])
+
+
+def difference(mine, number, other, counts):
+    """How packets differ from those of the report: in their number, or by a PID."""
+    if number != other:
+        return f"it has {many(number, 'packet')}, the report {other:,}"
+    pid = min(pid for pid in mine.keys() | counts.keys() if mine[pid] != counts.get(pid, 0))
+    return f"it has {many(mine[pid], 'packet')} of PID {pid_text(pid)} in {number:,}, the report {counts.get(pid, 0):,}"

@@ -1,0 +1,428 @@
+"""Calls and replies of a report in plain words, for tools/explain."""
+from .clients import PACKET
+from ..psi.fields import NAMES as FIELD_NAMES
+from ..psi.fields import filter_texts, head_of, head_text, pid_name, pid_text, stream_text, table_text
+from ..inputs import many
+from .refusals import ALL_PACKETS
+from ..reports import DVR, act_of, moment, node_name, reply_of
+from ..psi.tables import short_text, text_of
+from .walk import FLAGS
+
+WIDTH = 100
+GATHERED = 9
+TABLES, VALUES, SAID = 4, 6, 8
+NAMES = {"section": "SetFilter", "pes": "SetPes", "start": "Start", "size": "SetSize", "close": "Close"}
+LOOKS = ("read", "poll")
+GIVEN = "gave data"
+
+
+def wrapped(text, indent):
+    """A text in lines of at most 100 columns, those behind the first with a further indent of two."""
+    lines, line = [], " " * indent
+    for word in text.split(" "):
+        if len(line) + 1 + len(word) > WIDTH and line.strip():
+            lines.append(line)
+            line = " " * (indent + 2)
+        line += word if not line.strip() else " " + word
+    return [*lines, line]
+
+
+def joined(parts):
+    """A list in words: `a`, `a and b`, `a, b and c`."""
+    parts = list(map(str, parts))
+    return " and ".join([", ".join(parts[:-1]), parts[-1]] if len(parts) > 1 else parts)
+
+
+def lines_text(lines):
+    """Lines of the script, at most six of them by number: `line 4`, `lines 4, 6 and 9`."""
+    if len(lines) == 1:
+        return f"line {lines[0]}"
+    if len(lines) <= 6:
+        return f"lines {joined(lines)}"
+    return f"lines {', '.join(map(str, lines[:5]))} and {len(lines) - 5:,} more up to {lines[-1]}"
+
+
+def pids_text(pids):
+    """PIDs in words."""
+    pids = sorted(pids)
+    if not pids:
+        return "no PID"
+    told = pid_text if len(pids) <= TABLES else pid_name
+    names = [f"{pid} (every packet)" if pid == ALL_PACKETS else told(pid) for pid in pids]
+    return ("PID " if len(pids) == 1 else "PIDs ") + joined(names)
+
+
+def node_text(number):
+    """A node in words."""
+    return "the dvr node" if number == DVR else node_name(number)
+
+
+# ------ acts
+
+
+def flags_text(flags):
+    """The flags of a set call in words."""
+    names = [FLAGS.get(1 << bit, str(1 << bit)) for bit in range(flags.bit_length()) if flags >> bit & 1]
+    return "no flag" if not names else ("flag " if len(names) == 1 else "flags ") + joined(names)
+
+
+def section_text(act, on):
+    """A SetFilter in words."""
+    timeout = f"timeout {act['timeout']} ms" if act["timeout"] else "no timeout"
+    filtered = f"{pids_text([act['pid']])}, {', '.join(filter_texts(act['bytes'])) or 'every section'}"
+    return f"sets a section filter on {on} ({filtered}, {timeout}, {flags_text(act['flags'])})"
+
+
+def pes_text(act, on):
+    """A SetPes in words."""
+    where = f"output {act['output'].upper()}" + (", input DVR" if act["input"] == "dvr" else "")
+    return f"sets a PES filter on {on} ({pids_text([act['pid']])}, {where}, PES type {act['type']}, {flags_text(act['flags'])})"
+
+
+def packets_text(act):
+    """The packets that a client has written and passes, in words."""
+    first, last = act["first"], act["first"] + act["count"] - 1
+    return f"what it has written, {f'packet {first}' if first == last else f'packets {first} to {last}'},"
+
+
+def at_most_text(act):
+    """How much a read asks for."""
+    return f"at most {act['count']} byte{'s' * (act['count'] != 1)}"
+
+
+def act_text(call):
+    """What a call asks, in words."""
+    act, on = act_of(call.entry), node_text(call.node)
+    if call.act == "section":
+        return section_text(act, on)
+    if call.act == "pes":
+        return pes_text(act, on)
+    if call.act == "read":
+        return f"reads {at_most_text(act)} from {on}"
+    if call.act == "size":
+        return f"sets the buffer size of {on} to {act['size']}"
+    if call.act in ("add", "remove"):
+        return f"{'adds' if call.act == 'add' else 'removes'} {pids_text([act['pid']])} on {on}"
+    if call.act == "pass":
+        return f"passes {packets_text(act)} to {on}"
+    if call.act == "attach":
+        return f"attaches the tap of {node_name(act['node'])} to the dvr node ({pids_text(act['pids'])})"
+    if call.act == "detach":
+        return f"detaches the tap of {node_name(act['node'])} from the dvr node"
+    if call.act == "poll":
+        return f"polls {on}" + (f", {call.reason}" if call.reply == "ready" and call.reason else "")
+    return {"open": "opens", "close": "closes", "start": "starts", "stop": "stops"}[call.act] + " " + on
+
+
+def moment_text(call):
+    """The moment of a call, where it carries one above 0."""
+    at = moment(call.entry)
+    return f" at moment {at}" if at else ""
+
+
+# ------ replies
+
+
+def done_text(call, reply):
+    """A Done in words."""
+    first, after = reply["drop"]
+    text = "Done"
+    if call.act == "start" or (call.act in ("section", "pes") and act_of(call.entry)["flags"] & 4):
+        text += ", a capture begins"
+    elif call.act in ("section", "pes"):
+        text += ", the filter waits for a Start"
+    if after > first:
+        text += f"; what is unread is dropped, {many(after - first, 'byte')}, {first}..{after}"
+    return text
+
+
+def ready_text(reply):
+    """A Ready in words."""
+    if reply["error"] != "none":
+        return "Ready, " + ("an Overflow" if reply["error"] == "overflow" else "a TimedOut") + " is to be told"
+    if not reply["readable"]:
+        return "nothing, and the stream has ended" if reply["ended"] else "nothing yet"
+    return "Ready, bytes can be read" + ("; the stream has ended" if reply["ended"] else "")
+
+
+def section_words(call):
+    """Which table the section is that a read gives, or what its head says where it begins and is none."""
+    if call.whole and (table := short_text(call.section)):
+        return f": {table}"
+    return f": {head_text(head_of(call.section))}" if "end" not in call.reason else ""
+
+
+def data_text(call):
+    """Data in words: how much, and what stands in it."""
+    length = call.length()
+    text = f"Data of {many(length, 'byte') if length else 'no bytes'}" + (f", {call.reason}" if call.reason else "")
+    if call.section:
+        text += section_words(call)
+    if call.streams:
+        packets = many(len(call.streams), "PES packet")
+        text += f", in which the stream_id of {packets} stands: {joined(map(stream_text, sorted(set(call.streams))))}"
+    return text
+
+
+def expired_text(reply):
+    """The moments of a timeout."""
+    return f"started at moment {reply['started']} with a timeout of {reply['timeout']} ms, expired at {reply['now']}"
+
+
+def reply_text(call):
+    """What a call was answered, in words."""
+    reply = reply_of(call.entry)
+    if call.reply == "done":
+        return done_text(call, reply)
+    if call.reply == "busy":
+        return f"Busy, {call.reason}"
+    if call.reply == "data":
+        return data_text(call)
+    if call.reply == "again":
+        return "Again, nothing is unread" + (" and the stream has ended" if reply["ended"] else "")
+    if call.reply == "overflow":
+        first, after = reply["span"]
+        return f"Overflow, {many(after - first, 'byte is', 'bytes are')} lost"
+    if call.reply == "timedout":
+        return f"TimedOut, {expired_text(reply)}"
+    if call.reply == "ready":
+        return ready_text(reply)
+    if call.reply == "passed":
+        return "Passed"
+    return call.reply + (f", {call.reason}" if call.reason else "")
+
+
+def call_text(call):
+    """A call and its reply in words."""
+    return f"{act_text(call)}{moment_text(call)}: {reply_text(call)}"
+
+
+# ------ rows of like calls
+
+
+def kind_of_reply(call):
+    """What the replies of gathered reads and polls are counted by."""
+    if call.reply == "data":
+        return GIVEN if call.length() else "gave no bytes"
+    if call.reply == "again":
+        return "found nothing, as the stream had ended" if call.entry.reply.endswith("1") else "found nothing"
+    if call.reply == "ready":
+        if "error=none" not in call.entry.reply:
+            return "told of an Overflow or a TimedOut"
+        return "found bytes" if " readable=1 " in call.entry.reply else "found nothing"
+    return {"overflow": "answered Overflow", "timedout": "answered TimedOut"}.get(call.reply, f"answered {call.reply}")
+
+
+def looks_text(calls):
+    """Reads and polls of one node, gathered by what they ask."""
+    groups = {}
+    for call in calls:
+        asked = call.entry.act.partition(" at=")[0]
+        groups.setdefault((call.node, asked), []).append(call)
+    return "; ".join(group_text(group) if len(group) > 1 else call_text(group[0]) for group in groups.values())
+
+
+def group_text(calls):
+    """Reads or polls that ask the same."""
+    first, counted, given = calls[0], {}, 0
+    for call in calls:
+        kind = kind_of_reply(call)
+        counted[kind] = counted.get(kind, 0) + 1
+        given += call.length()
+    on = node_text(first.node)
+    asked = f"of {at_most_text(act_of(first.entry))} from {on}" if first.act == "read" else f"of {on}"
+    summed = f" ({many(given, 'byte')}{' in all' if counted.get(GIVEN) != 1 else ''})"
+    counts = [f"{count:,} {kind}{summed if kind == GIVEN else ''}" for kind, count in counted.items()]
+    return f"{many(len(calls), first.act)} {asked}: {joined(counts)}"
+
+
+def calls_text(calls):
+    """The calls of one command in words; several reads are gathered."""
+    if not calls:
+        return "makes no call"
+    if len(calls) > 1 and all(call.act in LOOKS for call in calls):
+        return looks_text(calls)
+    if len(calls) > 1 and all(call.act == "pass" for call in calls[1:]):
+        passed = f"passes {packets_text(act_of(calls[1].entry))} to {node_name(calls[1].node)} to {node_name(calls[-1].node)}"
+        return f"writes to the dvr device, so it {call_text(calls[0])}; {passed}{moment_text(calls[1])}"
+    return "; ".join(map(call_text, calls))
+
+
+def likeness(calls):
+    """What makes commands alike, so that a long row of them is gathered; None where nothing does."""
+    if calls and all(call.act in LOOKS for call in calls):
+        return "looks", calls[0].node
+    if len(calls) != 1:
+        return None
+    return calls[0].entry.act.partition(" at=")[0], calls[0].node, calls[0].reply
+
+
+def counter_text(kind):
+    """A system time counter in words."""
+    base, value = (int(word.partition("=")[2]) for word in kind.split(" ")[1:])
+    return f"{value:,}, in units of {base * 90:,} kHz"
+
+
+def command_text(outcome, calls):
+    """What one command did, in words."""
+    if outcome.kind == "unbound":
+        return "names a slot that is bound to no node, so it makes no call"
+    if outcome.kind == "nostc":
+        return "asks for a system time counter where it has read none"
+    if outcome.kind.startswith("stc "):
+        return f"asks for a system time counter and is told {counter_text(outcome.kind)}"
+    text = calls_text(calls)
+    return f"{text}; no node is free (EMFILE)" if outcome.kind == "EMFILE" else text
+
+
+def asked_texts(commands):
+    """The commands of a client, pairs of an outcome and its calls, in words; long rows of like ones are gathered."""
+    found, place = [], 0
+    while place < len(commands):
+        like, after = likeness(commands[place][1]), place + 1
+        while like is not None and after < len(commands) and likeness(commands[after][1]) == like:
+            after += 1
+        if after - place < GATHERED:
+            after = place + 1
+            found.append(f"line {commands[place][0].line}: {command_text(*commands[place])}")
+        else:
+            row = commands[place:after]
+            head = f"lines {row[0][0].line} to {row[-1][0].line}, {len(row):,} commands: "
+            found.append(head + row_text(like, [call for _, calls in row for call in calls]))
+        place = after
+    return found
+
+
+def row_text(like, calls):
+    """A row of like commands in words."""
+    if like[0] == "looks":
+        return looks_text(calls)
+    dropped = 0
+    if calls[0].reply == "done":
+        dropped = sum(after - first for first, after in (reply_of(call.entry)["drop"] for call in calls))
+    end = f"; {many(dropped, 'unread byte')} dropped in all" if dropped else ""
+    return f"{len(calls):,} times {act_text(calls[0])}: {calls[0].reply if calls[0].reply != 'done' else 'Done'}{end}"
+
+
+# ------ what a client got
+
+
+def got_text(key, got):
+    """What the reads of a node through one filter gave, in words."""
+    number, kind, output, _ = key
+    if kind:
+        of = pids_text(got.pids)
+        through = f"section filter of {of}" if kind == "section" else f"PES filter {output.upper()} of {of}"
+        head = f"{node_name(number)}, {through}: "
+    else:
+        head = f"{node_text(number)}: " if number == DVR else f"{node_text(number)} without a filter: "
+    if not got.with_data:
+        return head + f"no bytes by {many(got.reads, 'read')}"
+    text = head + f"{many(got.bytes, 'byte')} by {got.with_data:,} of {many(got.reads, 'read')}"
+    if kind == "section":
+        return text + f", {many(got.items, 'section')} read to the end" + tables_text(got.tables()) + said_by(got)
+    if number == DVR or output == "tsdemux_tap":
+        return text + f", {many(got.items, 'whole packet')} of {PACKET} bytes"
+    return text + ", payloads" + streams_text(got.streams)
+
+
+def values_text(values):
+    """Numbers in ascending order, of many the first ones."""
+    shown = sorted(values)
+    if len(shown) <= VALUES:
+        return joined(shown)
+    return f"{', '.join(map(str, shown[: VALUES - 1]))} and {len(shown) - VALUES + 1:,} more up to {shown[-1]}"
+
+
+def tables_text(tables):
+    """What stands in the heads of the sections that were read, by table_id and table_id_extension; of many by table_id alone."""
+    texts, tables = [], tables if len(tables) <= TABLES else merged(tables)
+    for (table, _, is_named), values in list(tables.items())[:TABLES]:
+        told = zip(FIELD_NAMES[1:], values[1:])
+        name = table_text(table) if is_named else f"0x{table:02X}"
+        texts.append(", ".join([f"table_id {name}", *(f"{name} {values_text(known)}" for name, known in told if known)]))
+    more = len(tables) - len(texts)
+    return (": " if texts else "") + "; ".join(texts) + (f"; and {more:,} more table_ids" if more > 0 else "")
+
+
+def merged(tables):
+    """What stands in the heads of sections, by table_id."""
+    found = {}
+    for (table, _, is_named), values in tables.items():
+        for known, more in zip(found.setdefault((table, None, is_named), [set() for _ in FIELD_NAMES]), values):
+            known |= more
+    return found
+
+
+def said_by(got):
+    """What the sections say that are tables, each in a line of its own, of many the first ones."""
+    known = [text for text in map(text_of, got.sections) if text]
+    more = [f"And {len(known) - SAID:,} more tables' sections"] if len(known) > SAID else []
+    return "".join(f".\n{text}" for text in known[:SAID] + more)
+
+
+def streams_text(streams):
+    """Which PES packets begin in the payloads that were read."""
+    found = [f"{many(count, 'PES packet')} of stream_id {stream_text(stream)}" for stream, count in sorted(streams.items())]
+    return f", with {joined(found)}" if found else ""
+
+
+def lost_text(line, call, span):
+    """A span that the client never got, in words."""
+    reply, length = reply_of(call.entry), many(span[1] - span[0], "byte")
+    head = f"line {line}, {node_text(call.node)}: {length}, {span[0]}..{span[1]} of the capture, "
+    if call.reply != "overflow":
+        unread = f"unread when {NAMES.get(call.act, call.act)} dropped them"
+        return head + unread + (f", as long as {many(call.repeats, 'section')} of those read before" if call.repeats else "")
+    room = f"item {reply['item']}, counted from 0, needs {many(reply['need'], 'byte')} and found room for {reply['room']:,}"
+    buffer = f"in a buffer of size {call.reason}, which holds {int(call.reason) - 1}"
+    if call.lost.kept:
+        why = f"all items from {reply['item']} on until a read told the Overflow, behind those that KEEP has kept"
+    else:
+        why = "all that was unread at an Overflow"
+    return head + f"{lost_items(call.lost)}{why}: {room}, {buffer}"
+
+
+def lost_items(lost):
+    """How many packets or sections were lost, and which of the stream's packets these are, or brought them."""
+    of = f"{many(lost.packets, 'packet')}, " if lost.packets else f"at least {many(lost.sections, 'section')}, " if lost.sections else ""
+    among = lost.after - lost.first
+    if among <= 0:
+        return of
+    span = f"packet {lost.first}" if among == 1 else f"packets {lost.first} to {lost.after - 1}"
+    if lost.packets:
+        return f"{of}{'' if lost.packets == among else 'among '}the stream's {span}, "
+    return f"{of}brought by {'' if among == 1 else 'packets among '}the stream's {span}, "
+
+
+def waits_text(number, waits):
+    """How often a client waited on a node, in words."""
+    times = waits.passes + waits.ends + waits.others
+    parts = [
+        (waits.passes, "until the feeder had passed a batch"),
+        (waits.ends, "until End had passed"),
+        (waits.others, "until another client had called the node"),
+    ]
+    parts = [(count, until) for count, until in parts if count]
+    texts = [f"{count:,} {until}" if len(parts) > 1 else until for count, until in parts]
+    return f"{lines_text(waits.lines)}, {node_text(number)}: {many(times, 'wait')}, {joined(texts)}"
+
+
+def timed_text(line, call, pid):
+    """A TimedOut in words."""
+    of = f" of {pids_text([pid])}" if pid is not None else ""
+    return f"line {line}, {node_text(call.node)}: the section filter{of}, {expired_text(reply_of(call.entry))}"
+
+
+def refused_texts(refused):
+    """The refusals of a client in words, those with the same reason on the same node together."""
+    groups = {}
+    for line, call in refused:
+        lines = groups.setdefault((call.reply, call.reason, call.node), [])
+        if line not in lines[-1:]:
+            lines.append(line)
+    found = []
+    for (error, reason, number), lines in groups.items():
+        name = "Busy" if error == "busy" else error
+        found.append(f"{lines_text(lines)}, {node_text(number)}: {name}, {reason or 'for which the report alone has no reason'}")
+    return found

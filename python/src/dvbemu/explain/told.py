@@ -1,0 +1,196 @@
+"""A report in sentences: the stream, what each client asked, got, lost and was refused, and the hints; for tools/explain and tools/page."""
+from typing import NamedTuple
+
+from .. import reports
+from . import sentences
+from ..psi.fields import pid_text
+from .hints import hint_text, rule_texts
+from .sentences import asked_texts, got_text, joined, lost_text, many, refused_texts, timed_text, waits_text
+from .story import Story, joints
+
+SHOWN, NULL = 20, 8191
+LOOK = "`dvbemu hint REPORT STREAM` looks at the stream too"
+
+
+class Told(NamedTuple):
+    """A sentence, and how far it is indented."""
+
+    indent: int
+    text: str
+
+
+def wrapped(text, indent):
+    """A sentence as the only one of its rows."""
+    return [Told(indent, text)]
+
+
+class Part(NamedTuple):
+    """What is asked for: a node by its number, a client by its number; None for all."""
+
+    node: int | None = None
+    client: int | None = None
+
+    def of_node(self, number):
+        """Whether this node is asked for."""
+        return self.node is None or number == self.node
+
+    def of_client(self, number):
+        """Whether this client is asked for."""
+        return self.client is None or number == self.client
+
+    def has(self, stumble):
+        """Whether a stumble belongs to it."""
+        return self.of_client(stumble.client) and self.of_node(stumble.node)
+
+
+def pid_row_text(row, is_loop):
+    """What the counters and error bits of a PID say; the breaks may be those of a loop."""
+    breaks = "break where the loop begins again", "breaks where the loop begins again"
+    told = (row.breaks, *(breaks if is_loop else ("break",))), (row.duplicates, "duplicate")
+    found = [many(count, *what) for count, *what in told if count]
+    if row.errors:
+        found.append(f"{row.errors:,} with the error bit")
+    if found:
+        return joined(found)
+    if row.pid == NULL:
+        return "none with the error bit; the counter of null packets says nothing"
+    return "no break, duplicate or error"
+
+
+def stream_lines(report):
+    """What the stream was."""
+    head = f"{many(report.packets, 'packet')}, {many(report.skipped, 'byte')} skipped, {many(report.rest, 'byte')} left over at the end."
+    lines = ["The stream", "", *wrapped(head, 2)]
+    is_loop = joints(report) > 0
+    for row in report.pids:
+        lines += wrapped(f"PID {pid_text(row.pid)}: {many(row.packets, 'packet')}, {pid_row_text(row, is_loop)}.", 2)
+    if report.read_fault:
+        lines += wrapped("Reading failed in the stream: the report is of what was read until then.", 2)
+    return lines
+
+
+def part_lines(title, texts, nothing):
+    """A part of a client's page; of a long one the beginning."""
+    if not texts:
+        return wrapped(f"{title}: {nothing}.", 2)
+    shown = texts if len(texts) <= SHOWN else texts[: SHOWN - 1]
+    lines = wrapped(f"{title}:", 2)
+    for text in shown:
+        first, *others = (text() + ".").split("\n")
+        lines += wrapped(first, 4) + [line for other in others for line in wrapped(other, 6)]
+    return lines + (wrapped(f"And {len(texts) - len(shown):,} more.", 4) if len(texts) > len(shown) else [])
+
+
+def commands_of(client):
+    """Each outcome of a client with its calls."""
+    found, place = [], 0
+    for outcome in client.outcomes:
+        calls = []
+        while place < len(client.calls) and client.calls[place].entry.step < outcome.after:
+            calls.append(client.calls[place])
+            place += 1
+        found.append((outcome, calls))
+    return found
+
+
+def later(function, *arguments):
+    """A text that is made only when it is shown."""
+    return lambda: function(*arguments)
+
+
+def lost_title(lost):
+    """The bytes that were lost, and how many of them may be repeats."""
+    counts = [(after - first, call.repeats) for _, call, (first, after) in lost]
+    count, again = sum(count for count, _ in counts), sum(count for count, repeats in counts if repeats)
+    most = "all" if again == count else f"{again:,}"
+    return f"What was lost, {many(count, 'byte')}" + (f", {most} as long as repeats of what was read" if again else "")
+
+
+def asked_lines(client, part):
+    """What a client asked; of a single node just the commands that called it, with their calls there."""
+    commands = commands_of(client)
+    if part.node is not None:
+        on_node = ((outcome, [call for call in calls if call.node == part.node]) for outcome, calls in commands)
+        commands = [(outcome, calls) for outcome, calls in on_node if calls]
+    lines = wrapped("What it asked:" if commands else "What it asked: nothing.", 2)
+    for text in asked_texts(commands):
+        lines += wrapped(text + ".", 4)
+    return lines
+
+
+def idle_lines(clients):
+    """The page of clients that follow one another and have no command."""
+    first, last = clients[0].number, clients[-1].number
+    if first == last:
+        return ["", f"Client {first}", "", *wrapped("It has no command.", 2)]
+    return ["", f"Clients {first} to {last}", "", *wrapped("They have no command.", 2)]
+
+
+def client_lines(client, part, is_asked=True):
+    """The page of a client with a command; what it asked may be left out."""
+    lines = ["", f"Client {client.number}", ""]
+    got = [later(got_text, key, client.got[key]) for key in sorted(client.got) if part.of_node(key[0])]
+    spans = [row for row in client.lost if part.of_node(row[1].node)]
+    lost = [later(lost_text, *row) for row in spans]
+    waits = [later(waits_text, *pair) for pair in sorted(client.waits.items()) if part.of_node(pair[0])]
+    timed = [later(timed_text, *row) for row in client.timed if part.of_node(row[1].node)]
+    refused = [later(str, text) for text in refused_texts([row for row in client.refused if part.of_node(row[1].node)])]
+    lines += [*asked_lines(client, part), ""] if is_asked else []
+    lines += part_lines("What it got", got, "no read was accepted")
+    lines += part_lines(lost_title(spans) if lost else "What was lost", lost, "nothing")
+    lines += part_lines("What timed out", timed, "nothing")
+    lines += part_lines("Whom it waited for", waits, "nobody")
+    return lines + part_lines("What was refused", refused, "nothing")
+
+
+def hint_lines(story, part):
+    """The hints, those on the stream first, then by client and line."""
+    lines = ["", "Hints", ""]
+    found = [stumble for stumble in story.stumbles.values() if part.has(stumble)]
+    for stumble in sorted(found, key=lambda stumble: (-1, 0) if stumble.client is None else (stumble.client, stumble.lines[0])):
+        lines += wrapped(hint_text(stumble), 2)
+        for text in rule_texts(stumble):
+            lines += wrapped(text, 4)
+    return lines if found else lines + wrapped(f"None: this report shows nothing that they are given for. {LOOK}.", 2)
+
+
+def check_steps(report, story):
+    """Raises NotAReport where the entries' steps aren't just those that the clients' commands made."""
+    line = 2 + len(report.pids)
+    for number, client in sorted(story.clients.items()):
+        if number >= len(report.clients):
+            raise reports.NotAReport(line + 1, f"`client {number}`, of which a node has an entry")
+        line += 1 + len(client.outcomes)
+        made = [call.entry.step for call in client.calls]
+        told = [step for outcome in client.outcomes for step in (outcome.first, outcome.after)]
+        right = not told or (told[0] == 0 and told[1:-1:2] == told[2::2] and told[-1] == len(made))
+        if not right or made != list(range(len(made))) or (made and not told):
+            what = f"the commands of client {number} up to here to have just the steps of its entries"
+            raise reports.NotAReport(line, what)
+
+
+def story_of(report):
+    """A report gone through. Raises NotAReport where its clients' commands have other steps than its entries."""
+    story = Story(report)
+    check_steps(report, story)
+    return story
+
+
+def page(report, part):
+    """The whole page, or a part of it, without the stream."""
+    story = story_of(report)
+    lines = stream_lines(report) if part == Part() else []
+    shown = [client for number, client in sorted(story.clients.items()) if part.of_client(number)
+             and (part.node is None or any(call.node == part.node for call in client.calls))]  # fmt: skip
+    asking = [client for client in shown if client.outcomes]
+    lines += [line for client in asking for line in client_lines(client, part)]
+    lines += idle_lines(shown) if shown and not asking else []
+    return text_of(lines + hint_lines(story, part))
+
+
+def text_of(rows):
+    """Rows as a text, sentences in lines of at most 100 columns."""
+    lines = []
+    for row in rows:
+        lines += sentences.wrapped(row.text, row.indent) if isinstance(row, Told) else [row]
+    return "\n".join(lines).lstrip("\n") + "\n"

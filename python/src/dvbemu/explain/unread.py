@@ -1,0 +1,309 @@
+"""What the entries of one node tell of its captures, its buffer and its unread bytes.
+
+A report doesn't say how many bytes a pass brings. What is told, some entries later, is how many bytes of the capture have
+arrived: by reads, by polls that find nothing, by overflow spans and by what a call drops. Behind the passes between two such
+entries only bounds are known: the sum before, or what reads have given since, and the sum behind. Where a capture of whole packets
+got as many as passed, each pass brought its packets. Before an overflow that a read tells, the fill is the one that the first
+lost item found.
+"""
+from typing import NamedTuple
+
+from .. import reports
+from ..psi.fields import pid_name
+from .walk import KEEP, Answered, Walk
+
+PACKET, ALL_PACKETS, MOST_NAMED = 188, 0x2000, 4
+
+
+class Loss(NamedTuple):
+    """An overflow span: the first place behind which it may have come, the first behind which it has, the place of the read that
+    tells it, and the reply's numbers."""
+
+    first: int
+    sure: int
+    told: int
+    begin: int
+    end: int
+    item: int
+    need: int
+    room: int
+
+
+class Untold(NamedTuple):
+    """An overflow that no read tells: the place where a poll or a drop shows it, and the last place of its capture."""
+
+    first: int
+    sure: int
+    told: int
+
+
+class Step(NamedTuple):
+    """What is known behind an entry of a capture: packets offered, bytes answered, bytes that have arrived at least, and whether
+    an overflow is told to be pending."""
+
+    place: int
+    packets: int
+    answered: int
+    least: int
+    is_over: bool = False
+
+
+class Known(NamedTuple):
+    """An entry behind which the bytes that have arrived are known."""
+
+    place: float
+    packets: int
+    arrived: int
+
+
+class Expiry(NamedTuple):
+    """A timeout: the place where it is over, and the place where a read or a poll tells it."""
+
+    place: int
+    told: int
+
+
+class Drop(NamedTuple):
+    """Unread bytes that a call drops: its place and the span."""
+
+    place: int
+    begin: int
+    end: int
+
+
+class Capture(Answered):
+    """A capture: its first place and, where it has ended, the place of the call that ended it; `quiet` is where it takes no
+    further packets, by a stop or a timeout; `labels` has what it takes from which place on, in words and in fewer; `keeps` says
+    that the filter was set with KEEP; `over` is the place where its timeout may be over."""
+
+    def __init__(self, begin, words, kind, label):
+        super().__init__()
+        self.begin, self.end, self.quiet, self.words, self.kind = begin, None, None, words, kind
+        self.labels = [(begin, label)]
+        self.over, self.expiry, self.losses = None, None, []
+        self.packets, self.told_packets = 0, 0
+        self.known, self.steps = [Known(begin, 0, 0)], [Step(begin, 0, 0, 0)]
+        self.clear, self.pending, self.keeps = 0, None, False
+
+    def keep(self, place, least=0, is_over=False):
+        """Keeps what is known behind an entry."""
+        self.steps.append(Step(place, self.packets, self.answered, max(least, self.answered), is_over))
+
+    def know(self, place, arrived):
+        """Keeps that just so many bytes have arrived."""
+        self.known.append(Known(place, self.packets, arrived))
+
+    def tell(self, place, least=0, is_over=False, is_empty=True):
+        """Keeps what a read or a poll tells: that an overflow is pending, that none is, or neither where with KEEP bytes come first."""
+        self.keep(place, least, is_over)
+        self.told_packets = self.packets
+        if not is_over and (is_empty or not self.keeps):
+            self.clear = len(self.steps) - 1
+
+    def lose(self, place, reply):
+        """Keeps an overflow span with the number of the last step behind which none was pending, and that of the read's."""
+        begin, end = reply["span"]
+        loss = Loss(place, place, place, begin, end, reply["item"], reply["need"], reply["room"])
+        self.losses.append((self.clear, len(self.steps), loss))
+        self.pending = None
+
+
+class History(Walk):
+    """A node's captures, its size behind each entry, and the least and the most bytes that may be unread behind each entry (None
+    where nothing tells them)."""
+
+    def __init__(self, node, entries):
+        super().__init__(node)
+        self.entries = entries
+        self.sizes, self.captures, self.drops = [], [], []
+        for entry in entries:
+            self.take(entry, reports.act_of(entry), reports.reply_of(entry))
+            self.sizes.append(self.size)
+        self.low, self.high = [0] * len(entries), [0] * len(entries)
+        for capture in self.captures:
+            self.fill(capture)
+
+    def losses(self):
+        """All overflow spans, and the overflows that no read tells."""
+        return [loss for capture in self.captures for loss in capture.losses]
+
+    def expiries(self):
+        """All timeouts that are told."""
+        return [capture.expiry for capture in self.captures if capture.expiry]
+
+    def take(self, entry, act, reply):
+        """Takes the next entry."""
+        name = act["name"]
+        if name == "pass":
+            self.take_pass(entry, act)
+        elif name == "read":
+            self.take_read(entry, act, reply)
+        elif name == "poll":
+            self.take_poll(entry, act, reply)
+        elif reply["name"] == "done":
+            self.accept(entry, act, reply)
+
+    def note_moment(self, entry, act):
+        """Notes the first entry at which the timeout may be over."""
+        capture = self.capture
+        if self.due is not None and capture.over is None and capture.quiet is None and act["at"] >= self.due:
+            capture.over = entry.place
+
+    def take_pass(self, entry, act):
+        """A batch passes, of the stream or of what a client has written."""
+        if self.capture and self.capture.quiet is None:
+            self.note_moment(entry, act)
+            is_taken = act["input"] == (self.filter or {}).get("input", "frontend")
+            self.capture.packets += act["count"] if is_taken else 0
+            self.capture.keep(entry.place)
+
+    def take_read(self, entry, act, reply):
+        """A read and what it tells."""
+        capture, name = self.capture, reply["name"]
+        if capture is None or name in reports.REFUSALS:
+            return
+        self.note_moment(entry, act)
+        if name == "overflow":
+            capture.know(entry.place, reply["span"][1])
+            capture.lose(entry.place, reply)
+            capture.skip_to(reply["span"][1])
+        elif name == "timedout":
+            self.expire(entry)
+        elif name == "data":
+            capture.give(reply["length"])
+            if capture.kind != "section" and not capture.keeps and reply["length"] < act["count"]:
+                capture.know(entry.place, capture.answered)
+        else:
+            capture.know(entry.place, capture.answered)
+        capture.tell(entry.place, is_empty=name != "data")
+
+    def take_poll(self, entry, act, reply):
+        """A poll and what it tells."""
+        capture = self.capture
+        if capture is None or reply["name"] != "ready":
+            return
+        self.note_moment(entry, act)
+        if reply["error"] == "timedout":
+            self.expire(entry)
+        if reply["error"] == "overflow" and capture.pending is None:
+            capture.pending = entry.place
+        if reply["readable"] == 0:
+            capture.know(entry.place, capture.answered)
+        has_more = reply["readable"] == 1 and reply["error"] == "none"
+        capture.tell(entry.place, capture.answered + has_more, reply["error"] == "overflow", not has_more)
+
+    def expire(self, entry):
+        """The timeout is told here."""
+        capture = self.capture
+        if capture.expiry is None:
+            place = entry.place if capture.over is None else capture.over
+            capture.expiry = Expiry(place, entry.place)
+            capture.quiet = capture.quiet or place
+
+    def begin_capture(self, entry):
+        """A capture begins: of the filter, or on the dvr node of what the taps name."""
+        kind = "dvr"
+        if self.number != reports.DVR:
+            kind = self.filter["name"] if self.filter["name"] == "section" else self.filter["output"]
+        label = ("tapped packets", "tapped") if kind == "dvr" else pids_labels(self.pids)
+        self.capture = Capture(entry.place, entry.act, kind, label)
+        self.capture.keeps = kind != "dvr" and bool(self.filter["flags"] & KEEP)
+        self.captures.append(self.capture)
+
+    def change_pids(self, entry, act):
+        """Another PID, or one less; a capture takes them from here on."""
+        if self.capture:
+            self.capture.labels.append((entry.place, pids_labels(self.pids)))
+
+    def stop(self, entry):
+        """The capture takes no further packets."""
+        if self.capture:
+            self.capture.quiet = self.capture.quiet or entry.place
+
+    def end_capture(self, entry, reply):
+        """The capture ends, where there is one, and its unread bytes are dropped."""
+        begin, end = reply["drop"]
+        if end > begin:
+            self.drops.append(Drop(entry.place, begin, end))
+        if self.capture:
+            if end - begin >= (self.sizes[-1] or 1) and self.capture.pending is None:
+                self.capture.pending = entry.place
+            self.capture.know(entry.place, end)
+            self.capture.told_packets = self.capture.packets
+            self.capture.end = entry.place
+        self.capture = None
+
+    # ------ the bytes unread
+
+    def fill(self, capture):
+        """Fills in the bytes unread behind each entry of a capture, and where its overflow spans are drawn from."""
+        last = len(self.entries) if capture.end is None else capture.end
+        bounds = [(low - step.answered, high - step.answered) for step, (low, high) in zip(capture.steps, bounds_of(capture))]
+        capture.losses = [self.fill_before(loss, capture, bounds) for loss in capture.losses]
+        if capture.pending is not None:
+            capture.losses.append(Untold(capture.pending, capture.pending, min(last, len(self.entries) - 1)))
+        places = [step.place for step in capture.steps] + [last]
+        for number, step in enumerate(capture.steps):
+            is_told = step.packets <= capture.told_packets or capture.kind == "ts_tap"
+            low, high = (self.within(level, step.place) if is_told else None for level in bounds[number])
+            place, until = places[number : number + 2]
+            self.low[place:until], self.high[place:until] = [low] * (until - place), [high] * (until - place)
+
+    def within(self, level, place):
+        """A level that the buffer can have at this place."""
+        return max(0, min(level, (self.sizes[place] or 1) - 1))
+
+    def fill_before(self, kept, capture, bounds):
+        """The overflow span with the places behind which it may have come and has come: the buffer is as full then as it says, and
+        from then on only what is read leaves it; with KEEP it holds what comes before the span."""
+        clear, told, loss = kept
+        full = (self.sizes[loss.told] or 1) - 1 - loss.room
+        most = [loss.begin - step.answered if capture.keeps else full for step in capture.steps]
+        between = range(clear + 1, told)
+        last = max(clear + 1, told - 1)
+        sure = next((number for number in between if bounds[number][0] > most[number] or capture.steps[number].is_over), last)
+        first = min(sure, next((number for number in between if bounds[number][1] > most[number]), last))
+        for number in range(first, told):
+            read = capture.steps[number].answered - capture.steps[min(first, told - 1)].answered
+            left = most[number] if capture.keeps else full - read
+            bounds[number] = (left if number >= sure else min(bounds[number][0], left), left)
+        first, sure = (capture.steps[min(number, told)].place for number in (first, sure))
+        return loss._replace(first=first, sure=sure)
+
+
+def pids_labels(pids):
+    """PIDs in a few words, and shorter for where there is less room."""
+    names = ["all packets" if pid == ALL_PACKETS else pid_name(pid) for pid in sorted(pids)]
+    if not pids:
+        return "no PID", "none"
+    if len(pids) == 1:
+        return names[0] if ALL_PACKETS in pids else f"PID {names[0]}", names[0].partition(" (")[0]
+    short = f"{len(pids)} PIDs"
+    return f"PIDs {', '.join(names)}" if len(pids) <= MOST_NAMED else short, short
+
+
+def bounds_of(capture):
+    """The least and the most bytes that may have arrived behind each step."""
+    known = [*capture.known, Known(float("inf"), capture.told_packets, capture.answered)]
+    least, found, here = {}, [], 0
+    for step in capture.steps:
+        least[step.packets] = max(least.get(step.packets, 0), step.least)
+    for step in capture.steps:
+        while known[here + 1].place <= step.place:
+            here += 1
+        found.append(bounds_at(step, known[here], known[here + 1], least, capture.kind in ("dvr", "tsdemux_tap")))
+    return found
+
+
+def bounds_at(step, before, after, least, is_whole):
+    """The bounds behind a step between two entries that tell how many bytes have arrived; least has the bytes that reads show to
+    have come with so many packets."""
+    if step.packets <= before.packets:
+        low = high = before.arrived
+    elif step.packets >= after.packets:
+        low = high = after.arrived
+    elif is_whole and after.arrived - before.arrived == PACKET * (after.packets - before.packets):
+        low = high = before.arrived + PACKET * (step.packets - before.packets)
+    else:
+        low, high = max(before.arrived, least[step.packets]), after.arrived
+    return max(low, step.least), max(high, step.least)

@@ -1,0 +1,147 @@
+"""A report as objects of JSON, one for each of its lines behind the first, and back: docs/JSON.md has their form."""
+import json
+from functools import lru_cache
+
+from . import reports
+
+TAPS = ("keep", "detach")
+
+
+class NoObjects(Exception):
+    """A text that is no report as JSON Lines: the number of the line and what is wrong there."""
+
+    def __init__(self, line, what):
+        super().__init__(f"line {line}: {what}")
+
+
+# ------ from a report
+
+
+def plain(name, value):
+    """What stands at a place of an act or a reply, as JSON has it."""
+    if name == "bytes":
+        return [{"place": place, "filter": three[0], "mask": three[1], "mode": three[2]} for place, three in value.items()]
+    if name == "node":
+        return f"n{value}"
+    return list(value) if isinstance(value, tuple) else value
+
+
+@lru_cache(65536)
+def act_text(act):
+    """An act, as the text of an object."""
+    return json.dumps({name: plain(name, value) for name, value in reports.read_act(act).items()})
+
+
+def reply_text(reply):
+    """A reply, as the text of an object."""
+    if reply.startswith("data "):
+        return f'{{"name": "data", "data": "{"" if reply == "data -" else reply[5:]}"}}'
+    return other_text(reply)
+
+
+@lru_cache(65536)
+def other_text(reply):
+    """Every other reply, as the text of an object."""
+    return json.dumps({name: plain(name, value) for name, value in reports.read_reply(reply).items()})
+
+
+def command_text(client, outcome):
+    """A command, as the text of an object."""
+    found = {"kind": "command", "client": f"c{client}", "line": outcome.line, "steps": [outcome.first, outcome.after]}
+    name, *words = outcome.kind.split(" ")
+    numbers = (word.split("=") for word in words)
+    return json.dumps({**found, "outcome": name, **{place: int(number) for place, number in numbers}})
+
+
+def texts_of(report):
+    """The lines of JSON that a report is."""
+    yield json.dumps({"kind": "stream", "format": reports.FORMAT, "packets": report.packets, "skipped": report.skipped, "rest": report.rest})
+    for row in report.pids:
+        yield json.dumps({"kind": "pid", **row._asdict()})
+    for client, outcomes in enumerate(report.clients):
+        yield json.dumps({"kind": "client", "client": f"c{client}"})
+        for outcome in outcomes:
+            yield command_text(client, outcome)
+    for node, entries in report.nodes.items():
+        name = reports.node_name(node)
+        yield json.dumps({"kind": "node", "node": name})
+        for entry in entries:
+            head = f'{{"kind": "entry", "node": "{name}", "place": {entry.place}, "who": "{entry.who}", "step": {entry.step}, '
+            yield f'{head}"act": {act_text(entry.act)}, "reply": {reply_text(entry.reply)}}}'
+    yield json.dumps({"kind": "end", "read_failed": report.read_fault})
+
+
+# ------ and back
+
+# The lines that stand under a client or a node, which they name.
+UNDER = {"command": "client", "entry": "node"}
+
+
+def word_of(name, value):
+    """What JSON has at a place, as a report writes it."""
+    if name == "node":
+        return node_text(value)
+    if name in ("pids", "tap") and isinstance(value, list):
+        return ("attach:" if name == "tap" else "") + (",".join(map(str, value)) or "-")
+    return f"{value[0]}..{value[1]}" if name in ("drop", "span") else str(value)
+
+
+def node_text(name):
+    """A node as a report names it."""
+    return name if name == "dvr" else name.removeprefix("n")
+
+
+def words_of(found, forms):
+    """An act or a reply as a report writes it."""
+    name = found["name"]
+    words = [name]
+    for place in forms[name]:
+        key = place.rstrip("=")
+        words.append((place if place.endswith("=") else "") + word_of(key, found[key]))
+    for one in found.get("bytes", ()):
+        words.append(f"{one['place']}={one['filter']:02x}/{one['mask']:02x}/{one['mode']:02x}")
+    return " ".join(words)
+
+
+def reply_words(reply):
+    """A reply as a report writes it."""
+    return f"data {reply['data'] or '-'}" if reply["name"] == "data" else words_of(reply, reports.REPLIES)
+
+
+def outcome_words(found):
+    """What became of a command, as a report writes it."""
+    return f"stc base={found['base']} value={found['value']}" if found["outcome"] == "stc" else found["outcome"]
+
+
+WRITE = {
+    "stream": lambda found: f"{found['format']}\npackets={found['packets']} skipped={found['skipped']} rest={found['rest']}",
+    "pid": lambda found: f"pid {found['pid']} packets={found['packets']} breaks={found['breaks']} duplicates={found['duplicates']} "
+    f"errors={found['errors']}",
+    "client": lambda found: f"client {found['client'].removeprefix('c')}",
+    "command": lambda found: f"line {found['line']} steps {found['steps'][0]}..{found['steps'][1]} {outcome_words(found)}",
+    "node": lambda found: f"node {node_text(found['node'])}",
+    "entry": lambda found: f"{found['place']} {found['who']} {found['step']} {words_of(found['act'], reports.ACTS)} = "
+    f"{reply_words(found['reply'])}",
+    "end": lambda found: "fault read" if found["read_failed"] else "end",
+}
+
+
+def back(lines):
+    """The lines of the report that lines of JSON are, without their line feeds."""
+    under = {}
+    for line, text in enumerate(lines, 1):
+        try:
+            found = json.loads(text)
+            written = WRITE[found["kind"]](found)
+            if found["kind"] in ("client", "node"):
+                under = {found["kind"]: found[found["kind"]]}
+            elif found["kind"] in UNDER and found[UNDER[found["kind"]]] != under.get(UNDER[found["kind"]]):
+                raise KeyError(f"{UNDER[found['kind']]} isn't the one above")
+            yield written
+        except RecursionError:
+            raise NoObjects(line, "no line of a report: too much stands within one another") from None
+        except ValueError as wrong:
+            what = "this is a report, and json without --back writes its JSON Lines" if text == f"{reports.FORMAT}\n" else wrong
+            raise NoObjects(line, f"no object of JSON: {what}") from None
+        except (KeyError, TypeError, IndexError, AttributeError) as wrong:
+            raise NoObjects(line, f"no line of a report, {type(wrong).__name__}: {wrong}") from None

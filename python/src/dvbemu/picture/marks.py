@@ -1,0 +1,304 @@
+"""The marks of tools/picture, the rows that they stand in, and the legend."""
+import textwrap
+
+from .. import reports
+from .svg import (
+    BLACK, BLUE, GREEN, GREY, LEAST_WIDTH, MIDDLE, ORANGE, PALE, PURPLE, RED, SIGN, SKY, SMALL, WHITE, YELLOW, circle, counted,
+    grouped, heading, path, rect, short_number, side, text, upright, width_of,
+)
+
+ROW = 18
+WORDS_AT_ONCE = 8
+
+
+def words_of(things, say):
+    """What a title says of several things."""
+    said = [say(thing) for thing in things[:WORDS_AT_ONCE]]
+    more = len(things) - len(said)
+    return "\n".join(([f"{len(things)} here:"] if len(things) > 1 else []) + said + ([f"and {more} more"] if more else []))
+
+
+def reply_words(reply_text):
+    """A reply, where data is told by its length."""
+    if reply_text.startswith("data "):
+        length = reports.read_reply(reply_text)["length"]
+        return f"data of {counted(length, 'byte')}"
+    return reply_text
+
+
+def entry_words(entry):
+    """What an entry is, in words for a title."""
+    return f"{entry.place} {entry.who} {entry.step} {entry.act} = {reply_words(entry.reply)}"
+
+
+# ------ marks
+
+
+def data_mark(x, y):
+    """A filled dot."""
+    return [circle(x, y, 4, f'fill="{BLUE}"')]
+
+
+def again_mark(x, y):
+    """A hollow dot."""
+    return [circle(x, y, 3.5, f'fill="{WHITE}" stroke="{BLUE}" stroke-width="1.5"')]
+
+
+def overflow_mark(x, y):
+    """A diamond."""
+    return [path([("M", x, y - 6), ("L", x + 6, y), ("L", x, y + 6), ("L", x - 6, y), ("Z",)], f'fill="{RED}"')]
+
+
+def timeout_mark(x, y):
+    """An hourglass."""
+    steps = [("M", x - 5, y - 5), ("L", x + 5, y - 5), ("L", x - 5, y + 5), ("L", x + 5, y + 5), ("Z",)]
+    return [path(steps, f'fill="{PURPLE}" stroke="{BLACK}" stroke-width="0.7"')]
+
+
+def drop_mark(x, y):
+    """A triangle that points down."""
+    steps = [("M", x - 5, y - 4), ("L", x + 5, y - 4), ("L", x, y + 5), ("Z",)]
+    return [path(steps, f'fill="{ORANGE}" stroke="{BLACK}" stroke-width="0.7"')]
+
+
+def refused_mark(x, y):
+    """A cross."""
+    look = f'stroke="{BLACK}" stroke-width="2" fill="none"'
+    return [path([("M", x - 4, y - 4), ("L", x + 4, y + 4), ("M", x - 4, y + 4), ("L", x + 4, y - 4)], look)]
+
+
+def ready_mark(x, y):
+    """A filled square."""
+    return [rect(x - 3.5, y - 3.5, 7, 7, f'fill="{GREEN}"')]
+
+
+def not_ready_mark(x, y):
+    """A hollow square."""
+    return [rect(x - 3, y - 3, 6, 6, f'fill="{WHITE}" stroke="{GREEN}" stroke-width="1.5"')]
+
+
+def played_mark(x, y):
+    """A triangle that points to the right."""
+    steps = [("M", x - 4, y - 5), ("L", x + 5, y), ("L", x - 4, y + 5), ("Z",)]
+    return [path(steps, f'fill="{YELLOW}" stroke="{BLACK}" stroke-width="0.7"')]
+
+
+def pill(x, y, words, fill, stroke, ink):
+    """A rounded box with a few characters."""
+    look = f'rx="4" fill="{fill}" stroke="{stroke}"'
+    return [rect(x - 11, y - 7, 22, 14, look), text(x, y + 3.3, words, SMALL, f'{MIDDLE} fill="{ink}"')]
+
+
+def call_mark(x, y):
+    """A rounded box."""
+    return [rect(x - 5, y - 5, 10, 10, f'rx="3" fill="{PALE}" stroke="{GREY}"')]
+
+
+# ------ rows
+
+
+class Row:
+    """A row of marks of one kind: its name at the left, the entries, how one is drawn, the colours of a count, and what is
+    written beside a mark where there is room. An entry comes with its column."""
+
+    height = ROW
+
+    def __init__(self, name, entries, mark, colours, beside=lambda entry: ""):
+        self.name, self.entries, self.mark, self.colours, self.beside = name, entries, mark, colours, beside
+        self.key, self.left_out = "call" if name in CALLS else name, False
+
+    def draw(self, axis, y):
+        """The marks, in the middle of a row that begins at y; marks in the same cell are counted."""
+        found, middle = [side(y + 12, self.name)], y + ROW / 2
+        cells = axis.gather(self.entries, lambda thing: thing[0])
+        behind = [axis.cell_middle(cell) for cell, _ in cells[1:]] + [axis.right + 40]
+        for (cell, things), next_x in zip(cells, behind):
+            x, entries = axis.cell_middle(cell), [entry for _, entry in things]
+            shapes = self.mark(x, middle) if len(entries) == 1 else pill(x, middle, short_number(len(entries)), *self.colours)
+            words = self.beside(entries[0]) if len(entries) == 1 else ""
+            fits = x + 6 + width_of(words, SMALL) <= min(next_x - 8, axis.end_of_strip(x) + 4)
+            self.left_out = self.left_out or bool(words) and not fits
+            shapes += [text(x + 6, middle + 3, words if fits else SIGN, SMALL)] if words else []
+            found += grouped(shapes, words_of(entries, entry_words))
+        return found
+
+
+class WordRow(Row):
+    """A row of boxes with a word each: calls with their names, or refusals with their errors."""
+
+    def __init__(self, name, entries, word, look):
+        super().__init__(name, entries, None, None)
+        self.word, self.look, self.key = word, look, f"{name} in words"
+
+    def draw(self, axis, y):
+        """The boxes; each has a column of its own, unless several nodes share the row."""
+        found, wide = [side(y + 12, self.name)], axis.cell_width() - 1.5
+        for cell, things in axis.gather(self.entries, lambda thing: thing[0]):
+            x, entries = axis.cell_middle(cell), [entry for _, entry in things]
+            more = f" x{len(entries)}" if len(entries) > 1 else ""
+            found.append(rect(x - wide / 2, y + 2, wide, 14, f'rx="3" {self.look}', words_of(entries, entry_words)))
+            said = self.word(entries[0]) + more
+            said = said if width_of(said, SMALL) <= wide else f"{len(entries)}{SIGN}"
+            found.append(text(x, y + 12, said, SMALL, MIDDLE))
+        return found
+
+
+class UprightRow(Row):
+    """A row of boxes with the names of calls, upright, one or two a cell."""
+
+    height = 46
+
+    def __init__(self, entries):
+        super().__init__("calls", entries, None, None)
+        self.key = "calls in words"
+
+    @staticmethod
+    def holds(axis, entries):
+        """Whether no cell has more names than it has room for."""
+        cells = axis.gather(entries, lambda thing: thing[0])
+        return all(len({name_of(entry) for _, entry in things}) <= 2 for _, things in cells)
+
+    def draw(self, axis, y):
+        """The boxes."""
+        found, wide = [side(y + 20, self.name)], axis.cell_width() - 1.5
+        for cell, things in axis.gather(self.entries, lambda thing: thing[0]):
+            x, entries = axis.cell_middle(cell), [entry for _, entry in things]
+            names = counts_of(map(name_of, entries))
+            found.append(rect(x - wide / 2, y + 1, wide, 43, f'rx="3" {CALL_LOOK}', words_of(entries, entry_words)))
+            places = [x] if len(names) == 1 else [x - 5.5, x + 5.5]
+            for at, (name, count) in zip(places, names.items()):
+                said = name if count == 1 else f"{name} x{count}"
+                found.append(upright(at, y + 22.5, said if width_of(said, SMALL) <= 43 else f"{name[:3]} x{count}", SMALL))
+        return found
+
+
+def counts_of(names):
+    """How often each name comes, in the order of the first of each."""
+    found = {}
+    for name in names:
+        found[name] = found.get(name, 0) + 1
+    return found
+
+
+CALLS = ("open", "close", "section", "pes", "add", "remove", "start", "stop", "size", "attach", "detach")
+CALL_LOOK, REFUSED_LOOK = f'fill="{PALE}" stroke="{GREY}"', f'fill="{WHITE}" stroke="{BLACK}" stroke-width="1.2"'
+MARKS = {
+    "data": (data_mark, (BLUE, BLUE, WHITE), "read: data"),
+    "again": (again_mark, (WHITE, BLUE, BLACK), "read: again"),
+    "overflow": (overflow_mark, (RED, RED, WHITE), "read: overflow"),
+    "timed out": (timeout_mark, (PURPLE, BLACK, BLACK), "read: timed out"),
+    "readable": (ready_mark, (GREEN, GREEN, WHITE), "poll: readable"),
+    "not readable": (not_ready_mark, (WHITE, GREEN, BLACK), "poll: not readable"),
+    "refused": (refused_mark, (WHITE, BLACK, BLACK), "refused or busy"),
+    "dropped": (drop_mark, (ORANGE, BLACK, BLACK), "call that drops unread bytes"),
+    "played": (played_mark, (YELLOW, BLACK, BLACK), "packets that a client has written pass"),
+}
+
+
+def name_of(entry):
+    """The name of an entry's call."""
+    return entry.act.partition(" ")[0]
+
+
+def error_of(entry):
+    """The name of an entry's reply."""
+    return entry.reply.partition(" ")[0]
+
+
+def dropped_bytes(entry):
+    """How many unread bytes a Done drops."""
+    begin, end = reports.reply_of(entry)["drop"]
+    return end - begin
+
+
+BESIDE = {"data": lambda entry: str(reports.reply_of(entry)["length"]), "dropped": lambda entry: str(dropped_bytes(entry))}
+
+
+def kinds_of(entry):
+    """The rows that a client's entry stands in."""
+    first = error_of(entry)
+    if first in reports.REFUSALS or first == "busy":
+        return ["refused"]
+    if first == "ready":
+        return ["readable" if " readable=1" in entry.reply else "not readable"]
+    if first == "passed":
+        return ["played"]
+    if entry.act.startswith("read "):
+        return ["timed out" if first == "timedout" else first]
+    return ["dropped", "call"] if dropped_bytes(entry) else ["call"]
+
+
+def rows_of(placed, axis):
+    """The rows of marks of the entries, which come with their columns, without the empty ones."""
+    found = {kind: [] for kind in [*MARKS, "call"]}
+    for column, entry in placed:
+        if entry.who != "feed":
+            for kind in kinds_of(entry):
+                found[kind].append((column, entry))
+    calls, has_room = found.pop("call"), axis.cell_width() >= 41
+    rows = [Row(kind, things, *MARKS[kind][:2], BESIDE.get(kind, lambda entry: "")) for kind, things in found.items() if things]
+    if not has_room and calls and UprightRow.holds(axis, calls):
+        return [*rows, UprightRow(calls)]
+    if not has_room:
+        by_name = [(name, [thing for thing in calls if name_of(thing[1]) == name]) for name in CALLS]
+        return rows + [Row(name, things, call_mark, (PALE, GREY, BLACK)) for name, things in by_name if things]
+    rows = [WordRow("refused", row.entries, error_of, REFUSED_LOOK) if row.name == "refused" else row for row in rows]
+    return rows + ([WordRow("calls", calls, name_of, CALL_LOOK)] if calls else [])
+
+
+# ------ the legend
+
+
+BOXES = {
+    "unread": (f'fill="{SKY}"', "bytes unread"),
+    "perhaps": (f'fill="{SKY}" fill-opacity="0.35"', "bytes that may have come by then"),
+    "lost": (f'fill="{RED}" fill-opacity="0.2" stroke="{RED}"', "overflow, up to the read that tells it"),
+    "perhaps lost": (f'fill="{RED}" fill-opacity="0.1" stroke="{RED}" stroke-dasharray="2 2"', "overflow by then, perhaps"),
+    "untold": ('fill="url(#untold)"', "bytes unread that nothing tells"),
+    "capture": (f'fill="{GREEN}" fill-opacity="0.45" stroke="{GREEN}"', "capture"),
+    "quiet": (f'fill="{GREEN}" fill-opacity="0.12" stroke="{GREEN}"', "capture without further packets"),
+    "expiry": (f'fill="{PURPLE}" stroke="{PURPLE}"', "timeout is over: from here on nothing is taken"),
+    "refused in words": (REFUSED_LOOK, "call that is refused or busy"),
+    "calls in words": (CALL_LOOK, "call that is done"),
+    "call": (CALL_LOOK, "call that is done, named at the left"),
+    "done": (CALL_LOOK, "command"),
+    "refused command": (REFUSED_LOOK, "command whose last call is refused or busy"),
+    "EMFILE": (f'fill="{RED}" fill-opacity="0.5" stroke="{RED}"', "command with EMFILE"),
+    "unbound": (f'fill="{YELLOW}" stroke="{GREY}"', "command on an unbound slot"),
+    "nostc": (f'fill="{YELLOW}" fill-opacity="0.5" stroke="{GREY}"', "system time counter that there is none of"),
+}
+NOTES = {
+    "size line": "Line: the buffer's size; where it is dotted, the size is above the scale.",
+    "perhaps": "A report doesn't tell how many bytes a batch brings, only, later, how many had come: where several batches may "
+    "have brought them, they are drawn in full from the last of these on and pale from the first.",
+    "sign": f"{SIGN} stands for a number that has no room; the mark's title has it.",
+    "count": "A number in a mark: so many here. Where several entries share a point of the area, it is full up to their least and "
+    "pale up to their most.",
+}
+
+
+def legend(used, y):
+    """What the marks mean that are used, from the height y on, and the height of its end."""
+    found, x, row = [heading(8, y + 14, "legend")], 20, y + 34
+    shown = [(mark, words) for kind, (mark, _, words) in MARKS.items() if kind in used]
+    looks = {}
+    for kind, (look, words) in BOXES.items():
+        if kind in used:
+            looks.setdefault(look, []).append(words)
+    shown += [(box_mark(look), "; ".join(words)) for look, words in looks.items()]
+    for mark, words in shown:
+        if x + 14 + width_of(words, 10) > LEAST_WIDTH:
+            x, row = 20, row + 18
+        found += mark(x, row - 3) + [text(x + 11, row, words, 10)]
+        x += 36 + width_of(words, 10)
+    row += 4
+    for kind, words in NOTES.items():
+        for part in textwrap.wrap(words, 115) if kind in used else ():
+            row += 15
+            found.append(text(14, row, part, 10, f'fill="{GREY}"'))
+    return found, row + 16
+
+
+def box_mark(look):
+    """A mark that is a box of this look."""
+    return lambda x, y: [rect(x - 7, y - 6, 14, 10, look)]

@@ -1,0 +1,1 @@
+"""Tables of MPEG and DVB: fields, descriptors and texts."""

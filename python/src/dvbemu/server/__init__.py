@@ -1,0 +1,1 @@
+"""The server of `dvbemu serve`, and what runs beside it."""

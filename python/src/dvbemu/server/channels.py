@@ -1,0 +1,155 @@
+"""What is on the air: which recording plays at which frequency, for whom; and the frontend's page, which preload/frontend.c has
+too."""
+import mmap
+import os
+import re
+import struct
+
+from .recording import Recording, Unplayable
+
+# The delivery systems, by the numbers of linux/dvb/frontend.h.
+SYSTEMS = {"DVBC": 1, "DVBCB": 2, "DVBT": 3, "DVBS": 5, "DVBS2": 6, "ISDBT": 8, "ATSC": 11, "DVBT2": 16}
+SATELLITE, TERRESTRIAL, WITH_STREAMS, ANY_STREAM, FIRST = (5, 6), (3,), (6, 16), 0xFFFFFFFF, {6: 5, 16: 3}
+LINE = re.compile(r"(\d+)(?::([A-Za-z0-9/-]+?))?(?::([HVLR]))?=(.+)")
+# Below this many Hz, and of a satellite kHz, nothing is sent: such a number is one of MHz.
+LEAST = 100_000
+# How far a tuner may be off, in Hz, and for a satellite in kHz; and the converters' oscillators in kHz: for the lower band, the upper
+# band, which a tone chooses, and that of C band, above its signals.
+NEAR, NEAR_KHZ, LOW, HIGH, C_BAND, HIGHEST_IF = 2_000_000, 2_000, 9_750_000, 10_600_000, 5_150_000, 3_000_000
+# What a frontend tells: signal, carrier, viterbi, sync and lock; or a signal alone.
+LOCKED, SIGNAL, NOTHING = 0x1F, 0x01, 0x00
+TONE_ON, VOLTAGE_OFF = 0, 2
+
+
+class Channel:
+    """A recording at a frequency: in Hz, or in kHz for a satellite. A frequency of None is any."""
+
+    def __init__(self, frequency, systems, polarisation, recording):
+        self.frequency, self.systems, self.polarisation, self.recording = frequency, systems, polarisation, recording
+
+    def is_near(self, asked):
+        """Whether a frontend that is set so finds a signal."""
+        if self.frequency is None:
+            return True
+        if asked.system not in SATELLITE:
+            return not self.polarisation and abs(asked.frequency - self.frequency) <= NEAR
+        band = HIGH if asked.tone == TONE_ON else LOW
+        wanted = (self.frequency,) if self.frequency < HIGHEST_IF else (self.frequency - band, C_BAND - self.frequency)
+        if not any(abs(asked.frequency - one) <= NEAR_KHZ for one in wanted):
+            return False
+        return not self.polarisation or asked.voltage == VOLTAGE_OFF or self.polarisation in ("VR", "HL")[asked.voltage & 1]
+
+    def status(self, asked):
+        """What the frontend tells of it, which is the stream 0 where a system has several at a frequency."""
+        is_stream = asked.system not in WITH_STREAMS or asked.stream in (0, ANY_STREAM)
+        return LOCKED if is_stream and (not self.systems or asked.system in self.systems) else SIGNAL
+
+
+class Asked:
+    """A tuning that a program has asked for."""
+
+    def __init__(self, frequency, system, voltage, tone, stream):
+        self.frequency, self.system, self.voltage, self.tone, self.stream = frequency, system, voltage, tone, stream
+
+    def words(self):
+        name = next((name for name, number in SYSTEMS.items() if number == self.system), str(self.system))
+        if self.system not in SATELLITE:
+            return f"{self.frequency} {name}"
+        return f"{self.frequency} {name} {'VH-'[min(self.voltage, 2)]} {'high' if self.tone == TONE_ON else 'low'}"
+
+
+def channel_of(word, rate):
+    """The channel of a word HZ[:SYSTEM][:POL]=FILE."""
+    found = LINE.fullmatch(word)
+    if not found:
+        raise Unplayable(f"{word}: HZ[:SYSTEM][:H|V|L|R]=FILE is wanted")
+    system = found[2] and found[2].upper().replace("-", "").replace("/", "")
+    if system in ("H", "V", "L", "R"):
+        system, polarisation = None, system
+    else:
+        polarisation = found[3]
+    if system is not None and system not in SYSTEMS:
+        raise Unplayable(f"{word}: {found[2]} is none of {', '.join(SYSTEMS)}")
+    systems = (SYSTEMS[system],) if system else SATELLITE if polarisation else ()
+    if polarisation and not set(systems) <= set(SATELLITE):
+        raise Unplayable(f"{word}: {system} has no polarisation")
+    frequency, recording = int(found[1]), Recording(found[4], rate)
+    if frequency < LEAST:
+        recording.told.append(f"{word}: {frequency} is taken as {frequency} MHz")
+        frequency *= 1_000 if set(systems) & set(SATELLITE) else 1_000_000
+    return Channel(frequency, systems, polarisation, recording)
+
+
+def lines_in(path):
+    """The lines of a file of channels, where it is one: without comments, which begin with `#`, and with paths as from its folder."""
+    try:
+        with open(path, encoding="utf-8") as file:
+            lines = [line.strip() for line in file.read(1 << 20).split("\n")]
+    except (OSError, UnicodeDecodeError):
+        return None
+    lines = [line for line in lines if line and not line.startswith("#")]
+    if not lines or not all(LINE.fullmatch(line) for line in lines):
+        return None
+    parts = (line.split("=", 1) for line in lines)
+    return [f"{head}={os.path.join(os.path.dirname(path), file)}" for head, file in parts]
+
+
+def not_lines(path):
+    """What a file of channels has in the place of such lines. One that can't be read is told as such."""
+    with open(path, "rb") as file:
+        data = file.read(1 << 20)
+    try:
+        lines = data.decode().split("\n")
+    except UnicodeDecodeError:
+        return "it is no text"
+    for number, line in enumerate(map(str.strip, lines), 1):
+        if line and not line.startswith("#") and not LINE.fullmatch(line):
+            return f"line {number} is {line[:60]!r}"
+    return "it has none"
+
+
+def channels_of(tunings, file, stream, rate):
+    """The channels of these words, of the lines of a file, and of a stream that plays everywhere else."""
+    lines = [] if file is None else lines_in(file)
+    if lines is None:
+        raise Unplayable(f"{file}: lines HZ[:SYSTEM][:H|V|L|R]=FILE are wanted, and {not_lines(file)}")
+    found = [channel_of(word, rate) for word in [*tunings, *lines]]
+    return found + ([Channel(None, (), None, Recording(stream, rate))] if stream is not None else [])
+
+
+def systems_of(channels):
+    """The delivery systems of a frontend that finds these channels. One of a second generation has the first one too."""
+    found = [system for channel in channels for system in channel.systems or TERRESTRIAL]
+    return list(dict.fromkeys([*found, *(FIRST[system] for system in found if system in FIRST)]))
+
+
+class Front:
+    """The page that a frontend's programs and this one share."""
+
+    SIZE, MOST_SYSTEMS = 4096, 7
+    HEAD, PACKETS_AT, SYSTEMS_AT, SYSTEM_AT = struct.Struct("=9I"), 40, 48, 80 + 4 * 17
+
+    def __init__(self, path, systems):
+        self.file = os.open(path, os.O_RDWR | os.O_CREAT | os.O_CLOEXEC, 0o600)
+        os.ftruncate(self.file, self.SIZE)
+        self.page = mmap.mmap(self.file, self.SIZE)
+        systems = systems[:self.MOST_SYSTEMS]
+        struct.pack_into(f"={len(systems)}I", self.page, self.SYSTEMS_AT, *systems)
+
+    def asked(self):
+        """The count of a tuning that isn't done yet, and what it asks for; None where there is none."""
+        wanted, granted, _, _, *asked = self.HEAD.unpack_from(self.page)
+        return None if wanted == granted else (wanted, Asked(*asked))
+
+    def was_opened(self):
+        """Whether a program has used the frontend: it has a delivery system from then on."""
+        return struct.unpack_from("=I", self.page, self.SYSTEM_AT) != (0,)
+
+    def grant(self, wanted, status):
+        """A tuning is done. Programs that wait are told of it by the file."""
+        os.pwrite(self.file, struct.pack("=I", status), 8)
+        os.pwrite(self.file, struct.pack("=I", wanted), 4)
+
+    def pass_packets(self, count):
+        """So many packets have passed."""
+        struct.pack_into("=Q", self.page, self.PACKETS_AT, count)

@@ -1,0 +1,110 @@
+"""The command of dvbemu-serve: how it is begun, told of signals, and ended with all that it has left running."""
+import math
+import os
+import signal
+import stat
+import struct
+import subprocess
+import sys
+
+from .building import Stopped
+from .clearing import VARIABLE, end_all, end_programs
+
+# Of an executable file: the kind of a segment that names the system's loader, and the kind and name of a note of Go's linker.
+PT_INTERP, GO_NOTE = b"\3\0\0\0", b"\4\0\0\0Go\0\0"
+
+
+def children():
+    """The processes that this one has started, or has got from those that have ended."""
+    with open(f"/proc/self/task/{os.getpid()}/children", encoding="ascii") as file:
+        return [int(word) for word in file.read().split()]
+
+
+def still_there(servers):
+    """The children but for these that haven't ended; none where the system doesn't tell of children."""
+    try:
+        return [child for child in children() if child not in servers and not os.waitpid(child, os.WNOHANG)[0]]
+    except OSError:
+        return []
+
+
+def end_all_but(servers, folder):
+    """Ends what the command has left running, for as long as that takes, and what else has found the adapters."""
+    end_all(lambda: still_there(servers), math.inf)
+    end_programs(folder.value())
+
+
+def unseen_as(path):
+    """Why a program won't have the preload, as far as its file tells; None where nothing says so."""
+    try:
+        with open(path, "rb") as file:
+            head, there = file.read(4096).ljust(64, b"\0"), os.fstat(file.fileno())
+    except OSError:
+        return None
+    if head[:4] != b"\x7fELF":
+        return None
+    if head[4] == 1:
+        return "is a program of 32 bits"
+    if there.st_mode & stat.S_ISUID and there.st_uid != os.geteuid() or there.st_mode & stat.S_ISGID and there.st_gid != os.getegid():
+        return "is setuid or setgid"
+    (begin,), (size, count) = struct.unpack_from("<Q", head, 32), struct.unpack_from("<HH", head, 54)
+    kinds = [head[at:at + 4] for at in range(begin, begin + size * count, size or 1)]
+    if GO_NOTE in head:
+        return "is made by Go, which calls the kernel past the C library"
+    return None if PT_INTERP in kinds or len(head) < begin + size * count else "is linked statically"
+
+
+class Interrupted(Stopped):
+    """There is no report, since a signal has come."""
+
+    def __init__(self, number):
+        super().__init__(f"stopped by {signal.Signals(number).name}")
+        self.status = 128 + number
+
+
+class Signals:
+    """What is done where this process is told to end: the command is, while it runs. A terminal tells the command itself of
+    Ctrl-C."""
+
+    def __init__(self):
+        self.command, self.is_starting, self.missed = None, False, []
+        for number in signal.SIGINT, signal.SIGTERM, signal.SIGHUP:
+            signal.signal(number, self.come)
+
+    def start(self, command, env):
+        """Starts the command, which is told then of a signal that came meanwhile."""
+        self.is_starting = True
+        try:
+            self.command = subprocess.Popen(command, env=env)
+        finally:
+            self.is_starting = False
+        for number in self.missed:
+            self.come(number, None)
+
+    def come(self, number, _frame):
+        if self.is_starting:
+            self.missed.append(number)
+        elif self.command is None:
+            raise Interrupted(number)
+        elif number != signal.SIGINT and self.command.poll() is None:
+            self.command.send_signal(number)
+
+
+def environment(folder):
+    """The environment of the command, in which the user's own preloads come first. A sanitizer of gcc is told that this
+    is meant."""
+    ours = {"LD_PRELOAD": folder.preload, "ASAN_OPTIONS": "verify_asan_link_order=0"}
+    both = {name: ":".join(filter(None, [os.environ.get(name), word])) for name, word in ours.items()}
+    return {**os.environ, VARIABLE: folder.value(), **both}
+
+
+def run_command(command, folder, signals):
+    """Runs the command, and says how it ended."""
+    try:
+        signals.start(command, environment(folder))
+    except OSError as fault:
+        print(f"dvbemu serve: {command[0]}: {fault.strerror}", file=sys.stderr)
+        return 127
+    status = signals.command.wait()
+    signals.command = None
+    return status if status >= 0 else 128 - status

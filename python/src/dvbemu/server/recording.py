@@ -1,0 +1,236 @@
+"""A transport stream as it is recorded, in a file or from a pipe: how its packets lie, and when each is due by its program clock."""
+import os
+import select
+import stat
+
+from .. import clock
+
+PACKET, SYNC = clock.PACKET, clock.SYNC
+# The bytes of a packet with what lies in front of it and behind it: as it is, with a time in front (Blu-ray, .m2ts), with 16 bytes
+# behind (of a Reed-Solomon code).
+FORMS = {188: 0, 192: 4, 204: 0}
+# How many packets show a form, in how many bytes; how many bytes are read at once, and in how many a clock has to begin.
+SHOWN, LOOKED_AT, BLOCK, CLOCK_WITHIN = 5, 64 << 10, 1 << 18, 16 << 20
+# The seconds that a pipe is waited for at once, and those by which it may come late before its clock waits for it.
+PAUSE, LATE = 0.004, 0.5
+# Behind so many packets without a PCR of the PID that had one, the next PCR of any PID is taken.
+SILENT = 100_000
+# Which flags of a packet say that an adaptation field may be there.
+HAS_FIELD = bytes(1 if flags & 0x20 else 0 for flags in range(256))
+
+
+class Unplayable(Exception):
+    """A file that can't be played, and why."""
+
+
+def form_of(data):
+    """How packets lie in these bytes: how many bytes each takes, and where the first begins; None where there are none."""
+    found = []
+    for size, ahead in FORMS.items():
+        for at in range(ahead, min(size + ahead, len(data))):
+            syncs = data[at::size]
+            count = min(len(syncs), SHOWN)
+            if syncs[:count].count(SYNC) == count and (count == SHOWN or len(data) < SHOWN * size):
+                found.append((at - ahead, size))
+                break
+    if not found:
+        return None
+    at, size = min(found)
+    return size, at
+
+
+def pcrs_of(block, phase):
+    """Each PCR in a block whose packets begin at this phase: its place, its PID, its clock and whether that begins anew."""
+    flags = block[phase + 3::PACKET].translate(HAS_FIELD)
+    number = flags.find(1)
+    while number >= 0:
+        at = phase + PACKET * number
+        packet = block[at:at + PACKET]
+        if packet[0] == SYNC and (ticks := clock.pcr_of(packet)) is not None:
+            yield at, clock.pid_of(packet), ticks, clock.has_new_clock(packet)
+        number = flags.find(1, number + 1)
+
+
+class Recording:
+    """A stream, which is read as it is played. A rate in packets a second goes before its clock."""
+
+    def __init__(self, path, rate=None):
+        self.path, self.rate, self.form, self.told, self.seconds = path, rate, None, [], None
+        self.file = os.dup(0) if path == "-" else os.open(path, os.O_RDONLY | os.O_CLOEXEC)
+        kind = os.fstat(self.file).st_mode
+        if stat.S_ISDIR(kind):
+            raise Unplayable(f"{path} is a folder")
+        self.is_pipe = not stat.S_ISREG(kind)
+        if not self.is_pipe:
+            self.look(os.pread(self.file, LOOKED_AT, 0))
+            self.speed()
+
+    def look(self, data):
+        """Sees how packets lie."""
+        if len(data) < PACKET:
+            raise Unplayable(f"{self.path} has no packet")
+        self.form = form_of(data)
+        if self.form is None:
+            raise Unplayable(f"{self.path} is no transport stream: no bytes 0x47 are 188, 192 or 204 bytes apart")
+        size, at = self.form
+        if size != PACKET or at:
+            self.told.append(f"{self.path}: packets of {size} bytes, the first at byte {at}")
+
+    def speed(self):
+        """The packets a second in the first ten seconds of a file, or the rate that was said."""
+        if self.rate:
+            return self.rate
+        packets, seconds = 0, 0.0
+        for run, length in self.runs(CLOCK_WITHIN):
+            packets, seconds = packets + len(run) // PACKET, seconds + length
+            if seconds > 10:
+                break
+        return packets / seconds
+
+    def length(self):
+        """The seconds that the whole of a file takes."""
+        if self.seconds is None:
+            self.seconds = sum(seconds for _, seconds in self.runs())
+        return self.seconds
+
+    def blocks(self, at=0):
+        """The packets from this byte on, as many as come at once; none where nothing of a pipe has come yet."""
+        rest, is_over = b"", False
+        while not is_over:
+            data = self.read(at, BLOCK)
+            is_over = data == b""
+            at += len(data or b"")
+            rest += data or b""
+            if self.form is None and (is_over or len(rest) >= LOOKED_AT // 8):
+                self.look(rest)
+                rest = rest[self.form[1]:]
+            packets, rest = self.unwrapped(rest) if self.form else (b"", rest)
+            yield packets
+
+    def read(self, at, count):
+        """Bytes of the file from this place on, or what comes next through a pipe: None where nothing does now."""
+        if not self.is_pipe:
+            return os.pread(self.file, count, at)
+        return os.read(self.file, count) if select.select([self.file], [], [], PAUSE)[0] else None
+
+    def unwrapped(self, data):
+        """The packets without what lies around them, and the bytes of one that isn't whole. Of 188 bytes all are as they stand."""
+        size, ahead = self.form[0], FORMS[self.form[0]]
+        whole = len(data) // size * size
+        if size == PACKET:
+            return data[:whole], data[whole:]
+        packets, at = [], 0
+        while at + size <= len(data):
+            if data[at + ahead] == SYNC:
+                packets.append(data[at + ahead:at + ahead + PACKET])
+                at += size
+            else:
+                found = data.find(SYNC, at + ahead + 1)
+                at = found - ahead if found >= 0 else len(data)
+        return b"".join(packets), data[at:]
+
+    def runs(self, within=None):
+        """Runs of packets, each with the seconds that it takes: from one PCR to the next, or as the last ones where the clock makes a
+        leap or begins anew. A stream without a clock in so many bytes can't be played."""
+        begin = self.form[1] if self.form else 0
+        if self.rate:
+            for block in self.blocks(begin):
+                yield block, len(block) / PACKET / self.rate
+            return
+        pace = Pace()
+        for block in self.blocks(begin):
+            if self.is_pipe and not block:
+                yield b"", 0.0
+            yield from pace.runs(block)
+            if within and pace.pace is None and pace.count > within:
+                break
+        if pace.pace is None:
+            raise Unplayable(f"{self.path} has no program clock{' in its first 16 MiB' if within else ''}: "
+                             "give --packets N, or --rate N in bits a second")  # fmt: skip
+        if pace.held:
+            yield pace.held, len(pace.held) / PACKET * pace.pace
+
+
+class Pace:
+    """The seconds that a packet takes, PCR by PCR."""
+
+    def __init__(self):
+        self.pid, self.last, self.pace, self.held, self.count, self.silent = None, None, None, b"", 0, 0
+
+    def runs(self, block):
+        """The runs that end in a block."""
+        phase, begun = max(self.phase_of(block), 0), 0
+        for at, pid, ticks, is_new in pcrs_of(block, phase):
+            if self.pid not in (None, pid) and self.silent + (at - begun) // PACKET < SILENT:
+                continue
+            run = self.held + block[begun:at]
+            is_first = self.pid != pid
+            if not is_first and run:
+                self.note(ticks, is_new, len(run) // PACKET)
+            self.pid, self.last, begun, self.silent = pid, ticks, at, 0
+            self.held = b"" if self.pace else run
+            if self.pace and run:
+                yield run, len(run) / PACKET * self.pace
+        self.held += block[begun:]
+        self.silent += (len(block) - begun) // PACKET
+        self.count += len(block)
+
+    @staticmethod
+    def phase_of(block):
+        """Where the first packet of a block begins: at its front, but where bytes lie between that are none."""
+        form = (PACKET, 0) if block[::PACKET].count(SYNC) > len(block) // PACKET * 0.9 else form_of(block)
+        return form[1] if form and form[0] == PACKET else 0
+
+    def note(self, ticks, is_new, packets):
+        """The clock goes on behind so many packets."""
+        passed = (ticks - self.last) % clock.WRAP
+        if not is_new and 0 < passed <= clock.LONGEST:
+            self.pace = passed / clock.TICKS / packets
+
+
+class Player:
+    """A recording that is played, in a loop or once."""
+
+    def __init__(self, recording, once):
+        self.recording, self.once = recording, once or recording.is_pipe
+        self.runs, self.run, self.given, self.ended = recording.runs(), b"", 0, False
+        self.begun, self.length = 0.0, 0.0
+
+    def begin(self, now, seconds=0.0):
+        """Plays from this moment on, from the first packet or from that which is due behind so many seconds."""
+        self.begun, self.length = now, 0.0
+        if self.recording.is_pipe:
+            return
+        self.runs, self.run, self.given, self.ended = self.recording.runs(), b"", 0, False
+        left = seconds % self.recording.length() if seconds else 0.0
+        while left > self.length:
+            left -= self.length
+            self.run, self.length = next(self.runs, (b"", 0.0))
+        self.begun = now - left
+        self.given = int(len(self.run) / PACKET * left / self.length) if self.length else 0
+
+    def next_run(self, now):
+        """Comes to the next run; the first one follows the last."""
+        self.begun += self.length
+        if self.recording.is_pipe and now - self.begun > LATE:
+            self.begun = now
+        found = next(self.runs, None)
+        if found is None and not self.once:
+            self.runs = self.recording.runs()
+            found = next(self.runs, None)
+        self.ended = found is None
+        self.run, self.length = found or (b"", 0.0)
+        self.given = 0
+
+    def due(self, now, most):
+        """The packets that are due up to this moment, at most so many."""
+        if not self.run and not self.ended:
+            self.next_run(now)
+        count = len(self.run) // PACKET
+        share = (now - self.begun) / self.length if self.length else 1.0
+        upto = min(int(count * min(max(share, 0.0), 1.0)), self.given + most)
+        piece = self.run[PACKET * self.given:PACKET * upto]
+        self.given = upto
+        if upto == count:
+            self.run = b""
+        return piece

@@ -1,0 +1,139 @@
+"""Standard input, output and errors where they are closed, full or a folder, and how a command ends by what it can't go on behind: by a
+line that names that, and a status of its own, never by a look at its code. docs/BEHAVIOUR.md has the statuses of the program, which are
+these too.
+"""
+import io
+import os
+import select
+import signal
+import stat
+import sys
+
+from . import progress
+
+READ_WRONG, WRITE_FAULT, NO_MEMORY, INTERNAL = 1, 6, 7, 70
+# Where the wrapper keeps a folder that is standard input, with which Python doesn't begin, and the setting that says so.
+FOLDER, FOLDER_SET = 9, "DVBEMU_FOLDER"
+
+
+class NoOutput(SystemExit):
+    """Standard output takes no more, and why. No handler of errors takes it for one of a file."""
+
+    def __init__(self, why):
+        super().__init__(WRITE_FAULT)
+        self.why = why
+
+
+class Output(io.FileIO):
+    """Standard output. Where a write fails it ends the command; what is written behind that is dropped."""
+
+    def __init__(self, end):
+        super().__init__(end, "w", closefd=False)
+        self.has_failed = False
+
+    def write(self, data):
+        """Writes some of it. An end that doesn't wait is waited for."""
+        if self.has_failed:
+            return len(data)
+        try:
+            while (count := super().write(data)) is None:
+                select.select([], [self], [])
+            return count
+        except OSError as fault:
+            self.has_failed = True
+            return self.fail(fault, len(data))
+
+    def fail(self, fault, _):
+        """A write has failed."""
+        raise NoOutput(fault.strerror)
+
+
+class Errors(Output):
+    """Standard error. What it doesn't take can be told nowhere."""
+
+    def fail(self, fault, count):
+        return count
+
+
+def text_of(raw, old, errors):
+    """Text over one of these."""
+    return io.TextIOWrapper(io.BufferedWriter(raw), getattr(old, "encoding", "utf-8"), errors, line_buffering=raw.isatty() or isinstance(raw, Errors))
+
+
+def hold():
+    """Keeps the place of each end that is closed, so that no other file comes there: what is read or written there fails as it would.
+    Programs that are started find it closed."""
+    if FOLDER_SET in os.environ:
+        del os.environ[FOLDER_SET]
+        os.dup2(FOLDER, 0)
+        os.close(FOLDER)
+    for end, mode in enumerate((os.O_WRONLY, os.O_RDONLY, os.O_RDONLY)):
+        try:
+            os.fstat(end)
+        except OSError:
+            os.open(os.devnull, mode)
+    sys.stdout = text_of(Output(1), sys.stdout, "surrogateescape")
+    sys.stderr = text_of(Errors(2), sys.stderr, "backslashreplace")
+
+
+def hide_folder():
+    """Keeps a folder that is standard input for another Python, as which this process goes on."""
+    if stat.S_ISDIR(os.fstat(0).st_mode):
+        os.dup2(0, FOLDER)
+        os.dup2(os.open(os.devnull, os.O_RDONLY), 0)
+        os.environ[FOLDER_SET] = str(FOLDER)
+
+
+def reader_is_gone():
+    """Whether standard output is a pipe that nobody reads any more."""
+    look = select.poll()
+    look.register(1, 0)
+    return any(event & (select.POLLERR | select.POLLHUP) for _, event in look.poll(0))
+
+
+def end_by(number):
+    """Ends by a signal, quietly."""
+    signal.signal(number, signal.SIG_DFL)
+    signal.pthread_sigmask(signal.SIG_UNBLOCK, {number})
+    os.kill(os.getpid(), number)
+    return 128 + number
+
+
+def place_of(fault):
+    """Where in the code a fault was last."""
+    last = fault.__traceback__
+    while last.tb_next:
+        last = last.tb_next
+    return f"{os.path.basename(last.tb_frame.f_code.co_filename)}:{last.tb_lineno}"
+
+
+def told_of(fault):
+    """What is told of what a command can't go on behind, and its status."""
+    if isinstance(fault, NoOutput):
+        return f"standard output: {fault.why}", WRITE_FAULT
+    if isinstance(fault, MemoryError):
+        return "out of memory", NO_MEMORY
+    if isinstance(fault, OSError):
+        return ": ".join(str(part) for part in (fault.filename, fault.strerror or fault) if part), READ_WRONG
+    return f"a fault of this program, at {place_of(fault)}: {type(fault).__name__}: {fault}".replace("\n", " "), INTERNAL
+
+
+def run(teller, main, *words):
+    """Runs a command, and ends with the status that it gives."""
+    hold()
+    # (where the caller waits for no child, neither would this)
+    signal.signal(signal.SIGCHLD, signal.SIG_DFL)
+    try:
+        try:
+            status = main(*words)
+        except SystemExit as asked:
+            if isinstance(asked, NoOutput):
+                raise
+            status = asked.code
+        if not sys.stdout.closed:
+            sys.stdout.flush()
+    except (NoOutput, Exception) as fault:  # pylint: disable=broad-exception-caught
+        text, status = told_of(fault)
+        progress.end()
+        print(f"{teller}: {text}", file=sys.stderr)
+    sys.exit(status)

@@ -1,0 +1,206 @@
+"""What the commands of dvbemu share: one form of --help, --version and errors, files or standard input, and how they end.
+
+A command is a script of tools/, which `dvbemu WORD` runs. Its statuses: 0, 1 where a file can't be read or isn't what it should be, 2
+where a word of the command line is wrong, and what its own help says beside these. What it can't do it tells in one line on standard
+error, `dvbemu WORD: ..`; standard.py does so of all that no command looks after itself: 6 where standard output takes no more, 7 where
+memory is missing, 70 for a fault of its own. A reader that has seen enough ends it quietly, and so does Ctrl-C, which a shell sees as the
+status 130.
+"""
+import argparse
+import os
+import re
+import signal
+import sys
+
+from . import progress
+
+ROOT = os.path.normpath(os.path.join(os.path.dirname(os.path.realpath(__file__)), "..", "..", ".."))
+PARTS = ("reads", "writes", "status", "example")
+WIDTH = 120
+# What --version tells where nothing is proved of the program that runs.
+HASTY = "not proved: compiled in haste (DVBEMU_UNPROVED)"
+
+# (set where this is read, so that what a command reads behind it ends quietly too)
+signal.signal(signal.SIGPIPE, signal.SIG_DFL)
+if signal.getsignal(signal.SIGINT) is signal.default_int_handler:
+    signal.signal(signal.SIGINT, signal.SIG_DFL)
+# (a Ctrl-C that has come since the wrapper began ends it here)
+signal.pthread_sigmask(signal.SIG_UNBLOCK, {signal.SIGINT})
+
+
+def nearest(word, known):
+    """Of the words that are known the one that a wrong word is like, as the end of a message; nothing where none is."""
+    import difflib  # pylint: disable=import-outside-toplevel
+    found = difflib.get_close_matches(word, known, 1, 0.6)
+    return f"; did you mean {found[0]}?" if found else ""
+
+
+def is_hasty():
+    """Whether the program that runs is one that was compiled in haste, or will be."""
+    if os.environ.get("DVBEMU_UNPROVED", "0") in ("", "0"):
+        return False
+    from . import spawned  # pylint: disable=import-outside-toplevel
+    return (spawned.told_by_wrapper("steps", "built") or "haste/dvbemu").endswith("haste/dvbemu")
+
+
+def version():
+    """The version of the file VERSION, the commit where there is one, and the toolchain that proved the program that runs."""
+    with open(os.path.join(ROOT, "VERSION"), encoding="utf-8") as file:
+        number, proved = file.read().splitlines()[:2]
+    commit = ""
+    if os.path.exists(os.path.join(ROOT, ".git")):
+        import subprocess  # pylint: disable=import-outside-toplevel
+        words = ["git", "-C", ROOT, "describe", "--always", "--dirty=, changed", "--exclude=*"]
+        try:
+            commit = subprocess.run(words, capture_output=True, text=True, check=False).stdout.strip()
+        except OSError:
+            pass
+    return f"dvbemu {number}" + (f" (commit {commit})" if commit else "") + f"\n{HASTY if is_hasty() else proved}"
+
+
+class Version(argparse.Action):
+    """The option --version."""
+
+    def __call__(self, parser, namespace, values, option_string=None):
+        print(version())
+        parser.exit()
+
+
+class Page(argparse.RawDescriptionHelpFormatter):
+    """A help whose lines aren't those of the terminal, so that it is the same everywhere."""
+
+    def __init__(self, prog):
+        super().__init__(prog, width=WIDTH)
+
+
+class Command(argparse.ArgumentParser):
+    """A command: its word, the words behind that, what it does, and what it reads, writes and ends with, and an example."""
+
+    # The statuses of all tools, behind their own.
+    others = "; 6 where standard output can't be written, 7 where memory is missing, 70 for a fault of the tool itself"
+
+    def __init__(self, word, usage, about, teller=None, **told):
+        self.teller = teller or f"dvbemu {word}"
+        self.told = told
+        super().__init__(prog=f"dvbemu {word}", usage=f"dvbemu {word} {usage}", description=about, add_help=False, formatter_class=Page,
+                         allow_abbrev=False)  # fmt: skip
+        self.add_argument("-h", "--help", action="help", help="this text")
+        self.add_argument("--version", action=Version, nargs=0, help="the version, its commit, and the toolchain that proved it")
+
+    def format_help(self):
+        """The help, with what is told at its end."""
+        import textwrap  # pylint: disable=import-outside-toplevel
+        told = {**self.told, "status": self.told["status"] + ("" if self.teller == "dvbemu" else self.others)}
+        rows = (textwrap.wrap(told[part], WIDTH - 9, break_on_hyphens=False) for part in PARTS)
+        self.epilog = "\n".join(f"{part:8} " + "\n         ".join(row) for part, row in zip(PARTS, rows))
+        return super().format_help()
+
+    def options(self):
+        """The options that the command knows."""
+        return [name for action in self._actions for name in action.option_strings]
+
+    def parse_args(self, words=None):
+        """The words of the command line. An option that isn't known is told before a word that is missing."""
+        words = sys.argv[1:] if words is None else words
+        takes = {name for action in self._actions if action.nargs is None for name in action.option_strings}
+        gathers = {name for action in self._actions if isinstance(action.default, list) for name in action.option_strings}
+        runs = any(action.nargs == argparse.REMAINDER for action in self._actions)
+        place, seen = 0, set()
+        while place < len(words) and words[place] != "--" and not (runs and words[place][:1] != "-"):
+            word, _, value = words[place].partition("=")
+            if re.match("-[^0-9]", word) and word not in self.options():
+                self.error(f"unrecognized arguments: {word}")
+            if word in takes - gathers and word in seen:
+                self.error(f"{word} stands twice")
+            seen.add(word)
+            place += 2 if word in takes and not value else 1
+        return super().parse_args(words)
+
+    def message(self, text):
+        """What argparse says of a wrong word, in the form of this project."""
+        if found := re.match(r"unrecognized arguments: (\S+)", text):
+            word = found[1].partition("=")[0]
+            return f"unknown option {word}{nearest(word, self.options())}" if word[:1] == "-" else f"one word too many: {found[1]}"
+        if found := re.match("the following arguments are required: (.*)", text):
+            *names, last = found[1].split(", ")
+            return f"{', '.join(names)} and {last} are missing" if names else f"{last} is missing"
+        if found := re.match(r"argument (\S+): expected (?:one|at least one) argument", text):
+            return f"{found[1]} wants a value"
+        if found := re.match(r"argument (\S+): invalid choice: '(.*)' \(choose from (.*)\)", text):
+            known = re.findall(r"[\w-]+", found[3])
+            return f"{found[1]} is one of {', '.join(known)}, and not {found[2]}{nearest(found[2], known)}"
+        if found := re.match(r"argument (\S+): not allowed with argument (\S+)", text):
+            return f"{found[1]} can't stand beside {found[2]}"
+        return re.sub(r"^argument (\S+): ", r"\1: ", text)
+
+    def exit(self, status=0, message=None):
+        """Ends, behind a line of the message, where there is one."""
+        progress.end()
+        super().exit(status, message)
+
+    def error(self, message):
+        """Tells a wrong word, and how the command is used; the status is 2."""
+        self.exit(2, f"{self.teller}: {self.message(message)}\n{self.format_usage()}")
+
+    def fail(self, text):
+        """Tells what can't be done; the status is 1."""
+        self.exit(1, f"{self.teller}: {text}\n")
+
+    def fail_on(self, name, fault):
+        """Tells what is wrong with a file."""
+        reason = fault.strerror if isinstance(fault, OSError) and fault.strerror else str(fault)
+        self.fail(f"{'standard input' if name in (None, '-') else name}: {reason}")
+
+    def opened(self, name):
+        """The file of this name, or standard input for None and `-`, whose bytes are read."""
+        if name not in (None, "-"):
+            try:
+                return open(name, "rb")  # pylint: disable=consider-using-with
+            except OSError as fault:
+                self.fail_on(name, fault)
+        if sys.stdin is None:
+            self.fail("standard input: it is closed")
+        self.tell_waiting()
+        return sys.stdin.buffer
+
+    def tell_waiting(self):
+        """Tells on a terminal what is waited for."""
+        if sys.stdin is not None and sys.stdin.isatty():
+            print(f"{self.teller}: reading standard input, which is a terminal; Ctrl-D ends it", file=sys.stderr)
+
+    def bytes_of(self, name):
+        """The bytes of a file, or of standard input for None and `-`."""
+        try:
+            with self.opened(name) as file:
+                return file.read()
+        except OSError as fault:
+            return self.fail_on(name, fault)
+
+
+def reader(function, expected):
+    """A reader of a word of the command line by a function, which raises a ValueError or a KeyError where the word isn't what is expected."""
+
+    def read(word):
+        try:
+            return function(word)
+        except (ValueError, KeyError):
+            raise argparse.ArgumentTypeError(f"{expected} is expected, and not '{word}'") from None
+
+    return read
+
+
+def number(least, most, is_plain=False):
+    """A reader of a number in decimal digits; in hexadecimal ones behind 0x, and with zeros in front, where it needn't be plain."""
+
+    def read(word):
+        value = int(word, 16) if word.lower().startswith("0x") and not is_plain else int(word)
+        if not least <= value <= most or is_plain and word != str(value):
+            raise ValueError
+        return value
+
+    return reader(read, f"a number from {least} to {most}")
+
+
+def choice(*values):
+    """A reader of one of these numbers."""
+    return reader({str(value): value for value in values}.__getitem__, " or ".join(map(str, values)))
