@@ -19,12 +19,14 @@ ghost use Rattle.node_laws.specs.Bytes.{AnswersFitThePackets, OverflowNamesAByte
 ghost use Rattle.node_laws.specs.Laws.{LegalIsAccounted, PlayedIsLegal, ItemsOnlyGrow, OverflowNeedsMore};
 
 /// Each byte of each capture of a legal history is given, named as lost or named as dropped, in its place.
+#[tactic(auto, using(crate::proofs::LawsHold::demux_accounted, crate::proofs::LawsHold::dvr_accounted))]
 pub fn legal_histories_are_accounted()
     ensures demux_nodes { LegalIsAccounted demux }
     ensures dvr_node { LegalIsAccounted dvr }
 {}
 
 /// Entries of which each has the answer that those before it give are a legal history.
+#[tactic(auto, using(crate::proofs::LawsHold::played_is_legal))]
 pub fn played_entries_are_legal()
     ensures { (node : Rules) → PlayedIsLegal node }
 {}
@@ -36,17 +38,20 @@ pub fn unaccepted_entries_change_nothing()
 {}
 
 /// The items of a capture only grow.
+#[tactic(auto, using(crate::proofs::LawsHold::demux_grows, crate::proofs::LawsHold::dvr_grows))]
 pub fn items_only_grow()
     ensures demux_nodes { ItemsOnlyGrow demux }
     ensures dvr_node { ItemsOnlyGrow dvr }
 {}
 
 /// The item of a pending overflow needs more than the room that it found.
+#[tactic(auto, using(crate::proofs::LawsHold::overflow_needs_more))]
 pub fn overflows_need_more_than_their_room()
     ensures { (node : Rules) → OverflowNeedsMore node }
 {}
 
 /// A node answers, as given or as lost, no more bytes than its passes bring.
+#[tactic(auto, using(crate::proofs::Bytes::demux_answers_fit, crate::proofs::Bytes::dvr_answers_fit))]
 pub fn answers_fit_the_packets()
     ensures demux_nodes { AnswersFitThePackets demux }
     ensures dvr_node { AnswersFitThePackets dvr }
