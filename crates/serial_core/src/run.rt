@@ -5,8 +5,7 @@ ghost use Rattle.serial_core.specs.Inside.Lines.{AreAfter};
 ghost use Rattle.serial_core.specs.Inside.Moving.{IsSound};
 ghost use Rattle.serial_core.specs.SerialRun.{Run, replies_of};
 ghost use Rattle.serial_core.specs.Left.{AreFreshCores, IsFreshRunner, IsLeftBy, histories_in};
-ghost use Rattle.serial_core.specs.Inside.Legal.{AreLegal};
-ghost use Rattle.serial_core.specs.Inside.Standing.{IsNodes};
+ghost use Rattle.serial_core.specs.Inside.Standing.{AreInOrder, IsNodes};
 
 use crate::nodes::Nodes;
 use crate::runner::Runner;
@@ -59,7 +58,7 @@ fn outcomes_of(alloc: Global, cores: &[ClientCore]) -> Result<Vec<Vec<Outcome>>,
 fn left_by(alloc: Global, runner: Runner, cores: &[ClientCore]) -> Result<Left, Stop>
     requires sound { IsSound runner }
     requires ended { runner.nodes.has_ended ≡ true }
-    ensures histories { IfOk result (λ left. (r : Run) → IsNodes runner.nodes r → AreLegal r → left.histories ≡ histories_in r) }
+    ensures histories { IfOk result (λ left. (r : Run) → IsNodes runner.nodes r → AreInOrder r → left.histories ≡ histories_in r) }
     ensures outcomes { IfOk result (λ left. (script : Scripted) (r : Run) → AreAfter script r cores.now
         → map (λ those. those.items) left.outcomes.items ≡ map (λ client. outcomes client script (replies_of client r)) (range_with_len 0 (length cores.now))) }
     ensures head { IfOk result (λ left. (ahead taken : List ℕ) (given : List (List ℕ)) → Pulls ahead taken given runner.puller → told_head left.head ≡ head_of runner.puller.cutting.size (ahead ++ taken) left.head.read_fault) }
