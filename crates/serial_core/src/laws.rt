@@ -10,6 +10,7 @@ pub fn the_serial_run_is_one()
 
 /// Each client of the serial run of a script's lines makes at most `most_calls` calls, for its own commands and the bytes
 /// of the stream's packets and of all writes, where the lines of each client name its writes in their order, each once.
+#[tactic(auto, using(crate::proofs::Runs::within_budget))]
 pub fn clients_are_within_budget()
     ensures { IsWithinBudget }
 {}
