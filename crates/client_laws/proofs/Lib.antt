@@ -1,0 +1,3 @@
+pub mod Made
+pub mod Ended
+pub mod CanEnd
