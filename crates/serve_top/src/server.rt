@@ -27,7 +27,7 @@ pub enum NoReport {
     /// At least 4,294,967,296 bytes of the source were read: one at least by each of as many reads. Nothing was written.
     #[error("the stream was read too often")]
     TooLong,
-    /// A write failed. A part of the report was written, from its front on.
+    /// A write failed, and the sink's count of faults rose. No clause says how much of the report was written.
     #[error("what was called can't be written")]
     Failed,
 }
