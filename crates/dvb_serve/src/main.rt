@@ -19,7 +19,7 @@ mod bells;
 mod file;
 mod line;
 
-ghost use Rattle.std.specs.Prelude.{◌<◌, ◌≤◌, ◌^◌, ◌-◌, vec_len, IfOk};
+ghost use Rattle.std.specs.Prelude.{◌≤◌, vec_len, IfOk};
 
 use bells::Bells;
 use emu_io::{Ends, NoGate, StdClock, StdSink, StdSource};
@@ -65,7 +65,6 @@ fn serve_folder<R: Threads + Wait + Sync>(
     clock: &StdClock,
 ) -> io::Result<Result<(), NoReport>>
     requires seats { seats ≤ 8 }
-    requires faults { input < 2 ^ 64 - 1 }
 {
     let bells = Arc::new(rt.alloc(), Bells::new(rt, folder)?)?;
     let lines = lines_of(rt, folder, seats)?;
@@ -95,7 +94,6 @@ fn serve_journals<R: Threads + Wait + Sync, J: Journal + Send + Drop, B: Batches
     clock: &StdClock,
 ) -> io::Result<Result<ServerLeft<J, B>, NoReport>>
     requires seats { vec_len journals ≤ 8 }
-    requires faults { input < 2 ^ 64 - 1 }
 {
     let ears = Arc::new(rt.alloc(), Bells::new(rt, folder)?)?;
     let mut lines = Vec::new(rt.alloc());
@@ -182,7 +180,6 @@ fn serve_forgetting<R: Threads + Wait + Sync>(
     clock: &StdClock,
 ) -> io::Result<Result<(), NoReport>>
     requires seats { seats ≤ 8 }
-    requires faults { input < 2 ^ 64 - 1 }
 {
     let journals = forgotten(rt, seats)?;
     match serve_journals(threads, rt, folder, journals, (), input, clock)? {
@@ -202,7 +199,6 @@ fn serve_writing<R: Threads + Wait + Sync>(
     clock: &StdClock,
 ) -> io::Result<Result<(), NoReport>>
     requires seats { seats ≤ 8 }
-    requires faults { input < 2 ^ 64 - 1 }
 {
     let journals = written(rt, keep, seats)?;
     let batches = written_in(rt, keep, "batches")?;

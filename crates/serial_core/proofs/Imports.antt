@@ -35,7 +35,7 @@ pub use Rattle.dmx_calls.specs.declared.reply.Errno.{Errno}
 pub use Rattle.feed_pull.proofs.CutPackets.{are_packets}
 pub use Rattle.feed_pull.proofs.Drawing.{draws_none, draws_then, none_given}
 pub use Rattle.feed_pull.proofs.PullLemmas.{Pulls-done, Pulls-front, Pulls-size}
-pub use Rattle.feed_pull.proofs.Stopping.{end_by, many_reads, of_stream, on_err, rose_by, still_counts}
+pub use Rattle.feed_pull.proofs.Stopping.{end_by, many_reads, of_stream, on_err, rose_by}
 pub use Rattle.lemmas.proofs.Lists.{at_before, at_end, at_last, at_last as got_last}
 pub use Rattle.lemmas.proofs.Options.{same_some}
 pub use Rattle.script_run.proofs.Calls.{asked_more, turn_more}

@@ -54,7 +54,6 @@ pub whole-requires-clause-ready : goal.whole-requires-clause-ready
 whole-requires-clause-ready g c = record {
   some = c.requires.some;
   few = c.requires.few;
-  faults = λ going. c.requires.faults;
   sound = record {
     ended = λ is. absurd (let e : true ≡ false = sym is ∙ c.requires.begun.unended in cc);
     counted = c.requires.begun.counted;

@@ -228,7 +228,6 @@ sit_and_pass-requires-clause-feeder g c κs within =
     record {
       some = omega arith;
       few = omega arith;
-      faults = λ going. c.requires.faults;
       fit = begun_feeder (plain []) a.adapter _ a.feeder a.clients.items a.ensures.fresh a.ensures.all f.feeder is.caller is.count is.given;
     }
 
