@@ -7,12 +7,13 @@
 //!
 //! With a third word it keeps no call in memory, and writes no report: with `none` nothing is kept at all; with a folder KEEP
 //! each call is written into the file `N.calls` of its seat as it is made, each batch that passes into `batches`, and at the
-//! end, where all these are whole, what is known of the stream into `head`. `tools/merge` makes the report of them.
+//! end, where all these are whole, what is known of the stream into `head`. `dvbemu merge` makes the report of them.
 //!
 //! What is proved: that it is safe. What it does over any source, any lines and any journals is a clause of `serve_top`.
 //! Standard input, the pipes and the files tell no content, so over them nothing at all is said.
 //!
-//! What is only tested, by the program's run and by `serve/check`: the words, the pipes and the exit status.
+//! What is only tested, by the program's run and by programs that are served in the gate: the words, the pipes and the exit
+//! status.
 #![tactic(auto)]
 
 mod bells;
