@@ -14,6 +14,9 @@ BUILT = os.path.join(ROOT, "crates", "dvbemu", "out", "dvbemu")
 # The most bytes of a read and of a write, and what stands behind as many in a message that is read.
 PIECE = 65536
 BEHIND = b"#" * 100
+# So many reads of PIECE bytes have room for 312 MiB together, and find a section of eight bytes each; and the address space for that.
+READS, SPACE = 5000, 128 << 20
+SECTION = bytes.fromhex("4270050000000000")
 # The seconds in which each run must end where an allocation is refused or a call fails: it takes some milliseconds.
 ENDS = 60
 tally = Tally()
@@ -104,11 +107,24 @@ def piece_by_piece(words, session):
     tally.count(most == PIECE, f"{words}: a piece of {most} bytes")
 
 
+def ran_within(limit, words, session):
+    """A run in an address space of so many bytes."""
+    return ran(words, BUILT, input=session, preexec_fn=lambda: resource.setrlimit(resource.RLIMIT_AS, (limit, limit)))
+
+
 def small_memory(words, session):
     """An address space of 4 MB."""
-    limit = 4 << 20
-    small = ran(words, BUILT, input=session, preexec_fn=lambda: resource.setrlimit(resource.RLIMIT_AS, (limit, limit)))
-    expect(f"{words}: 4 MB", small, 7, "dvbemu: out of memory", b"")
+    expect(f"{words}: 4 MB", ran_within(4 << 20, words, session), 7, "dvbemu: out of memory", b"")
+
+
+def room_is_given_back(words):
+    """Of a read the bytes that it gave are kept, and not the room that it had for them."""
+    packets = (b"\x47\x41\x00" + bytes([0x10 | number % 16, 0]) + SECTION + 175 * b"\xff" for number in range(READS))
+    script = b"c0 open n0\nc0 size n0 65536\nc0 section n0 256 0 4\nfeed %d\n%sstream\n" % (READS, READS * b"c0 read n0 65536\n")
+    kept = ran_within(SPACE, words, script + b"".join(packets))
+    expect(f"{words}: many reads of little", kept, 0, "")
+    told = kept.stdout.count(b" = data " + SECTION.hex().encode() + b"\n")
+    tally.count(told == READS, f"{words}: {told} of {READS} reads of a section")
 
 
 def over_terminal(words, given):

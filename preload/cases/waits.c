@@ -48,6 +48,22 @@ static void poll_of_two(void)
 	want(both[1].revents == 0 || both[1].revents == (POLLIN | POLLPRI), "what poll tells");
 }
 
+/* packets of a PID that a running filter gets wake whoever waits, each time anew */
+static void an_added_pid(void)
+{
+	struct dmx_pes_filter_params params = { .pid = NEVER, .input = DMX_IN_FRONTEND, .output = DMX_OUT_TSDEMUX_TAP,
+						.pes_type = DMX_PES_OTHER, .flags = DMX_IMMEDIATE_START };
+	int fd = demux(O_NONBLOCK);
+	struct pollfd one = { fd, POLLIN, 0 };
+	uint16_t pid = 256;
+	want(!ioctl(fd, DMX_SET_PES_FILTER, &params) && !poll(&one, 1, 50), "nothing comes of its own PID");
+	want(!ioctl(fd, DMX_ADD_PID, &pid), "DMX_ADD_PID");
+	for (int i = 0; i < 3; i++) {
+		want(poll(&one, 1, LATE_MS) == 1 && one.revents & POLLIN, "a packet of the added PID");
+		read_all(fd);
+	}
+}
+
 static void poll_by_priority(void)
 {
 	struct pollfd one = { pat(0), POLLPRI, 0 };
@@ -301,8 +317,8 @@ static void the_mask_of_a_wait(void)
 	want(ppoll(&one, 1, &most, &before) < 0 && errno == EINTR && seconds() - begun < 5, "ppoll lets a signal in that waits");
 }
 
-const struct one waits[] = { CASE(poll_of_two), CASE(poll_by_priority), CASE(poll_of_many), CASE(select_in_each_set), CASE(ends_by_its_time),
-			     CASE(nothing_is_left), CASE(by_level), CASE(by_edge), CASE(by_edge_and_part), CASE(once_at_a_time),
+const struct one waits[] = { CASE(poll_of_two), CASE(an_added_pid), CASE(poll_by_priority), CASE(poll_of_many), CASE(select_in_each_set),
+			     CASE(ends_by_its_time), CASE(nothing_is_left), CASE(by_level), CASE(by_edge), CASE(by_edge_and_part), CASE(once_at_a_time),
 			     CASE(a_set_in_a_set), CASE(by_each_wait), CASE(as_a_reactor_does), CASE(set_while_one_waits), CASE(by_io_uring),
 			     CASE(a_signal_ends_a_wait), CASE(a_signal_begins_a_read_again),
 			     CASE(a_signal_ends_a_read_in_part), CASE(many_signals), CASE(the_mask_of_a_wait),

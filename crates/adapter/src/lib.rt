@@ -15,8 +15,8 @@
 //! order of their places (`AreByPlace`); where the logs name no place twice and none beyond the end, each entry stands at its
 //! place.
 //!
-//! What is only tested: that reports of threads are right, as the command check finds (`tests_runs`) and a second program
-//! (`fuzz/judge.py`). Neither: that a wait ends, fairness, time, in which order calls of two callers come. Limits: 8 clients,
+//! What is only tested: that reports of threads are right, as the command check finds (`tests_runs`), and a second
+//! program beside it. Neither: that a wait ends, fairness, time, in which order calls of two callers come. Limits: 8 clients,
 //! 2^44 calls of the feeder and 2^40 of each client. The sort of `histories` (`trace_merge`) is linear in the entries.
 #![tactic(auto)]
 

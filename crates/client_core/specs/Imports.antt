@@ -12,18 +12,15 @@ pub use Rattle.client_script.specs.declared.line.Want.{Want}
 pub use Rattle.client_script.specs.declared.line.Want.TheVariants.{Add, Close, Open, Pes, Poll, Read, Remove, Section, Size, Start, Stop}
 pub use Rattle.dmx_calls.specs.Calls.{Call, invocation_of, response_of}
 pub use Rattle.dmx_calls.specs.Invocation.{Invocation}
-pub use Rattle.dmx_calls.specs.Response.{Again, Busy, Data, Done, Overflow, Passed, Ready, Refused, Response, TapChange, TimedOut}
+pub use Rattle.dmx_calls.specs.Response.{Again, Busy, Data, Done, Overflow, Ready, Refused, Response, TapChange, TimedOut}
 pub use Rattle.dmx_calls.specs.declared.limits.TheConstants.{DEMUX_NODES, LARGEST_READ}
 pub use Rattle.dmx_calls.specs.declared.outcome.Outcome.{Outcome}
 pub use Rattle.dmx_calls.specs.declared.outcome.OutcomeKind.{OutcomeKind}
 pub use Rattle.dmx_calls.specs.declared.params.Input.TheVariants.{Frontend}
 pub use Rattle.dmx_calls.specs.declared.params.Output.{Output}
-pub use Rattle.dmx_calls.specs.declared.params.Output.TheVariants.{TsTap, TsdemuxTap}
-pub use Rattle.dmx_calls.specs.declared.params.PesParams.{PesParams}
-pub use Rattle.dmx_calls.specs.declared.reply.Errno.TheVariants.{Ebadf}
-pub use Rattle.dmx_calls.specs.declared.reply.PollError.TheVariants.{Quiet}
+pub use Rattle.dmx_calls.specs.declared.params.Output.TheVariants.{TsdemuxTap}
 pub use Rattle.dmx_calls.specs.declared.reply.Tap.TheVariants.{Attach, Detach, Keep}
-pub use Rattle.std.specs.List.{flat_map, range_with_len}
+pub use Rattle.std.specs.List.{flat_map}
 pub use Rattle.std.specs.Option.{option_and_then, option_map, option_or}
 pub use Rattle.ts_batch.specs.Batch.{Packets}
 pub use Rattle.ts_packet.specs.Cut.{Cut, cut}

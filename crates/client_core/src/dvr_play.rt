@@ -1,5 +1,4 @@
 // What a client plays: the packets that it writes to the dvr device, in batches.
-pub mod examples;
 mod laws;
 mod plays;
 

@@ -4,6 +4,7 @@ ghost use Rattle.client_core.specs.Passes.{WritesPass};
 ghost use Rattle.client_core.specs.Inside.More.{OneReplyMore};
 
 /// A client makes at most 33 calls a command, beside the reads that it repeats.
+#[tactic(auto, using(crate::proofs::FirstCalls::few))]
 pub fn calls_are_few()
     ensures { CallsAreFew }
 {}
@@ -15,6 +16,7 @@ pub fn one_reply_repeats_once()
 
 /// Once a client's commands are through, the batches that it has passed on each demux node are, in order and each once, those of
 /// its writes whose poll was Ready and which complete a packet.
+#[tactic(auto, using(crate::proofs::Passing::writes_pass))]
 pub fn writes_pass_their_batches()
     ensures { WritesPass }
 {}

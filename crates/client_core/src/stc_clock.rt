@@ -1,6 +1,5 @@
 // The clock that a transport stream carries: the program clock references of its packets (ISO/IEC 13818-1, 2.4.3.5).
 mod clock;
-pub mod examples;
 mod reference;
 
 pub use clock::StcClock;

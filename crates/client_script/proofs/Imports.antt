@@ -65,4 +65,3 @@ pub use Rattle.text_forms.specs.Places.{filter_places, filter_words}
 unfoldable pub use Rattle.text_forms.specs.Places.{places_named}
 unfoldable pub use Rattle.text_forms.specs.Names.{numbered}
 unfoldable pub use Rattle.text_forms.specs.Numbers.{value_after}
-unfoldable pub use Rattle.text_forms.specs.Words.{input_named, output_named}

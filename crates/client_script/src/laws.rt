@@ -43,6 +43,7 @@ pub fn without_a_line_stream_all_bytes_are_the_script_part()
 {}
 
 /// The line `stream` ends behind all bytes that don't hold it.
+#[tactic(auto, using(crate::proofs::Lengthening::stream_ends_later))]
 pub fn the_line_stream_ends_behind_bytes_that_lack_it()
     ensures { (first others : List ℕ) (n : ℕ) → script_len (whole_lines first) ≡ None → script_len (whole_lines (first ++ others)) ≡ Some n → length first < n }
 {}

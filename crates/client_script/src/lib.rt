@@ -14,7 +14,7 @@
 //! grammar, and those of a client name its writes in their order, each once (`IsScript`). `print` appends a line's spelling, and
 //! leaves the bytes as they were where memory is refused. A `ScriptPart` is the bytes that were added to it; its `end` is where
 //! the first whole line `stream` ends. Laws say that printed lines are read again, that nothing behind the stream is examined,
-//! and where the script part ends (`laws`). Scripts worked out by hand are the clauses of `examples`.
+//! and where the script part ends (`laws`).
 //!
 //! What is only tested, in `tests_text`: that memory isn't refused where there is enough. Limits: 1,048,576 bytes are read, each
 //! a few times, and a write has 1 to 12,032. Memory is taken for the lines, writes, a script part and a printed text.

@@ -12,6 +12,7 @@ pub fn one_request_is_spelled()
 {}
 
 /// The law that what is written of a request asks for it. It has nothing to do.
+#[tactic(auto, using(crate::proofs::Written::written_spells))]
 pub fn what_is_written_spells_the_request()
     ensures { WrittenSpells }
 {}

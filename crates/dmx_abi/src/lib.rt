@@ -15,7 +15,7 @@
 //! makes them (`examples::numbers`).
 //!
 //! What is only tested, in `tests_low`: that numbers, lengths and places are the header's, by bytes that a program in C wrote;
-//! `tools/checks/requests` compares the table with the header where there is one. Limits: no memory is taken; DMX_GET_PES_PIDS,
+//! the gate compares the table with the header where there is one. Limits: no memory is taken; DMX_GET_PES_PIDS,
 //! the requests for mapped buffers and those of other devices are `Unknown`.
 #![tactic(auto)]
 

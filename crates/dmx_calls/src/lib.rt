@@ -11,7 +11,7 @@
 //!
 //! What is proved: each call of `ByteBuf` and of `Histories`; that each `name` is its text in `specs/Names.antt`; that an entry
 //! keeps its call (`KeptAct`) and the same response (`SharedReply`), whatever that is shared with; that `refusal` is the refusal
-//! that the answer of a history names. `node_laws` has laws of the definitions, `node_examples` worked examples.
+//! that the answer of a history names. `node_laws` has laws of the definitions, and a worked history.
 //!
 //! Limits: only `ByteBuf::new`, `ByteBuf::fitted`, `KeptAct::keep`, `SharedReply::of` and `SharedReply::unshared` take memory.
 //! Sources: the Linux media API, Digital TV demux, for calls, filters, states and errors; ISO/IEC 13818-1 for packets and

@@ -7,19 +7,20 @@
 //!
 //! With a third word it keeps no call in memory, and writes no report: with `none` nothing is kept at all; with a folder KEEP
 //! each call is written into the file `N.calls` of its seat as it is made, each batch that passes into `batches`, and at the
-//! end, where all these are whole, what is known of the stream into `head`. `tools/merge` makes the report of them.
+//! end, where all these are whole, what is known of the stream into `head`. `dvbemu merge` makes the report of them.
 //!
 //! What is proved: that it is safe. What it does over any source, any lines and any journals is a clause of `serve_top`.
 //! Standard input, the pipes and the files tell no content, so over them nothing at all is said.
 //!
-//! What is only tested, by the program's run and by `serve/check`: the words, the pipes and the exit status.
+//! What is only tested, by the program's run and by programs that are served in the gate: the words, the pipes and the exit
+//! status.
 #![tactic(auto)]
 
 mod bells;
 mod file;
 mod line;
 
-ghost use Rattle.std.specs.Prelude.{◌<◌, ◌≤◌, ◌^◌, ◌-◌, vec_len, IfOk};
+ghost use Rattle.std.specs.Prelude.{◌≤◌, vec_len, IfOk};
 
 use bells::Bells;
 use emu_io::{Ends, NoGate, StdClock, StdSink, StdSource};
@@ -65,7 +66,6 @@ fn serve_folder<R: Threads + Wait + Sync>(
     clock: &StdClock,
 ) -> io::Result<Result<(), NoReport>>
     requires seats { seats ≤ 8 }
-    requires faults { input < 2 ^ 64 - 1 }
 {
     let bells = Arc::new(rt.alloc(), Bells::new(rt, folder)?)?;
     let lines = lines_of(rt, folder, seats)?;
@@ -95,7 +95,6 @@ fn serve_journals<R: Threads + Wait + Sync, J: Journal + Send + Drop, B: Batches
     clock: &StdClock,
 ) -> io::Result<Result<ServerLeft<J, B>, NoReport>>
     requires seats { vec_len journals ≤ 8 }
-    requires faults { input < 2 ^ 64 - 1 }
 {
     let ears = Arc::new(rt.alloc(), Bells::new(rt, folder)?)?;
     let mut lines = Vec::new(rt.alloc());
@@ -182,7 +181,6 @@ fn serve_forgetting<R: Threads + Wait + Sync>(
     clock: &StdClock,
 ) -> io::Result<Result<(), NoReport>>
     requires seats { seats ≤ 8 }
-    requires faults { input < 2 ^ 64 - 1 }
 {
     let journals = forgotten(rt, seats)?;
     match serve_journals(threads, rt, folder, journals, (), input, clock)? {
@@ -202,7 +200,6 @@ fn serve_writing<R: Threads + Wait + Sync>(
     clock: &StdClock,
 ) -> io::Result<Result<(), NoReport>>
     requires seats { seats ≤ 8 }
-    requires faults { input < 2 ^ 64 - 1 }
 {
     let journals = written(rt, keep, seats)?;
     let batches = written_in(rt, keep, "batches")?;

@@ -1,10 +1,11 @@
 // Where bytes go to, and a sink in memory.
-ghost use Rattle.std.specs.Prelude.{◌≡◌, ◌-◌, ◌<◌, ◌≤◌, ◌↔◌, ◌⊎◌, min, [], length, Some, IfOk, IsErr, MatchResult, Contains};
+ghost use Rattle.std.specs.Prelude.{◌≡◌, ◌-◌, ◌<◌, ◌≤◌, ◌↔◌, ◌⊎◌, ◌+◌, ◌^◌, min, [], length, Some, IfOk, IsErr, MatchResult, Contains};
 ghost use Rattle.std.specs.Io.KnownBytes.{WriteAppends};
-ghost use Rattle.emu_io.specs.Causes.{HasCause, raised};
+ghost use Rattle.emu_io.specs.Causes.{HasCause};
 ghost use Rattle.emu_io.specs.Ends.{SinkEnd};
 
 use crate::Failed;
+use crate::faults::Faults;
 use std::alloc::{AllocError as NoMemory, Global};
 use std::marker::Model;
 
@@ -15,8 +16,7 @@ pub trait Sink {
 
     /// Writes the first bytes of `piece`, at least one, and answers how many.
     ///
-    /// `Failed` writes no byte, and the count of faults rose by just one, or stands at the end of a u64; an `Ok` leaves the count
-    /// as it was.
+    /// `Failed` writes no byte, and the count of faults rose by just one; an `Ok` leaves the count as it was.
     fn write(&mut self, piece: &[u8]) -> Result<usize, Failed>
         requires { 0 < length piece.now }
         ensures bound { IfOk result (λ n. (1 ≤ n) × (n ≤ length piece.now)) }
@@ -32,7 +32,7 @@ pub struct MemSink {
     piece: u32,
     writes: u64,
     fails: Vec<u64>,
-    faults: u64,
+    faults: Faults,
 }
 
 impl Model for MemSink {
@@ -41,7 +41,7 @@ impl Model for MemSink {
 
     ghost Value = { MemoryWritten };
 
-    ghost view = { λ s. record { written = s.bytes.items; capacity = s.capacity; piece = s.piece; writes = s.writes; fails = s.fails.items; faults = s.faults } };
+    ghost view = { λ s. record { written = s.bytes.items; capacity = s.capacity; piece = s.piece; writes = s.writes; fails = s.fails.items; faults = s.faults.count } };
 
     ghost invariant = { λ s. (length s.bytes.items ≤ s.capacity) × (s.capacity ≤ vec_capacity s.bytes) × (1 ≤ s.piece) };
 }
@@ -64,7 +64,7 @@ impl MemSink {
             piece,
             writes: 0,
             fails,
-            faults: 0,
+            faults: Faults::none(),
         })
     }
 
@@ -89,8 +89,8 @@ impl Sink for MemSink {
         ensures fails { IsErr result ↔ (Contains self.old.fails self.old.writes ⊎ (length self.old.written ≡ self.old.capacity)) }
         ensures count { IfOk result (λ n. n ≡ min (min (length piece.now) (self.old.capacity - length self.old.written)) self.old.piece) }
         ensures fits { length self.new.written ≤ self.new.capacity }
-        ensures faults { MatchResult result (λ _. self.new.faults ≡ self.old.faults) (λ _. self.new.faults ≡ raised self.old.faults) }
-        ensures writes { self.new.writes ≡ raised self.old.writes }
+        ensures faults { MatchResult result (λ _. self.new.faults ≡ self.old.faults) (λ _. self.new.faults ≡ self.old.faults + 1) }
+        ensures writes { self.new.writes ≡ min (self.old.writes + 1) (2 ^ 64 - 1) }
         ensures keeps { (self.new.capacity ≡ self.old.capacity) × (self.new.piece ≡ self.old.piece) × (self.new.fails ≡ self.old.fails) }
     {
         let number = self.writes;
@@ -98,7 +98,7 @@ impl Sink for MemSink {
         let room = self.capacity - self.bytes.len();
         let count = piece.len().min(room).min(self.piece as usize);
         if self.fails.contains(&number) || room == 0 {
-            self.faults = self.faults.saturating_add(1);
+            self.faults = Faults::one_more(&self.faults);
             return Err(Failed);
         }
         match self.bytes.extend_from_slice(&piece[..count]) {

@@ -1,11 +1,12 @@
 // Where bytes come from, and a source in memory.
-ghost use Rattle.std.specs.Prelude.{◌≡◌, ◌<◌, ◌≤◌, ◌↔◌, min, length, take, Some, IfOk, IsErr, MatchResult, Contains};
+ghost use Rattle.std.specs.Prelude.{◌≡◌, ◌<◌, ◌≤◌, ◌↔◌, ◌+◌, ◌-◌, ◌^◌, min, length, take, Some, IfOk, IsErr, MatchResult, Contains};
 ghost use Rattle.std.specs.Io.{ReadsAtMost};
 ghost use Rattle.std.specs.Io.KnownBytes.{ReadConsumes};
-ghost use Rattle.emu_io.specs.Causes.{HasCause, raised};
+ghost use Rattle.emu_io.specs.Causes.{HasCause};
 ghost use Rattle.emu_io.specs.Ends.{SourceEnd};
 
 use crate::Failed;
+use crate::faults::Faults;
 use std::marker::Model;
 
 /// Where bytes come from.
@@ -15,8 +16,7 @@ pub trait Source {
 
     /// Reads bytes into the front of `into`, and answers how many. 0 is the end of input.
     ///
-    /// `Failed` takes no byte, and the count of faults rose by just one, or stands at the end of a u64; an `Ok` leaves the count
-    /// as it was.
+    /// `Failed` takes no byte, and the count of faults rose by just one; an `Ok` leaves the count as it was.
     fn read(&mut self, into: &mut [u8]) -> Result<usize, Failed>
         requires { 0 < length into.old }
         ensures bound { ReadsAtMost result into.new }
@@ -32,7 +32,7 @@ pub struct MemSource {
     piece: u32,
     reads: u64,
     fails: Vec<u64>,
-    faults: u64,
+    faults: Faults,
 }
 
 impl Model for MemSource {
@@ -41,7 +41,7 @@ impl Model for MemSource {
 
     ghost Value = { MemoryLeft };
 
-    ghost view = { λ s. record { left = drop s.at s.bytes.items; piece = s.piece; reads = s.reads; fails = s.fails.items; faults = s.faults } };
+    ghost view = { λ s. record { left = drop s.at s.bytes.items; piece = s.piece; reads = s.reads; fails = s.fails.items; faults = s.faults.count } };
 
     ghost invariant = { λ s. (s.at ≤ length s.bytes.items) × (1 ≤ s.piece) };
 }
@@ -59,7 +59,7 @@ impl MemSource {
             piece,
             reads: 0,
             fails,
-            faults: 0,
+            faults: Faults::none(),
         }
     }
 }
@@ -85,14 +85,14 @@ impl Source for MemSource {
         // It fails exactly where its number was named, and else gives as many bytes as it may.
         ensures fails { IsErr result ↔ Contains self.old.fails self.old.reads }
         ensures count { IfOk result (λ n. n ≡ min (min (length self.old.left) (length into.old)) self.old.piece) }
-        ensures faults { MatchResult result (λ _. self.new.faults ≡ self.old.faults) (λ _. self.new.faults ≡ raised self.old.faults) }
-        ensures reads { self.new.reads ≡ raised self.old.reads }
+        ensures faults { MatchResult result (λ _. self.new.faults ≡ self.old.faults) (λ _. self.new.faults ≡ self.old.faults + 1) }
+        ensures reads { self.new.reads ≡ min (self.old.reads + 1) (2 ^ 64 - 1) }
         ensures keeps { (self.new.piece ≡ self.old.piece) × (self.new.fails ≡ self.old.fails) }
     {
         let number = self.reads;
         self.reads = self.reads.saturating_add(1);
         if self.fails.contains(&number) {
-            self.faults = self.faults.saturating_add(1);
+            self.faults = Faults::one_more(&self.faults);
             return Err(Failed);
         }
         let count = copy_front(&self.bytes[self.at..], into, self.piece as usize);

@@ -1,5 +1,5 @@
 -- What a status says, and that the input determines it.
-use Rattle.emu_top.proofs.Imports.{◌≡◌, ◌<◌, ◌≤◌, ◌+◌, ◌-◌, ◌*◌, ◌^◌, ◌⊎◌, refl, sym, ap, subst, ◌∙◌, ℕ, Bool, true, false, List, [], ◌∷◌, ◌++◌, length, map, take, drop, append_assoc, arith, length-append, inl, inr, take-append-drop, length-drop, length-take, Option, Some, None, IfSome, Result, Ok, Err, IfOk, IfErr, Appends, Consumes, Keeps, raised, Rose, SourceEnd, SinkEnd, Line, Feed, Tick, CommandLine, are_spelled, parted, grammar, most_bytes, script_len, whole_lines, IsScript, Scripted, split-found, most_calls, all_commands, bytes_written, Command, Steps, Run, Make, SelfTest, Check, meant, made, Outcome, told_head, Left, report_of, AddsPart, Output, IsSerialOutput, IsThreadOutput, IsSums, Makes, Refuses, report_over, HasReported, Answers, Outside, outside, NoWriteFails, HasWritten, Says, Determines, Does, Tells, Gives, Obeys, Serves, Status, Usage, Script, TooLong, ReadFault, WriteFault, NoMemory, Done, Wrong}
+use Rattle.emu_top.proofs.Imports.{◌≡◌, ◌<◌, ◌≤◌, ◌+◌, ◌-◌, ◌*◌, ◌^◌, ◌⊎◌, refl, sym, ap, subst, ◌∙◌, ℕ, Bool, true, false, List, [], ◌∷◌, ◌++◌, length, map, take, drop, append_assoc, arith, length-append, inl, inr, take-append-drop, length-drop, length-take, Option, Some, None, IfSome, Result, Ok, Err, IfOk, IfErr, Appends, Consumes, Keeps, SourceEnd, SinkEnd, Line, Feed, Tick, CommandLine, are_spelled, parted, grammar, most_bytes, script_len, whole_lines, IsScript, Scripted, split-found, most_calls, all_commands, bytes_written, Command, Steps, Run, Make, SelfTest, Check, meant, made, Outcome, told_head, Left, report_of, AddsPart, Output, IsSerialOutput, IsThreadOutput, IsSums, Makes, Refuses, report_over, HasReported, Answers, Outside, outside, NoWriteFails, HasWritten, Says, Determines, Does, Tells, Gives, Obeys, Serves, Status, Usage, Script, TooLong, ReadFault, WriteFault, NoMemory, Done, Wrong}
 use Rattle.client_script.specs.Script.{split}
 
 pub keeps : (w : Option (List ℕ)) → Keeps w w
@@ -47,10 +47,10 @@ module _ (left : Left) (became : List (List Outcome)) (same : became ≡ map (λ
       → HasReported left w v ReadFault
   whole_read_fault failed whole steady = (failed, subst (Appends w.written v.written) over whole, steady)
 
-  pub part_failed : AddsPart w.written v.written [] (report_of (told_head left.head) became left.histories) → v.faults ≡ raised w.faults → HasReported left w v WriteFault
+  pub part_failed : AddsPart w.written v.written [] (report_of (told_head left.head) became left.histories) → v.faults ≡ w.faults + 1 → HasReported left w v WriteFault
   part_failed p rose =
       let part : AddsPart w.written v.written [] (report_over left) = subst (AddsPart w.written v.written []) over p in
-      (part.count, part.part, part.written, subst (λ n. raised w.faults ≤ n) (sym rose) (omega arith))
+      (part.count, part.part, part.written, omega (arith, rose))
 
 says_reported : (out : Output) (x y : SourceEnd) (w v : SinkEnd) (left : Left) (status : Status)
     → Makes out x y left.head.read_fault (report_over left) → HasReported left w v status → Says out (outside x w) (outside y v) status
@@ -129,51 +129,52 @@ not_too_long input bytes rest stream script turns is short fits known (inr (e, l
 
 -- ------ the answer that the input determines
 
-pub steady : (n : ℕ) → n < 2 ^ 64 - 1 → Rose n n → ⊥
-steady n few rose = grind (arith)
+-- a count that didn't rise
+pub steady : (before now : ℕ) → now ≡ before → before < now → ⊥
+steady before now same rose = omega (arith, same, rose)
 
 pub by_taken : (input : List ℕ) (left : Option (List ℕ)) (bytes : List ℕ) → Consumes (Some input) left bytes → (rest : List ℕ) × (input ≡ bytes ++ rest)
 by_taken input None bytes con = absurd con
 by_taken input (Some rest) bytes con = (rest, con)
 
-determined : (out : Output) (input : List ℕ) (x y : SourceEnd) (w v : SinkEnd) (status : Status) → x.left ≡ Some input → x.faults < 2 ^ 64 - 1 → w.faults < 2 ^ 64 - 1
+determined : (out : Output) (input : List ℕ) (x y : SourceEnd) (w v : SinkEnd) (status : Status) → x.left ≡ Some input
     → y.faults ≡ x.faults → v.faults ≡ w.faults → Says out (outside x w) (outside y v) status → (status ≡ NoMemory) ⊎ Determines (grammar (split input).script) input status
-determined out input x y w v Usage has fr fw nr nw says = absurd says
-determined out input x y w v (Script fault) has fr fw nr nw says =
+determined out input x y w v Usage has nr nw says = absurd says
+determined out input x y w v (Script fault) has nr nw says =
     let told : grammar (split input).script ≡ Err fault = subst (λ c. IfSome c (λ whole. grammar (split whole).script ≡ Err fault)) has says.0.1 in
     inr (rw told refl)
-determined out input x y w v (TooLong turns) has fr fw nr nw says =
+determined out input x y w v (TooLong turns) has nr nw says =
     let g = says.0 in
     let t = by_taken input y.left g.bytes (subst (λ c. Consumes c y.left g.bytes) has g.taken) in
     let ok = script_of_all input g.bytes t.0 g.stream g.script t.1 g.session.says g.session.behind in
     let parts = (split_more g.bytes t.0 g.stream g.session.behind).1 in
     let fits : length g.stream + bytes_written g.script ≤ length g.bytes = omega (arith, parts, are_spelled (split g.bytes).script g.script g.session.says) in
     inr (rw ok (λ short. absurd (not_too_long input g.bytes t.0 g.stream g.script turns t.1 short fits g.known g.cause)))
-determined out input x y w v ReadFault has fr fw nr nw (steady_writes, inl (text, m, a)) = absurd (steady x.faults fr (subst (λ n. Rose x.faults n) nr m.reads))
-determined out input x y w v ReadFault has fr fw nr nw (steady_writes, inr (f, k)) = absurd (steady x.faults fr (subst (λ n. Rose x.faults n) nr f.rose))
-determined out input x y w v WriteFault has fr fw nr nw says = absurd (steady w.faults fw (subst (λ n. Rose w.faults n) nw says.front.rose))
-determined out input x y w v NoMemory has fr fw nr nw says = inl refl
-determined out input x y w v Done has fr fw nr nw says =
+determined out input x y w v ReadFault has nr nw (steady_writes, inl (text, m, a)) = absurd (steady x.faults y.faults nr m.reads)
+determined out input x y w v ReadFault has nr nw (steady_writes, inr (f, k)) = absurd (steady x.faults y.faults nr f.rose)
+determined out input x y w v WriteFault has nr nw says = absurd (steady w.faults v.faults nw says.front.rose)
+determined out input x y w v NoMemory has nr nw says = inl refl
+determined out input x y w v Done has nr nw says =
     let m = says.made in
     let t = by_taken input y.left m.bytes (subst (λ c. Consumes c y.left m.bytes) has m.taken) in
     let ok = script_of_all input m.bytes t.0 m.stream m.script t.1 m.session.says m.session.behind in
     inr (rw ok (λ short. refl))
-determined out input x y w v (Wrong fault) has fr fw nr nw says = absurd says
+determined out input x y w v (Wrong fault) has nr nw says = absurd says
 
-settled_by : (out : Output) (content : Option (List ℕ)) (x y : SourceEnd) (w v : SinkEnd) (status : Status) → x.left ≡ content → x.faults < 2 ^ 64 - 1 → w.faults < 2 ^ 64 - 1
+settled_by : (out : Output) (content : Option (List ℕ)) (x y : SourceEnd) (w v : SinkEnd) (status : Status) → x.left ≡ content
     → y.faults ≡ x.faults → v.faults ≡ w.faults → Says out (outside x w) (outside y v) status
     → IfSome content (λ input. (status ≡ NoMemory) ⊎ Determines (grammar (split input).script) input status)
-settled_by out None x y w v status has fr fw nr nw says = tt
-settled_by out (Some input) x y w v status has fr fw nr nw says = determined out input x y w v status has fr fw nr nw says
+settled_by out None x y w v status has nr nw says = tt
+settled_by out (Some input) x y w v status has nr nw says = determined out input x y w v status has nr nw says
 
 never_usage : (out : Output) (before after : Outside) (status : Status) → Says out before after status → status ≡ Usage → ⊥
 never_usage out before after status says is = subst (λ s. Says out before after s) is says
 
-pub does : (out : Output) (x y : SourceEnd) (w v : SinkEnd) (status : Status) → x.faults < 2 ^ 64 - 1 → w.faults < 2 ^ 64 - 1
+pub does : (out : Output) (x y : SourceEnd) (w v : SinkEnd) (status : Status)
     → Says out (outside x w) (outside y v) status → Does out (outside x w) (outside y v) status
-does out x y w v status fr fw says = record {
+does out x y w v status says = record {
   says = says;
-  settled = λ nr nw. settled_by out x.left x y w v status refl fr fw nr nw says;
+  settled = λ nr nw. settled_by out x.left x y w v status refl nr nw says;
 }
 
 -- ------ a text that is made from a number
@@ -181,23 +182,23 @@ does out x y w v status fr fw says = record {
 never_usage_told : (IsText : List ℕ → Type 0) (before after : Outside) (status : Status) → Tells IsText before after status → status ≡ Usage → ⊥
 never_usage_told IsText before after status says is = subst (λ s. Tells IsText before after s) is says
 
-settled_told : (IsText : List ℕ → Type 0) (before after : Outside) (status : Status) → before.sink.faults < 2 ^ 64 - 1 → Tells IsText before after status
+settled_told : (IsText : List ℕ → Type 0) (before after : Outside) (status : Status) → Tells IsText before after status
     → NoWriteFails before after → (status ≡ NoMemory) ⊎ (status ≡ Done)
-settled_told IsText before after Usage fw says nw = absurd says
-settled_told IsText before after (Script fault) fw says nw = absurd says
-settled_told IsText before after (TooLong turns) fw says nw = absurd says
-settled_told IsText before after ReadFault fw says nw = absurd says
-settled_told IsText before after WriteFault fw (text, is, front) nw = absurd (steady before.sink.faults fw (subst (λ n. Rose before.sink.faults n) nw front.rose))
-settled_told IsText before after NoMemory fw says nw = inl refl
-settled_told IsText before after Done fw says nw = inr refl
-settled_told IsText before after (Wrong fault) fw says nw = absurd says
+settled_told IsText before after Usage says nw = absurd says
+settled_told IsText before after (Script fault) says nw = absurd says
+settled_told IsText before after (TooLong turns) says nw = absurd says
+settled_told IsText before after ReadFault says nw = absurd says
+settled_told IsText before after WriteFault (text, is, front) nw = absurd (steady before.sink.faults after.sink.faults nw front.rose)
+settled_told IsText before after NoMemory says nw = inl refl
+settled_told IsText before after Done says nw = inr refl
+settled_told IsText before after (Wrong fault) says nw = absurd says
 
-pub gives : (IsText : List ℕ → Type 0) (x : SourceEnd) (w v : SinkEnd) (status : Status) → w.faults < 2 ^ 64 - 1
+pub gives : (IsText : List ℕ → Type 0) (x : SourceEnd) (w v : SinkEnd) (status : Status)
     → Tells IsText (outside x w) (outside x v) status → Gives IsText (outside x w) (outside x v) status
-gives IsText x w v status fw says = record {
+gives IsText x w v status says = record {
   reads = (keeps x.left, refl);
   says = says;
-  settled = settled_told IsText _ _ status fw says;
+  settled = settled_told IsText _ _ status says;
 }
 
 -- one text for another that is equal to it

@@ -1,5 +1,5 @@
 -- What an input asks, by the bytes that were taken of it.
-use Rattle.emu_top.proofs.Imports.{◌≡◌, ◌<◌, ◌≤◌, ◌+◌, ◌⊎◌, refl, sym, ap, subst, ◌∙◌, ℕ, zero, suc, Bool, true, false, List, [], ◌∷◌, ◌++◌, length, take, drop, get_or, append-nil, append_assoc, inl, inr, arith, length-append, nat_tests, take_all, take-append-le, take-append-drop, drop-append-le, length-take, Consumes-trans, Option, Some, None, Ok, Err, IfSome, IfNone, nat_le, Consumes, IsAtEnd, raised, SourceEnd, Number, NoStream, ScriptFault, whole_lines, HasNoFeed, first, whole_lines-line, whole_lines-none, Asked, asked_in, asked_behind, in_front, script_asked, size_of, EndsInLine, FailsToRead, HasFirstFault, AsksFor, Begins, asked}
+use Rattle.emu_top.proofs.Imports.{◌≡◌, ◌<◌, ◌≤◌, ◌+◌, ◌⊎◌, refl, sym, ap, subst, ◌∙◌, ℕ, zero, suc, Bool, true, false, List, [], ◌∷◌, ◌++◌, length, take, drop, get_or, append-nil, append_assoc, inl, inr, arith, length-append, nat_tests, take_all, take-append-le, take-append-drop, drop-append-le, length-take, Consumes-trans, Option, Some, None, Ok, Err, IfSome, IfNone, nat_le, Consumes, IsAtEnd, SourceEnd, Number, NoStream, ScriptFault, whole_lines, HasNoFeed, first, whole_lines-line, whole_lines-none, Asked, asked_in, asked_behind, in_front, script_asked, size_of, EndsInLine, FailsToRead, HasFirstFault, AsksFor, Begins, asked}
 
 -- ------ the first line
 
@@ -122,7 +122,7 @@ begins x y z size report a con steady is = record {
 pub in_line : (bytes : List ℕ) → HasNoFeed bytes → length bytes < 40 → EndsInLine bytes
 in_line bytes none few = (few, whole_lines-none bytes none)
 
-pub fails_in_report : (x y z : SourceEnd) (size : ℕ) (bytes : List ℕ) → AsksFor size x y → Consumes y.left z.left bytes → length bytes < size → z.faults ≡ raised y.faults → FailsToRead x z
+pub fails_in_report : (x y z : SourceEnd) (size : ℕ) (bytes : List ℕ) → AsksFor size x y → Consumes y.left z.left bytes → length bytes < size → z.faults ≡ y.faults + 1 → FailsToRead x z
 fails_in_report x y z size bytes a con short is = record {
   bytes = a.bytes ++ bytes;
   taken = Consumes-trans _ _ _ _ _ a.taken con;

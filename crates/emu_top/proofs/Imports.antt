@@ -19,7 +19,7 @@ pub use Rattle.dmx_calls.specs.declared.call.Call.TheVariants.{End as EndAct}
 pub use Rattle.dmx_calls.specs.declared.log.Entry.{Entry as ToldEntry}
 pub use Rattle.emu_top.specs.Checking.{Asked, Asks, Declines, EndsInLine, FailsToRead, HasFirstFault, IsAnswer, Judges, SettlesAnswer, asked_behind, asked_in, in_front, script_asked, size_of}
 unfoldable pub use Rattle.emu_top.specs.Checking.{asked, answer_text}
-pub use Rattle.emu_top.specs.Imports.{All, Appends, Check, Command, Consumes, DEMUX_NODES, Draws, Going, HasGivenAll, IsAccountedRun, IsActInRange, IsAtEnd, IsEntryInRange, IsOutcomeInRange, IsRowInRange, IsRun, IsScript, IsWholeRun, Keeps, Left, LogEntry, Make, NoMemory as NoMemoryToRun, NoStream, Number, Of188, OfStream, Outcome, PacketSize, Parsed, Pulling, Pulls, Rose, Run, ScriptError, ScriptFault, Scripted, SelfTest, SinkEnd, SourceEnd, Steps, Stop, StreamHead, TooLong as RunTooLong, all_commands, bytes_written, clients_in, cut, grammar, head_of, histories_in, meant, most_bytes, most_calls, outcomes_in, pass_act, raised, report_of, script_len, split, summary_of, told_by, told_entry, told_head, whole_lines}
+pub use Rattle.emu_top.specs.Imports.{All, Appends, Check, Command, Consumes, DEMUX_NODES, Draws, Going, HasGivenAll, IsAccountedRun, IsActInRange, IsAtEnd, IsEntryInRange, IsOutcomeInRange, IsRowInRange, IsRun, IsScript, IsWholeRun, Keeps, Left, LogEntry, Make, NoMemory as NoMemoryToRun, NoStream, Number, Of188, OfStream, Outcome, PacketSize, Parsed, Pulling, Pulls, Run, ScriptError, ScriptFault, Scripted, SelfTest, SinkEnd, SourceEnd, Steps, Stop, StreamHead, TooLong as RunTooLong, all_commands, bytes_written, clients_in, cut, grammar, head_of, histories_in, meant, most_bytes, most_calls, outcomes_in, pass_act, report_of, script_len, split, summary_of, told_by, told_entry, told_head, whole_lines}
 unfoldable pub use Rattle.ts_make.specs.Made.{made, packets, payload}
 pub use Rattle.emu_top.specs.Inside.Asking.{AsksFor, Begins, IsCutOff, IsWholeOf, wrong_as}
 pub use Rattle.emu_top.specs.Inside.Fitting.{AreFitting}

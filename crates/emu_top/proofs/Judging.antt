@@ -1,5 +1,5 @@
 -- The answer to what an input asks, and that the input determines it.
-use Rattle.emu_top.proofs.Imports.{◌≡◌, ◌<◌, ◌≤◌, ◌-◌, ◌^◌, ◌⊎◌, refl, sym, ap, subst, ◌∙◌, ℕ, Bool, true, false, List, ◌++◌, length, codes, inl, inr, arith, length-append, Consumes-trans, Option, Some, None, IfSome, MatchOption, Result, Ok, Err, IfErr, IsErrAnd, Consumes, Rose, SourceEnd, SinkEnd, cut, PacketSize, IsPacket, told_head, split, grammar, Scripted, Pulling, OfStream, are_packets, IsRightReport, right_are_of_runs, IsSession, Holds, Takes, Refuses, ReadsTo, Asks, IsAnswer, Judges, Declines, SettlesAnswer, asked, script_asked, Begins, IsCutOff, IsWholeOf, wrong_as, Answers, Checks, Tells, WritesFront, WritesWhole, outside, Stream, Status, Usage, Script, TooLong, ReadFault, WriteFault, NoMemory, Done, Wrong, ◌+◌, zero, suc, add-one, [], ◌∷◌, cases_lt, nat_tests, ⊤, nat_le, nat_lt, ◌&&◌, counts, PidRow, row_of, rows_below, rows-more, rows-same, rows-none, answer_text, and_parts}
+use Rattle.emu_top.proofs.Imports.{◌≡◌, ◌<◌, ◌≤◌, ◌-◌, ◌⊎◌, refl, sym, ap, subst, ◌∙◌, ℕ, Bool, true, false, List, ◌++◌, length, codes, inl, inr, arith, length-append, Consumes-trans, Option, Some, None, IfSome, MatchOption, Result, Ok, Err, IfErr, IsErrAnd, Consumes, SourceEnd, SinkEnd, cut, PacketSize, IsPacket, told_head, split, grammar, Scripted, Pulling, OfStream, are_packets, IsRightReport, right_are_of_runs, IsSession, Holds, Takes, Refuses, ReadsTo, Asks, IsAnswer, Judges, Declines, SettlesAnswer, asked, script_asked, Begins, IsCutOff, IsWholeOf, wrong_as, Answers, Checks, Tells, WritesFront, WritesWhole, outside, Stream, Status, Usage, Script, TooLong, ReadFault, WriteFault, NoMemory, Done, Wrong, ◌+◌, zero, suc, add-one, [], ◌∷◌, cases_lt, nat_tests, ⊤, nat_le, nat_lt, ◌&&◌, counts, PidRow, row_of, rows_below, rows-more, rows-same, rows-none, answer_text, and_parts}
 use Rattle.std.specs.Prelude.{All}
 use Rattle.ts_watch.specs.Head.{head_of}
 use Rattle.report_check.specs.declared.fault.Fault.{Fault}
@@ -89,7 +89,7 @@ declined_by_session report x y z ReadFault b f few = record {
   bytes = b.bytes ++ f.bytes;
   taken = Consumes-trans _ _ _ _ _ b.taken f.taken;
   ends = inr (inr (record { report = report; session = f.bytes; parts = b.parts f.bytes; script = inl f.missing }));
-  rose = subst (λ n. Rose n z.faults) b.steady f.rose;
+  rose = subst (λ n. n < z.faults) b.steady f.rose;
 }
 declined_by_session report x y z WriteFault b r few = absurd r
 declined_by_session report x y z NoMemory b r few = tt
@@ -122,7 +122,7 @@ declined_by_stream report first x y z w size script puller ReadFault b t h ((tak
     parts = b.parts (first ++ taken);
     script = inr (script, (h.ahead ++ taken, session_of first taken size script puller h));
   }));
-  rose = subst (λ n. Rose n w.faults) (t.steady ∙ b.steady) rose;
+  rose = subst (λ n. n < w.faults) (t.steady ∙ b.steady) rose;
 }
 declined_by_stream report first x y z w size script puller WriteFault b t h c = absurd c
 declined_by_stream report first x y z w size script puller NoMemory b t h c = tt
@@ -241,34 +241,34 @@ says_in input x y bytes report script stream has con a =
     let t = by_taken input y.left bytes (subst (λ c. Consumes c y.left bytes) has con) in
     (ap (λ xs. script_asked (asked xs)) t.1 ∙ says_of bytes t.0 report script stream a, omega (arith, ap length t.1, length-append bytes t.0))
 
-determined : (size : PacketSize) (input : List ℕ) (x y : SourceEnd) (w v : SinkEnd) (status : Status) → x.left ≡ Some input → x.faults < 2 ^ 64 - 1 → w.faults < 2 ^ 64 - 1
+determined : (size : PacketSize) (input : List ℕ) (x y : SourceEnd) (w v : SinkEnd) (status : Status) → x.left ≡ Some input
     → y.faults ≡ x.faults → v.faults ≡ w.faults → Answers size (outside x w) (outside y v) status → (status ≡ NoMemory) ⊎ SettlesAnswer (script_asked (asked input)) input status
-determined size input x y w v Usage has fr fw nr nw says = absurd says.0
-determined size input x y w v (Script fault) has fr fw nr nw says =
+determined size input x y w v Usage has nr nw says = absurd says.0
+determined size input x y w v (Script fault) has nr nw says =
     let told : script_asked (asked input) ≡ Err fault = subst (λ c. IfSome c (λ whole. script_asked (asked whole) ≡ Err fault)) has says.0.1 in
     inr (rw told refl)
-determined size input x y w v (TooLong turns) has fr fw nr nw says =
+determined size input x y w v (TooLong turns) has nr nw says =
     let g = says.0 in
     let ok = says_in input x y g.bytes g.report g.script g.stream has g.taken g.asks in
     inr (rw ok.0 (λ short. absurd (omega (arith, g.most, g.reads, ok.1))))
-determined size input x y w v ReadFault has fr fw nr nw says = absurd (steady x.faults fr (subst (λ n. Rose x.faults n) nr says.0.rose))
-determined size input x y w v WriteFault has fr fw nr nw says = absurd (steady w.faults fw (subst (λ n. Rose w.faults n) nw says.front.rose))
-determined size input x y w v NoMemory has fr fw nr nw says = inl refl
-determined size input x y w v Done has fr fw nr nw says =
+determined size input x y w v ReadFault has nr nw says = absurd (steady x.faults y.faults nr says.0.rose)
+determined size input x y w v WriteFault has nr nw says = absurd (steady w.faults v.faults nw says.front.rose)
+determined size input x y w v NoMemory has nr nw says = inl refl
+determined size input x y w v Done has nr nw says =
     let m = says.judged in
     inr (rw (says_in input x y m.bytes m.report m.script m.stream has m.taken m.asks).0 (λ short. tt))
-determined size input x y w v (Wrong fault) has fr fw nr nw says =
+determined size input x y w v (Wrong fault) has nr nw says =
     let m = says.judged in
     inr (rw (says_in input x y m.bytes m.report m.script m.stream has m.taken m.asks).0 (λ short. tt))
 
-settled_by : (size : PacketSize) (content : Option (List ℕ)) (x y : SourceEnd) (w v : SinkEnd) (status : Status) → x.left ≡ content → x.faults < 2 ^ 64 - 1 → w.faults < 2 ^ 64 - 1
+settled_by : (size : PacketSize) (content : Option (List ℕ)) (x y : SourceEnd) (w v : SinkEnd) (status : Status) → x.left ≡ content
     → y.faults ≡ x.faults → v.faults ≡ w.faults → Answers size (outside x w) (outside y v) status
     → IfSome content (λ input. (status ≡ NoMemory) ⊎ SettlesAnswer (script_asked (asked input)) input status)
-settled_by size None x y w v status has fr fw nr nw says = tt
-settled_by size (Some input) x y w v status has fr fw nr nw says = determined size input x y w v status has fr fw nr nw says
+settled_by size None x y w v status has nr nw says = tt
+settled_by size (Some input) x y w v status has nr nw says = determined size input x y w v status has nr nw says
 
-pub checks : (size : PacketSize) (x y : SourceEnd) (w v : SinkEnd) (status : Status) → x.faults < 2 ^ 64 - 1 → w.faults < 2 ^ 64 - 1 → Answers size (outside x w) (outside y v) status → Checks size (outside x w) (outside y v) status
-checks size x y w v status fr fw says = record {
+pub checks : (size : PacketSize) (x y : SourceEnd) (w v : SinkEnd) (status : Status) → Answers size (outside x w) (outside y v) status → Checks size (outside x w) (outside y v) status
+checks size x y w v status says = record {
   says = says;
-  settled = λ nr nw. settled_by size x.left x y w v status refl fr fw nr nw says;
+  settled = λ nr nw. settled_by size x.left x y w v status refl nr nw says;
 }

@@ -1,14 +1,11 @@
 -- What is to be written for a session, and why there is nothing.
-use Rattle.emu_top.proofs.Imports.{◌≡◌, ◌<◌, ◌≤◌, ◌+◌, ◌^◌, ◌⊎◌, refl, sym, ap, subst, ◌∙◌, ℕ, Bool, true, false, List, [], ◌++◌, length, map, append-nil, arith, length-append, inl, inr, IsTrue, cases_lt, Consumes-trans, ◌↔◌, Option, Some, None, IfSome, Ok, Err, Consumes, IsAtEnd, raised, Rose, SourceEnd, cut, PacketSize, told_head, ScriptFault, split, grammar, most_bytes, script_len, whole_lines, Scripted, front_of, split-found, split-missing, Stop, NoMemoryToRun, RunTooLong, most_calls, all_commands, bytes_written, IsTooLong, Pulling, OfStream, Left, writes_pass, histories_in, IsLeftBy, IsAccountedRun, are_runs, AreFitting, IsUnended, report_over, Output, IsSession, IsSerialOutput, Holds, IsFaultIn, Takes, Makes, Runs, FailsEarly, Refuses, ReadsTo, status_of_stop, Status, Usage, Script, TooLong, ReadFault, WriteFault, NoMemory, Done, Wrong}
+use Rattle.emu_top.proofs.Imports.{◌≡◌, ◌<◌, ◌≤◌, ◌+◌, ◌^◌, ◌⊎◌, refl, sym, ap, subst, ◌∙◌, ℕ, Bool, true, false, List, [], ◌++◌, length, map, append-nil, arith, length-append, inl, inr, IsTrue, cases_lt, Consumes-trans, ◌↔◌, Option, Some, None, IfSome, Ok, Err, Consumes, IsAtEnd, SourceEnd, cut, PacketSize, told_head, ScriptFault, split, grammar, most_bytes, script_len, whole_lines, Scripted, front_of, split-found, split-missing, Stop, NoMemoryToRun, RunTooLong, most_calls, all_commands, bytes_written, IsTooLong, Pulling, OfStream, Left, writes_pass, histories_in, IsLeftBy, IsAccountedRun, are_runs, AreFitting, IsUnended, report_over, Output, IsSession, IsSerialOutput, Holds, IsFaultIn, Takes, Makes, Runs, FailsEarly, Refuses, ReadsTo, status_of_stop, Status, Usage, Script, TooLong, ReadFault, WriteFault, NoMemory, Done, Wrong}
 use Rattle.emu_top.proofs.Ranged.{ranged, few_told}
 
 -- ------ the output
 
-pub rose_of : (before after : ℕ) → before < after → Rose before after
-rose_of before after lt = grind (arith)
-
 reads_to : (b : Bool) (x y : SourceEnd) → (IsTrue b ↔ (x.faults < y.faults)) → x.faults ≤ y.faults → (b ≡ false → IsAtEnd y.left) → ReadsTo b x y
-reads_to true x y rose later end = rose_of x.faults y.faults (rose.0 refl)
+reads_to true x y rose later end = rose.0 refl
 reads_to false x y rose later end = elim (cases_lt x.faults y.faults) [
   | inl lt ↦ absurd (let e : false ≡ true = rose.1 lt in cc)
   | inr le ↦ (omega arith, end refl)
@@ -16,7 +13,7 @@ reads_to false x y rose later end = elim (cases_lt x.faults y.faults) [
 
 -- the same from a moment on at which the count of faults was the same
 reads_from : (b : Bool) (x y z : SourceEnd) → y.faults ≡ x.faults → ReadsTo b y z → ReadsTo b x z
-reads_from true x y z e r = subst (λ n. Rose n z.faults) e r
+reads_from true x y z e r = subst (λ n. n < z.faults) e r
 reads_from false x y z e r = (r.0 ∙ e, r.1)
 
 session_of : (bytes part stream : List ℕ) (script : Scripted) → split bytes ≡ record { script = part; stream = Some stream } → grammar part ≡ Ok script → IsSession bytes script stream
@@ -109,7 +106,7 @@ given_up size script puller x y z first (RunTooLong turns) each takes h =
 
 -- ------ a script part that isn't read
 
-pub fails_early : (x y : SourceEnd) → IsUnended x y → y.faults ≡ raised x.faults → FailsEarly x y
+pub fails_early : (x y : SourceEnd) → IsUnended x y → y.faults ≡ x.faults + 1 → FailsEarly x y
 fails_early x y u is =
     let s : split (u.taken ++ []) ≡ record { script = u.taken; stream = None } = split-missing u.taken [] u.searched u.none (inr refl) in
     record {

@@ -1,6 +1,6 @@
 -- What `check` is asked, and what it answers (this project's own).
 use Rattle.std.specs.Prelude.{◌≡◌, ◌⊎◌, ⊤, ℕ, ◌+◌, ◌<◌, ◌≤◌, Bool, true, false, List, [], ◌∷◌, length, take, drop, nat_le, Option, Some, None, Result, Ok, Err, IfSome, if◌then◌else◌, codes}
-use Rattle.emu_top.specs.Imports.{Consumes, FaultKind, IsReportOfRun, NoStream, Number, PacketSize, Parsed, Rose, ScriptFault, Scripted, SourceEnd, cut, grammar, head_of, is_word, number_between, split, whole_lines}
+use Rattle.emu_top.specs.Imports.{Consumes, FaultKind, IsReportOfRun, NoStream, Number, PacketSize, Parsed, ScriptFault, Scripted, SourceEnd, cut, grammar, head_of, is_word, number_between, split, whole_lines}
 use Rattle.emu_top.specs.Session.{IsSession, ReadsTo}
 use Rattle.emu_top.specs.declared.status.Status.{Status}
 use Rattle.emu_top.specs.declared.status.Status.TheVariants.{Script, TooLong, ReadFault, NoMemory, Ok as Done, Wrong}
@@ -112,7 +112,7 @@ pub record FailsToRead (before after : SourceEnd) : Type 0 where
   pub bytes : List ℕ
   pub taken : Consumes before.left after.left bytes
   pub ends : EndsInLine bytes ⊎ (EndsInReport bytes ⊎ EndsInSession bytes)
-  pub rose : Rose before.faults after.faults
+  pub rose : before.faults < after.faults
 
 -- why there is no answer
 abbrev pub Declines : (before after : SourceEnd) → Status → Type 0

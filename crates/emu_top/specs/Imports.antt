@@ -18,7 +18,7 @@ pub use Rattle.dmx_calls.specs.Log.{LogEntry}
 pub use Rattle.dmx_calls.specs.declared.limits.TheConstants.{DEMUX_NODES}
 pub use Rattle.dmx_calls.specs.declared.call.Call.TheVariants.{SetFilter, SetPes}
 pub use Rattle.dmx_calls.specs.declared.outcome.Outcome.{Outcome}
-pub use Rattle.emu_io.specs.Causes.{HasCause, Rose, raised}
+pub use Rattle.emu_io.specs.Causes.{HasCause}
 pub use Rattle.emu_io.specs.Ends.{SinkEnd, SourceEnd}
 pub use Rattle.feed_pull.specs.Pulling.{HasGivenAll, IsDone, Pulling, Pulls}
 pub use Rattle.feed_pull.specs.Streams.{Draws, OfStream}

@@ -1,6 +1,6 @@
 -- What a call of the program does: by its words, by what source and sink tell before and after, and by its status.
 use Rattle.std.specs.Prelude.{◌≡◌, ◌⊎◌, ℕ, ◌+◌, ◌<◌, ◌≤◌, Bool, true, false, List, length, take, Some, None, Ok, Err, IfSome}
-use Rattle.emu_top.specs.Imports.{Appends, Check, Command, Keeps, Make, PacketSize, Parsed, Rose, Run, SelfTest, SinkEnd, SourceEnd, Steps, grammar, made, meant, split}
+use Rattle.emu_top.specs.Imports.{Appends, Check, Command, Keeps, Make, PacketSize, Parsed, Run, SelfTest, SinkEnd, SourceEnd, Steps, grammar, made, meant, split}
 use Rattle.emu_top.specs.Session.{Output, IsSerialOutput, IsThreadOutput, IsSums, Makes, GivesUp, HasFault, FailsEarly}
 use Rattle.emu_top.specs.Checking.{Declines, Judges, SettlesAnswer, answer_text, asked, script_asked}
 use Rattle.emu_top.specs.declared.status.Status.{Status}
@@ -42,13 +42,13 @@ pub record WritesFront (before after : Outside) (text : List ℕ) : Type 0 where
   pub count : ℕ
   pub part : count < length text
   pub written : Writes before after (take count text)
-  pub rose : Rose before.sink.faults after.sink.faults
+  pub rose : before.sink.faults < after.sink.faults
 
 -- What was written of a session's output, by a status: the whole of it, or a part from its front on where a
 -- write failed. `failed`: reading failed.
 abbrev pub HasWritten : (failed : Bool) → (text : List ℕ) → (before after : SinkEnd) → Status → Type 0
 HasWritten failed text before after WriteFault = (count : ℕ) × (count < length text)
-    × Appends before.written after.written (take count text) × Rose before.faults after.faults
+    × Appends before.written after.written (take count text) × (before.faults < after.faults)
 HasWritten failed text before after ReadFault =
     (failed ≡ true) × Appends before.written after.written text × (after.faults ≡ before.faults)
 HasWritten failed text before after Done =

@@ -1,6 +1,6 @@
 -- What is read of a session, and what is to be written for it.
 use Rattle.std.specs.Prelude.{◌≡◌, ◌⊎◌, ⊤, ℕ, ◌+◌, ◌<◌, ◌≤◌, ◌^◌, ◌++◌, Bool, true, false, List, [], length, map, filter_map, slice_get, Some, None, Ok, Err, IfSome}
-use Rattle.emu_top.specs.Imports.{Consumes, DEMUX_NODES, IsAccountedRun, IsAtEnd, IsRun, IsScript, IsWholeRun, Left, LogEntry, NoMemory as NoMemoryToRun, Of188, Outcome, PacketSize, Pulling, Pulls, Rose, ScriptError, ScriptFault, Scripted, SourceEnd, Stop, TooLong as RunTooLong, all_commands, batch_at, batches_by, bytes_written, clients_in, cut, grammar, head_of, histories_in, made, most_calls, outcomes_in, played_writes, plays_of, replies, report_of, sources, split, summary_of, told_by, told_head}
+use Rattle.emu_top.specs.Imports.{Consumes, DEMUX_NODES, IsAccountedRun, IsAtEnd, IsRun, IsScript, IsWholeRun, Left, LogEntry, NoMemory as NoMemoryToRun, Of188, Outcome, PacketSize, Pulling, Pulls, ScriptError, ScriptFault, Scripted, SourceEnd, Stop, TooLong as RunTooLong, all_commands, batch_at, batches_by, bytes_written, clients_in, cut, grammar, head_of, histories_in, made, most_calls, outcomes_in, played_writes, plays_of, replies, report_of, sources, split, summary_of, told_by, told_head}
 use Rattle.client_script.specs.declared.fault.ScriptError.TheVariants.{Fault, NoMemory as NoMemoryToRead}
 use Rattle.serial_core.specs.SerialRun.{Run, IsSerialRun}
 use Rattle.report_read.specs.Ranges.{IsInRange}
@@ -77,7 +77,7 @@ pub record Takes (before after : SourceEnd) (bytes : List ℕ) : Type 0 where
 
 -- whether reading failed, or nothing is left
 abbrev pub ReadsTo : (failed : Bool) → (before after : SourceEnd) → Type 0
-ReadsTo true before after = Rose before.faults after.faults
+ReadsTo true before after = before.faults < after.faults
 ReadsTo false before after = (after.faults ≡ before.faults) × IsAtEnd after.left
 
 -- the bytes that were taken are those of a session, and this is what its run left
@@ -127,7 +127,7 @@ pub record FailsEarly (before after : SourceEnd) : Type 0 where
   pub bytes : List ℕ
   pub taken : Consumes before.left after.left bytes
   pub missing : (split bytes).stream ≡ None
-  pub rose : Rose before.faults after.faults
+  pub rose : before.faults < after.faults
 
 -- why there is no output
 abbrev pub Refuses : (before after : SourceEnd) → Status → Type 0

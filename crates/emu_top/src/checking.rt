@@ -1,5 +1,5 @@
 // Whether a report is one of a session.
-ghost use Rattle.std.specs.Prelude.{◌+◌, ◌-◌, ◌^◌, ◌<◌, ◌≤◌, true, false, IfOk, IfErr, MatchOption};
+ghost use Rattle.std.specs.Prelude.{◌+◌, ◌≤◌, true, false, IfOk, IfErr, MatchOption};
 ghost use Rattle.emu_top.specs.Checking.{Declines, Judges};
 
 use crate::Status;
@@ -18,7 +18,6 @@ pub fn wrong_in<S: Source>(
     source: &mut S,
     size: PacketSize,
 ) -> Result<Option<Fault>, Status>
-    requires faults { (S.end source.old).faults < 2 ^ 64 - 1 }
     ensures answer { IfOk result (λ fault. MatchOption fault (Judges true size (S.end source.old) (S.end source.new)) (λ _. Judges false size (S.end source.old) (S.end source.new))) }
     ensures declines { IfErr result (λ status. Declines (S.end source.old) (S.end source.new) status) }
     ensures once { (S.end source.new).faults ≤ (S.end source.old).faults + 1 }

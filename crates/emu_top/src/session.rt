@@ -1,5 +1,5 @@
 // A session and its run on one thread.
-ghost use Rattle.std.specs.Prelude.{◌≡◌, ℕ, ◌+◌, ◌-◌, ◌^◌, ◌<◌, ◌≤◌, List, length, IfOk, IfErr, IfSome, IsErrOf};
+ghost use Rattle.std.specs.Prelude.{◌≡◌, ℕ, ◌+◌, ◌≤◌, List, length, IfOk, IfErr, IfSome, IsErrOf};
 ghost use Rattle.emu_top.specs.Imports.{Going, SourceEnd, most_bytes, script_len, whole_lines};
 ghost use Rattle.emu_top.specs.Session.{Holds, IsFaultIn, Refuses, Runs, Takes, status_of_error, status_of_stop};
 
@@ -96,7 +96,6 @@ fn run_session<S: Source>(
     requires few { batch ≤ 64 }
     requires going { session.puller.reading ≡ Going }
     requires fresh { session.puller.given ≡ 0 }
-    requires faults { (S.end source.old).faults < 2 ^ 64 - 1 }
     ensures runs { IfOk result (λ ran. (begun : SourceEnd) (size : PacketSize) (first : List ℕ) → Takes begun (S.end source.old) first → Holds first size session.script session.puller
         → Runs batch size begun (S.end source.new) ran) }
     ensures refuses { IfErr result (λ status. (begun : SourceEnd) (size : PacketSize) (first : List ℕ) → Takes begun (S.end source.old) first → Holds first size session.script session.puller
@@ -122,7 +121,6 @@ pub fn ran_of<S: Source>(
 ) -> Result<Left, Status>
     requires some { 1 ≤ batch }
     requires few { batch ≤ 64 }
-    requires faults { (S.end source.old).faults < 2 ^ 64 - 1 }
     ensures runs { IfOk result (λ ran. Runs batch size (S.end source.old) (S.end source.new) ran) }
     ensures refuses { IfErr result (λ status. Refuses (S.end source.old) (S.end source.new) status) }
     ensures once { (S.end source.new).faults ≤ (S.end source.old).faults + 1 }

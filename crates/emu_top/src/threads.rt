@@ -1,5 +1,5 @@
 // The run of a session by threads.
-ghost use Rattle.std.specs.Prelude.{◌≡◌, ℕ, ◌+◌, ◌-◌, ◌^◌, ◌<◌, ◌≤◌, List, IfOk, IfErr};
+ghost use Rattle.std.specs.Prelude.{◌≡◌, ℕ, ◌+◌, ◌≤◌, List, IfOk, IfErr};
 ghost use Rattle.emu_top.specs.Imports.{Going, SourceEnd};
 ghost use Rattle.emu_top.specs.Session.{Holds, IsThreadOutput, Makes, Refuses, Takes};
 ghost use Rattle.emu_top.specs.Inside.Reporting.{report_over};
@@ -30,7 +30,6 @@ fn run_threads<R: Threads + Wait + Sync, S: Source + Send, C: Clock + Sync, G: G
     requires few { batch ≤ 64 }
     requires going { session.puller.reading ≡ Going }
     requires fresh { session.puller.given ≡ 0 }
-    requires faults { (S.end source.old).faults < 2 ^ 64 - 1 }
     ensures makes { IfOk result (λ left. (begun : SourceEnd) (size : PacketSize) (first : List ℕ) → Takes begun (S.end source.old) first → Holds first size session.script session.puller
         → Makes (IsThreadOutput batch size (C.may_give clock.now)) begun (S.end source.new) left.head.read_fault (report_over left)) }
     ensures refuses { IfErr result (λ status. (begun : SourceEnd) (size : PacketSize) (first : List ℕ) → Takes begun (S.end source.old) first → Holds first size session.script session.puller
@@ -81,7 +80,6 @@ pub fn left_by_threads<R: Threads + Wait + Sync, S: Source + Send, C: Clock + Sy
 ) -> Result<Left, Status>
     requires some { 1 ≤ batch }
     requires few { batch ≤ 64 }
-    requires faults { (S.end source.old).faults < 2 ^ 64 - 1 }
     ensures makes { IfOk result (λ left. Makes (IsThreadOutput batch size (C.may_give clock.now)) (S.end source.old) (S.end source.new) left.head.read_fault (report_over left)) }
     ensures refuses { IfErr result (λ status. Refuses (S.end source.old) (S.end source.new) status) }
     ensures once { (S.end source.new).faults ≤ (S.end source.old).faults + 1 }

@@ -1,9 +1,5 @@
 -- How reading stops, and what is then so of the source and of its stream.
-use Rattle.feed_pull.proofs.Imports.{◌≡◌, ◌≢◌, refl, sym, ap, ◌∙◌, ℕ, ◌+◌, ◌-◌, ◌^◌, ◌<◌, ◌≤◌, Bool, true, false, List, [], ◌++◌, length, Result, Ok, Err, OnErr, IsTrue, arith, ◌↔◌, IsAtEnd, SourceEnd, Reading, Going, Ended, Failed, TooMany, Pulling, Pulls, has_failed, Follows, Draws, OfStream}
-
--- the source's count may rise once more while reading goes on
-pub still_counts : (old new : Reading) (x y : SourceEnd) → Follows old new x y → (old ≡ Going → x.faults < 2 ^ 64 - 1) → new ≡ Going → y.faults < 2 ^ 64 - 1
-still_counts old new x y f below going = let k = f.went going in let b = below k.0 in omega (arith, k.1, b)
+use Rattle.feed_pull.proofs.Imports.{◌≡◌, ◌≢◌, refl, sym, ap, ◌∙◌, ℕ, ◌+◌, ◌<◌, ◌≤◌, Bool, true, false, List, [], ◌++◌, length, Result, Ok, Err, OnErr, IsTrue, arith, ◌↔◌, IsAtEnd, SourceEnd, Reading, Going, Ended, Failed, TooMany, Pulling, Pulls, has_failed, Follows, Draws, OfStream}
 
 failed_by : (r : Reading) → has_failed r ≡ true → r ≡ Failed
 failed_by Going is = absurd (cc)

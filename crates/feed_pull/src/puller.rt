@@ -1,5 +1,5 @@
 // Pulls batches of packets from a source.
-ghost use Rattle.std.specs.Prelude.{◌≡◌, ◌≢◌, ◌⊎◌, ℕ, ◌+◌, ◌-◌, ◌*◌, ◌^◌, ◌<◌, ◌≤◌, ◌↔◌, List, [], ◌++◌, length, take, drop, min, max, OnOk, OnErr, IfOk, IfSome, IfNone, IsTrue, IsFalse, MatchOption, vec_len};
+ghost use Rattle.std.specs.Prelude.{◌≡◌, ◌≢◌, ◌⊎◌, ℕ, ◌+◌, ◌*◌, ◌^◌, ◌<◌, ◌≤◌, ◌↔◌, List, [], ◌++◌, length, take, drop, min, max, OnOk, OnErr, IfOk, IfSome, IfNone, IsTrue, IsFalse, MatchOption, vec_len};
 ghost use Rattle.feed_pull.specs.Imports.{Consumes, IsAtEnd, IsTally, Watched, cut, head_of, told_head};
 ghost use Rattle.feed_pull.specs.Pulling.{Pulling, IsPulling, Pulls, IsDone, HasGivenAll, HasWatchedAll, HadFewer, IsNearEnd, fault_of, has_failed, given_by};
 ghost use Rattle.feed_pull.specs.Steps.{Goes, Gathers, Follows, work, HasGiven, ReadsNothing, Carries, with_room};
@@ -125,7 +125,6 @@ impl Puller {
     fn read<S: Source>(&mut self, source: &mut S)
         requires empty { self.old.unread ≡ [] }
         requires going { self.old.reading ≡ Reading.Going }
-        requires faults { (S.end source.old).faults < 2 ^ 64 - 1 }
         ensures gathers { Gathers (S.end source.old) (S.end source.new) self.old self.new }
         ensures follows { Follows self.old.reading self.new.reading (S.end source.old) (S.end source.new) }
         ensures less { work self.new < work self.old }
@@ -193,7 +192,6 @@ impl Puller {
     fn step<S: Source>(&mut self, source: &mut S)
         requires more { self.old.unread ≡ [] → self.old.reading ≡ Reading.Going }
         requires room { length self.old.waiting < self.old.room }
-        requires faults { self.old.reading ≡ Reading.Going → (S.end source.old).faults < 2 ^ 64 - 1 }
         ensures gathers { Gathers (S.end source.old) (S.end source.new) self.old self.new }
         ensures follows { Follows self.old.reading self.new.reading (S.end source.old) (S.end source.new) }
         ensures less { work self.new < work self.old }
@@ -222,7 +220,6 @@ impl Puller {
     // Reads and cuts until as many packets wait as are asked for, or nothing is left. There is room for just these.
     fn fill<S: Source>(&mut self, source: &mut S, most: u32)
         requires room { self.old.room ≡ most }
-        requires faults { self.old.reading ≡ Reading.Going → (S.end source.old).faults < 2 ^ 64 - 1 }
         ensures gathers { Gathers (S.end source.old) (S.end source.new) self.old self.new }
         ensures follows { Follows self.old.reading self.new.reading (S.end source.old) (S.end source.new) }
         ensures fewer { length self.new.waiting < most → (self.new.unread ≡ []) × (self.new.reading ≢ Reading.Going) }
@@ -242,7 +239,6 @@ impl Puller {
     // Where memory is refused, nothing is read.
     fn gather<S: Source>(&mut self, source: &mut S, most: u32) -> Result<(), NoMemory>
         requires most { most ≤ 64 }
-        requires faults { self.old.reading ≡ Reading.Going → (S.end source.old).faults < 2 ^ 64 - 1 }
         ensures gathers { Gathers (S.end source.old) (S.end source.new) self.old self.new }
         ensures follows { Follows self.old.reading self.new.reading (S.end source.old) (S.end source.new) }
         ensures fewer { OnOk result (length self.new.waiting < most → (self.new.unread ≡ []) × (self.new.reading ≢ Reading.Going)) }
@@ -292,8 +288,6 @@ impl Puller {
     ) -> Result<Option<Arc<Batch>>, NoMemory>
         requires some { 1 ≤ most }
         requires few { most ≤ 64 }
-        // While reading goes on, the source's count of faults isn't at the end of its type.
-        requires faults { self.old.reading ≡ Reading.Going → (S.end source.old).faults < 2 ^ 64 - 1 }
         // The stream grows by just the bytes that the source gave, and what was given by the packets of this batch. After
         // want of memory too nothing that was taken is lost.
         ensures stream { Carries (S.end source.old) (S.end source.new) self.old (given_by result (λ batch. batch.value.packets)) self.new }

@@ -3,4 +3,5 @@ pub mod LawsHold
 pub mod Bytes
 pub mod Owning
 pub mod Pending
+pub mod Worked
 pub mod Imports

@@ -8,7 +8,8 @@
 //! that it found; a node answers no more bytes than its passes bring, and an Overflow at least one; nobody but its owner reads
 //! a node, and it stays the owner's whatever others call; entries of which each has the answer that those before it give are a
 //! legal history; a Pass and an End are answered Passed; a report loses nothing of a call. `script_run` stands on some of
-//! these; neither a node nor its buffer does.
+//! these; neither a node nor its buffer does. And one history worked out by hand, which the checker computes
+//! (`specs/Examples.antt`); the sessions of `examples/rows` have the others.
 //!
 //! No code of the crate runs, so nothing of it is tested. All of it is this project's own.
 #![tactic(auto)]
@@ -16,15 +17,18 @@
 ghost use Rattle.node_laws.specs.Imports.{FilledIsTheCall, PassesGoBy, Rules, UnacceptedChangesNothing, demux, dvr};
 ghost use Rattle.node_laws.specs.Owning.{OthersLeaveTheOwner, OthersDoNotRead, ReadersCallBetween};
 ghost use Rattle.node_laws.specs.Bytes.{AnswersFitThePackets, OverflowNamesAByte};
+ghost use Rattle.node_laws.specs.Examples.{SaidAtTheRead, SaidBehindTheRead, TapsAreRefused};
 ghost use Rattle.node_laws.specs.Laws.{LegalIsAccounted, PlayedIsLegal, ItemsOnlyGrow, OverflowNeedsMore};
 
 /// Each byte of each capture of a legal history is given, named as lost or named as dropped, in its place.
+#[tactic(auto, using(crate::proofs::LawsHold::demux_accounted, crate::proofs::LawsHold::dvr_accounted))]
 pub fn legal_histories_are_accounted()
     ensures demux_nodes { LegalIsAccounted demux }
     ensures dvr_node { LegalIsAccounted dvr }
 {}
 
 /// Entries of which each has the answer that those before it give are a legal history.
+#[tactic(auto, using(crate::proofs::LawsHold::played_is_legal))]
 pub fn played_entries_are_legal()
     ensures { (node : Rules) → PlayedIsLegal node }
 {}
@@ -36,17 +40,20 @@ pub fn unaccepted_entries_change_nothing()
 {}
 
 /// The items of a capture only grow.
+#[tactic(auto, using(crate::proofs::LawsHold::demux_grows, crate::proofs::LawsHold::dvr_grows))]
 pub fn items_only_grow()
     ensures demux_nodes { ItemsOnlyGrow demux }
     ensures dvr_node { ItemsOnlyGrow dvr }
 {}
 
 /// The item of a pending overflow needs more than the room that it found.
+#[tactic(auto, using(crate::proofs::LawsHold::overflow_needs_more))]
 pub fn overflows_need_more_than_their_room()
     ensures { (node : Rules) → OverflowNeedsMore node }
 {}
 
 /// A node answers, as given or as lost, no more bytes than its passes bring.
+#[tactic(auto, using(crate::proofs::Bytes::demux_answers_fit, crate::proofs::Bytes::dvr_answers_fit))]
 pub fn answers_fit_the_packets()
     ensures demux_nodes { AnswersFitThePackets demux }
     ensures dvr_node { AnswersFitThePackets dvr }
@@ -75,4 +82,12 @@ pub fn passes_go_by()
 #[tactic(auto, using(dmx_calls::proofs::Telling::fills))]
 pub fn filled_calls_are_the_calls()
     ensures { FilledIsTheCall }
+{}
+
+/// What the definitions say of a history that was worked out by hand, before an overflow and behind it; and that a demux node refuses the
+/// calls of taps.
+pub fn worked_histories()
+    ensures at_the_read { SaidAtTheRead }
+    ensures behind_the_read { SaidBehindTheRead }
+    ensures taps { TapsAreRefused }
 {}

@@ -62,6 +62,29 @@ fn unsound(entries: &[Entry], clients: u32, packets: u64, played: &[Vec<Packet>]
     None
 }
 
+fn odd_at(node: &(u32, Vec<Entry>), place: u64, kind: ReportFaultKind) -> Odd {
+    Odd::Entry {
+        node: node.0,
+        place,
+        kind,
+    }
+}
+
+// What is wrong and stands first on a node where the feeder's call at this place isn't the one that is wanted: an entry before
+// it that isn't sound, or that call. Nothing is claimed of it.
+fn first_on(
+    node: &(u32, Vec<Entry>),
+    feeder: u64,
+    clients: u32,
+    packets: u64,
+    played: &[Vec<Packet>],
+) -> Odd {
+    match unsound(&node.1, clients, packets, played) {
+        Some(place) if place < feeder => odd_at(node, place, ReportFaultKind::Place),
+        _ => odd_at(node, feeder, ReportFaultKind::Feeder),
+    }
+}
+
 // What is wrong on a node whose entries aren't sound, or whose feeder's calls aren't the same as in these others.
 fn odd_on(
     node: &(u32, Vec<Entry>),
@@ -74,19 +97,11 @@ fn odd_on(
         (IsSoundNode clients packets (map (λ ps. length ps) (map (λ p. p.items) played.now)) (map told_entry others.now) (told_node node.now))
         (λ _. IsSoundNode clients packets (map (λ ps. length ps) (map (λ p. p.items) played.now)) (map told_entry others.now) (told_node node.now) → ⊥) }
 {
-    if let Some(place) = unsound(&node.1, clients, packets, played) {
-        return Some(Odd::Entry {
-            node: node.0,
-            place,
-            kind: ReportFaultKind::Place,
-        });
-    }
     if let Some(place) = fed_unlike(others, &node.1) {
-        return Some(Odd::Entry {
-            node: node.0,
-            place,
-            kind: ReportFaultKind::Feeder,
-        });
+        return Some(first_on(node, place, clients, packets, played));
+    }
+    if let Some(place) = unsound(&node.1, clients, packets, played) {
+        return Some(odd_at(node, place, ReportFaultKind::Place));
     }
     None
 }
@@ -128,11 +143,7 @@ pub fn odd_node(
         return None;
     };
     if let Some(place) = unfed(&first.1, packets) {
-        return Some(Odd::Entry {
-            node: first.0,
-            place,
-            kind: ReportFaultKind::Feeder,
-        });
+        return Some(first_on(first, place, clients, packets, played));
     }
     odd_among(nodes, &first.1, clients, packets, played)
 }

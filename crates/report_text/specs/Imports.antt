@@ -12,7 +12,7 @@ pub use Rattle.dmx_calls.specs.declared.outcome.OutcomeKind.{OutcomeKind}
 pub use Rattle.dmx_calls.specs.declared.params.Input.{Input}
 pub use Rattle.dmx_calls.specs.declared.params.PesParams.{PesParams}
 pub use Rattle.dmx_calls.specs.declared.params.SectionParams.{SectionParams}
-pub use Rattle.emu_io.specs.Causes.{HasCause, raised}
+pub use Rattle.emu_io.specs.Causes.{HasCause}
 pub use Rattle.std.specs.Fmt.{decimal}
 pub use Rattle.std.specs.Io.KnownBytes.{Appends}
 pub use Rattle.std.specs.List.{flat_map, list_any, slice_get}

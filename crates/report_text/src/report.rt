@@ -1,6 +1,6 @@
 // The report, as it is written.
 ghost use Rattle.std.specs.Prelude.{◌≡◌, ◌+◌, ◌<◌, ◌++◌, [], map, codes, OnOk, OnErr, IsErrOf};
-ghost use Rattle.report_text.specs.Imports.{Appends, HasCause, decimal, flat_map, raised, told_head};
+ghost use Rattle.report_text.specs.Imports.{Appends, HasCause, decimal, flat_map, told_head};
 ghost use Rattle.report_text.specs.Report.{tally_text, row_text, outcome_text, client_text, clients_text, end_text, report_of};
 ghost use Rattle.report_text.specs.Inside.Pieces.{Adds, AddsPart};
 
@@ -205,7 +205,7 @@ pub fn write_report<K: Sink>(
     ensures steady { OnOk result ((K.end sink.new).faults ≡ (K.end sink.old).faults) }
     ensures refused { IsErrOf result ReportError.NoMemory → sink.new ≡ sink.old }
     ensures part { IsErrOf result ReportError.Failed → AddsPart (K.end sink.old).written (K.end sink.new).written [] (report_of (told_head head.now) (map (λ o. o.items) outcomes.now) histories.now) }
-    ensures rose { IsErrOf result ReportError.Failed → (K.end sink.new).faults ≡ raised (K.end sink.old).faults }
+    ensures rose { IsErrOf result ReportError.Failed → (K.end sink.new).faults ≡ (K.end sink.old).faults + 1 }
 {
     let Ok(mut waiting) = Waiting::new(alloc) else {
         return Err(ReportError::NoMemory);

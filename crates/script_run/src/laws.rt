@@ -10,6 +10,7 @@ pub fn calls_are_paid()
 {}
 
 /// A run so far that is over is a run, of the same batches and of the same calls.
+#[tactic(auto, using(crate::proofs::Ending::runs_end))]
 pub fn runs_end()
     ensures { RunsEnd }
 {}

@@ -49,7 +49,7 @@ pub use Rattle.seats.specs.Asks.{IsWantInRange, ask_of, asked}
 pub use Rattle.seats.specs.Calls.{MakesCalls, PassesNone}
 pub use Rattle.seats.specs.Doing.{ClosesHeld, DoesCommand, HasAnswered, HasDone, HasGone, HasMade, IsBehind, KeepsOne, MakesOne, MarksNoMore, act_by_tap, tap_by}
 pub use Rattle.seats.specs.Holding.{AreMarked, CloseHeld, GivesBack, HasLeft, IsOwnPass, KnowsItsNodes, has_then, holds}
-pub use Rattle.seats.specs.Imports.{Act, Again, Appends, AreAsked, AreFreshCallers, Attach as AttachAct, Batches, Busy, Caller, Close, ClientCommand, Consumes, Counters, DEMUX_NODES, Detach as DetachAct, Done, Dvr, Ending, Entry, Fits, IsAtEnd, IsGiven, KnowsItsCalls, LogEntry, MakesEntry, Next, Node, Once, Open, Outcome, OutcomeKind, Response, Scripted, SinkEnd, Slot, Slots, SourceEnd, Still, TableId, TapChange, Target, Task, Through, View, Want, act_of, after, append-nil, append_assoc, call_of, caller_of, commands_of, event_of, field, first, invocation_of, is_accepted, kind_by, own_call, raised, replies, response_of, told_entry, waits_on}
+pub use Rattle.seats.specs.Imports.{Act, Again, Appends, AreAsked, AreFreshCallers, Attach as AttachAct, Batches, Busy, Caller, Close, ClientCommand, Consumes, Counters, DEMUX_NODES, Detach as DetachAct, Done, Dvr, Ending, Entry, Fits, IsAtEnd, IsGiven, KnowsItsCalls, LogEntry, MakesEntry, Next, Node, Once, Open, Outcome, OutcomeKind, Response, Scripted, SinkEnd, Slot, Slots, SourceEnd, Still, TableId, TapChange, Target, Task, Through, View, Want, act_of, after, append-nil, append_assoc, call_of, caller_of, commands_of, event_of, field, first, invocation_of, is_accepted, kind_by, own_call, replies, response_of, told_entry, waits_on}
 pub use Rattle.seats.specs.Line.{BreaksOff, RunsOut, Takes, Writes}
 pub use Rattle.seats.specs.Scripts.{IsPlayed, LinesArePlayed}
 pub use Rattle.seats.specs.Seated.{AreOnNodes, AreReady, GoesOn, IsFit, IsNew, IsReady, calls_made, commands_done, log_of, told_made}

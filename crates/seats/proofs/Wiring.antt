@@ -1,5 +1,5 @@
 -- Reads and writes of a line, one behind another.
-use Rattle.seats.proofs.Imports.{◌≡◌, ◌+◌, ◌<◌, ◌≤◌, inl, inr, ℕ, Bool, true, false, List, [], ◌++◌, length, take, Result, Ok, Err, is_ok, OnOk, OnErr, ap, sym, ◌∙◌, subst, arith, length-append, length-take-le, Appends-trans, Consumes-kept, Consumes, IsAtEnd, raised, SourceEnd, SinkEnd, RunsOut, Writes, BreaksOff}
+use Rattle.seats.proofs.Imports.{◌≡◌, ◌+◌, ◌<◌, ◌≤◌, inl, inr, ℕ, Bool, true, false, List, [], ◌++◌, length, take, Result, Ok, Err, is_ok, OnOk, OnErr, ap, sym, ◌∙◌, subst, arith, length-append, length-take-le, Appends-trans, Consumes-kept, Consumes, IsAtEnd, SourceEnd, SinkEnd, RunsOut, Writes, BreaksOff}
 use Rattle.std.proofs.Common.{append_assoc}
 use Rattle.std.specs.Prelude.{Option, Some, None}
 use Rattle.std.specs.Io.KnownBytes.{Keeps}
@@ -18,12 +18,12 @@ ends_short most n a b c into within few taken steady kept end same = record {
 
 -- a read failed
 pub fails_short : (most n : ℕ) (a b c : SourceEnd) (into : List ℕ) → n ≤ length into → n < most → Consumes a.left b.left (take n into) → b.faults ≡ a.faults
-    → Keeps b.left c.left → c.faults ≡ raised b.faults → RunsOut most a c
+    → Keeps b.left c.left → c.faults ≡ b.faults + 1 → RunsOut most a c
 fails_short most n a b c into within few taken steady kept failed = record {
   bytes = take n into;
   few = let long = length-take-le n into within in omega (arith, long, few);
   taken = Consumes-kept a.left b.left c.left (take n into) taken kept;
-  stopped = inr (failed ∙ ap raised steady);
+  stopped = inr (failed ∙ ap (λ n. n + 1) steady);
 }
 
 -- what was taken by a read that gave nothing is kept
@@ -61,7 +61,7 @@ breaks_second a b c h d x y = record {
   whole = ap (λ (l : List ℕ). h ++ l) y.whole ∙ sym (append_assoc h y.front y.lost);
   some = y.some;
   written = Appends-trans a.written b.written c.written h y.front x.written y.written;
-  failed = y.failed ∙ ap raised x.steady;
+  failed = y.failed ∙ ap (λ n. n + 1) x.steady;
 }
 
 -- a head, and bytes behind it

@@ -39,7 +39,6 @@ pub use Rattle.dmx_calls.specs.declared.outcome.OutcomeKind.{OutcomeKind}
 pub use Rattle.dmx_calls.specs.declared.reply.Errno.{Errno}
 pub use Rattle.dmx_calls.specs.declared.reply.Errno.TheVariants.{Ebadf, Ebusy, Einval, Enospc}
 pub use Rattle.dmx_calls.specs.declared.reply.PollError.{PollError}
-pub use Rattle.emu_io.specs.Causes.{raised}
 pub use Rattle.emu_io.specs.Ends.{SinkEnd, SourceEnd}
 pub use Rattle.node_lock.specs.Passes.{KnowsItsCalls}
 pub use Rattle.node_lock.specs.declared.view.View.{View}

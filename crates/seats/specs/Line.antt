@@ -1,6 +1,6 @@
 -- What reads of a line take, and what writes to it give, where either may fail.
-use Rattle.std.specs.Prelude.{◌≡◌, ◌<◌, ◌⊎◌, ◌++◌, ℕ, List, length}
-use Rattle.seats.specs.Imports.{Appends, Consumes, IsAtEnd, SinkEnd, SourceEnd, raised}
+use Rattle.std.specs.Prelude.{◌≡◌, ◌+◌, ◌<◌, ◌⊎◌, ◌++◌, ℕ, List, length}
+use Rattle.seats.specs.Imports.{Appends, Consumes, IsAtEnd, SinkEnd, SourceEnd}
 
 -- these bytes were taken, and no read failed
 pub record Takes (before after : SourceEnd) (bytes : List ℕ) : Type 0 where
@@ -9,7 +9,7 @@ pub record Takes (before after : SourceEnd) (bytes : List ℕ) : Type 0 where
 
 -- nothing is left and no read failed, or one did
 abbrev pub HasStopped : (before after : SourceEnd) → Type 0
-HasStopped before after = ((after.faults ≡ before.faults) × IsAtEnd after.left) ⊎ (after.faults ≡ raised before.faults)
+HasStopped before after = ((after.faults ≡ before.faults) × IsAtEnd after.left) ⊎ (after.faults ≡ before.faults + 1)
 
 -- Fewer than so many bytes were taken, and behind them nothing is left, or a read failed.
 pub record RunsOut (most : ℕ) (before after : SourceEnd) : Type 0 where
@@ -30,4 +30,4 @@ pub record BreaksOff (before after : SinkEnd) (bytes : List ℕ) : Type 0 where
   pub whole : bytes ≡ front ++ lost
   pub some : 0 < length lost
   pub written : Appends before.written after.written front
-  pub failed : after.faults ≡ raised before.faults
+  pub failed : after.faults ≡ before.faults + 1

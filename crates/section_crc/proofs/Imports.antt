@@ -2,7 +2,7 @@
 pub use Rattle.section_crc.specs.Crc.{WithItsCrcIsZero, bit_at, bits_of, carried}
 unfoldable pub use Rattle.section_crc.specs.Crc.{after_bit, crc}
 pub use Rattle.section_crc.specs.Inside.Tables.{AreRows, IsRow, entry_of}
-pub use Rattle.section_crc.specs.declared.rows.TheConstants.{ROWS, ROW_0, ROW_1, ROW_2, ROW_3, ROW_4, ROW_5, ROW_6, ROW_7}
+pub use Rattle.section_crc.specs.declared.rows.TheConstants.{ROWS, ROW_0}
 pub use Rattle.std.proofs.Common.{Bool, List, [], add-zero, ap, ap₂, arith, bit_xor, drop, false, fold, get_or, if◌then◌else◌, inl, inr, length, nat_eq, refl, replicate, rules, slice_index, slice_index_or, suc, sym, take, true, zero, zero-add, ℕ, ◌%◌, ◌*◌, ◌+◌, ◌-◌, ◌/◌, ◌<◌, ◌^◌, ◌∙◌, ◌∷◌, ◌≡◌, ◌≤◌, lit<}
 pub use Rattle.std.proofs.lemmas.Bool.{cases_lt}
 pub use Rattle.std.proofs.lemmas.Bool.Decides.{nat_tests}

@@ -9,8 +9,7 @@
 //!
 //! What is proved: `crc` gives just what the rule gives, for any bytes, and `Tables::crc` the same by tables that `Tables::new`
 //! makes. `with_its_crc_is_zero`: over bytes with their own CRC behind them, the most significant byte first, it is 0. `crc` has
-//! eight tables written out (`src/rows.rt`) and takes eight bytes at a time; the checker works out each of their 2,048 entries
-//! from the rule.
+//! a table written out (`src/rows.rt`) and takes a byte at a time; the checker works out each of its 256 entries from the rule.
 //!
 //! What is only tested, in `tests_low`: that the rule is the one that other programs have, by the check value of CRC-32/MPEG-2
 //! and by sections of ffmpeg; and that a flipped bit is seen. Limits: no memory is taken, and the time is linear in the bytes.

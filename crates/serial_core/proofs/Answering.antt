@@ -1,5 +1,5 @@
--- Which calls leave the packets of a node and its end as they were.
-use Rattle.serial_core.proofs.Imports.{◌≡◌, refl, ap, ◌∙◌, ℕ, Bool, true, false, [], ◌∷◌, Option, Some, None, ◌||◌, Invocation, Response, Passed, is_accepted, History, event, entry_of, is_end, has_ended, Rules, has_ended_refused, has_ended_after, ClientRequest, Own, Batches, batch_at, Packets, Open, call_of, pass_of, from_frontend, facts, answer}
+-- Which calls leave the end of the stream as it was.
+use Rattle.serial_core.proofs.Imports.{◌≡◌, refl, ap, ◌∙◌, ℕ, Bool, true, false, ◌∷◌, Option, Some, None, ◌||◌, Invocation, Response, Passed, is_accepted, History, event, entry_of, is_end, has_ended, Rules, has_ended_refused, has_ended_after, ClientRequest, Own, Batches, batch_at, Packets, Open, call_of, pass_of, facts, answer}
 use Rattle.dmx_calls.specs.Invocation as call
 use Rattle.client_core.specs.declared.event.ClientRequest.TheVariants.{Pass}
 
@@ -19,17 +19,7 @@ end_stays who c r h isnt = go (is_accepted r) refl where
 pub ends : (who : ℕ) (r : Response) (h : History) → is_accepted r ≡ true → has_ended (entry_of who call.End r ∷ h) ≡ true
 ends who r h ok = has_ended_after (entry_of who call.End r) h ok
 
--- a client brings no packets of the front end
-pass_brings : (o : Option Packets) (now : ℕ) → from_frontend (pass_of o now) ≡ []
-pass_brings None now = refl
-pass_brings (Some batch) now = refl
-
-pub none_brought : (batches : Batches) (w : ClientRequest) (now : ℕ) → from_frontend (call_of batches w now) ≡ []
-none_brought batches (Own Open) now = refl
-none_brought batches (Pass write) now = pass_brings (batch_at batches write) now
-none_brought batches _ now = refl
-
--- and doesn't end the stream
+-- a client doesn't end the stream
 pass_ends : (o : Option Packets) (now who : ℕ) (r : Response) (h : History) → is_end (event (entry_of who (pass_of o now) r) h) ≡ false
 pass_ends None now who r h = refl
 pass_ends (Some batch) now who r h = refl

@@ -1,7 +1,7 @@
 -- What a run leaves.
-use Rattle.serial_core.proofs.Imports.{◌^◌, length-append, Result, Ok, Err, IfOk, ◌≡◌, refl, sym, ap, subst, ◌∙◌, ℕ, suc, ◌+◌, ◌≤◌, ◌<◌, true, List, [], ◌∷◌, ◌++◌, length, map, add-one, append-nil, arith, slice_index_or, range_with_len, length-map, get_or-replicate, get_or_append_left, IsPacket, cut, map-map, length-range_with_len, DEMUX_NODES, told_entry, Act, feeder_acts, histories_of, woven, woven_nodes, SourceEnd, IsInRange, AreNumbered, Scripted, SerialNode, Nodes, Core, IsAfter, outcomes, all_commands, bytes_written, most_calls, told_head, head_of, Pulls, IsDone, Pulls-done, Pulls-front, Pulls-size, Left, Runner, Node, log_of, Run, begun, replies_of, IsSerialRun, Pairs, IsSeat, IsNodes, acts_on, acts_of, AreLegal, IsAt, Moves, AreAfter, IsWholeBy, AllOverrunBy, IsLeftBy, IsFreshRunner, AreFreshCores, histories_in, OfStream, are_packets, commands_shared}
+use Rattle.serial_core.proofs.Imports.{◌^◌, length-append, Result, Ok, Err, IfOk, ◌≡◌, refl, sym, ap, subst, ◌∙◌, ℕ, suc, ◌+◌, ◌≤◌, ◌<◌, true, List, [], ◌∷◌, ◌++◌, length, map, add-one, append-nil, arith, slice_index_or, range_with_len, length-map, get_or-replicate, get_or_append_left, IsPacket, cut, map-map, length-range_with_len, DEMUX_NODES, told_entry, Act, feeder_acts, histories_of, woven, woven_nodes, SourceEnd, IsInRange, AreNumbered, Scripted, SerialNode, Nodes, Core, IsAfter, outcomes, all_commands, bytes_written, most_calls, told_head, head_of, Pulls, IsDone, Pulls-done, Pulls-front, Pulls-size, Left, Runner, Node, log_of, Run, begun, replies_of, IsSerialRun, Pairs, IsSeat, IsNodes, acts_on, acts_of, AreInOrder, IsAt, Moves, AreAfter, IsWholeBy, AllOverrunBy, IsLeftBy, IsFreshRunner, AreFreshCores, histories_in, OfStream, are_packets, commands_shared}
 use Rattle.std.specs.Prelude.{All}
-use Rattle.serial_core.proofs.Lawful.{serial_legal}
+use Rattle.serial_core.proofs.InOrder.{serial_in_order}
 use Rattle.serial_core.proofs.Runs.{within_budget}
 
 -- ------ histories
@@ -17,14 +17,14 @@ nodes_woven first acts (seat ∷ seats) (n ∷ ns) p numbers =
     let one : woven first acts (map told_entry seat.entries.items) ≡ (log_of n).entries = subst (λ k. woven k acts (map told_entry seat.entries.items) ≡ (log_of n).entries) here p.0.log in
     rw (one, nodes_woven (suc first) acts seats ns p.1 behind) refl
 
-pub all_woven : (v : Nodes) (r : Run) → IsNodes v r → v.has_ended ≡ true → AreLegal r → histories_of v.feeding.items (map (λ seat. seat.entries.items) v.seats.items) ≡ histories_in r
-all_woven v r at over legal =
+pub all_woven : (v : Nodes) (r : Run) → IsNodes v r → v.has_ended ≡ true → AreInOrder r → histories_of v.feeding.items (map (λ seat. seat.entries.items) v.seats.items) ≡ histories_in r
+all_woven v r at over order =
     let acts : List Act = acts_on v in
     let same : feeder_acts v.feeding.items ≡ acts = sym (ap (acts_of v.feeding.items) over) in
-    let count : length r.nodes ≡ DEMUX_NODES + 1 = sym (length-map r.nodes (λ n. n.number)) ∙ (ap length legal.numbers ∙ length-range_with_len 0 (DEMUX_NODES + 1)) in
+    let count : length r.nodes ≡ DEMUX_NODES + 1 = sym (length-map r.nodes (λ n. n.number)) ∙ (ap length order ∙ length-range_with_len 0 (DEMUX_NODES + 1)) in
     ap (λ a. woven_nodes 0 a (map (λ calls. map told_entry calls) (map (λ seat. seat.entries.items) v.seats.items))) same
     ∙ (ap (woven_nodes 0 acts) (map-map (λ calls. map told_entry calls) (λ seat. seat.entries.items) v.seats.items)
-    ∙ nodes_woven 0 acts v.seats.items r.nodes at.seats (legal.numbers ∙ ap (range_with_len 0) (sym count)))
+    ∙ nodes_woven 0 acts v.seats.items r.nodes at.seats (order ∙ ap (range_with_len 0) (sym count)))
 
 -- ------ the whole run
 
@@ -51,7 +51,7 @@ module _ (script : Scripted) (batch : ℕ) (x y : SourceEnd) (old new : Runner) 
   )
 
   pub left_is : (next : List Core) (left : Left) → length next ≡ length cores → Moves x y old new (IsWholeBy batch script.lines cores next) → IsDone new.puller → new.nodes.has_ended ≡ true
-      → ((r : Run) → IsNodes new.nodes r → AreLegal r → left.histories ≡ histories_in r)
+      → ((r : Run) → IsNodes new.nodes r → AreInOrder r → left.histories ≡ histories_in r)
       → ((ls : Scripted) (r : Run) → AreAfter ls r next → map (λ those. those.items) left.outcomes.items ≡ map (λ client. outcomes client ls (replies_of client r)) (range_with_len 0 (length next)))
       → ((ahead taken : List ℕ) (given : List (List ℕ)) → Pulls ahead taken given new.puller → told_head left.head ≡ head_of new.puller.cutting.size (ahead ++ taken) left.head.read_fault)
       → OfStream x y old.puller (λ ahead taken. IsLeftBy script batch old.puller.cutting.size (ahead ++ taken) left)
@@ -64,7 +64,7 @@ module _ (script : Scripted) (batch : ℕ) (x y : SourceEnd) (old new : Runner) 
       record {
         run = r;
         serial = subst (λ qs. IsSerialRun script batch qs r) (sym all) serial;
-        histories = histories r at.nodes (serial_legal script batch ps r serial);
+        histories = histories r at.nodes (serial_in_order script batch ps r serial);
         outcomes = outs script r w.after ∙ ap (λ m. map (λ client. outcomes client script (replies_of client r)) (range_with_len 0 m)) (count ∙ fresh.count);
         head = head ahead taken ps p ∙ ap (λ size. head_of size (ahead ++ taken) left.head.read_fault) kept;
       })

@@ -28,14 +28,14 @@ pub use Rattle.dmx_calls.specs.Log.{IsFrom, Sources, filled_entry}
 pub use Rattle.dmx_calls.specs.Response.{NoMemory, TapChange, is_accepted}
 pub use Rattle.dmx_calls.specs.Rules.{Rules, dvr}
 pub use Rattle.dmx_calls.specs.Tenure.{is_end}
-unfoldable pub use Rattle.dmx_calls.specs.Tenure.{has_ended, dvr_size, owner, params, pids, setting, size, size_or, tenure}
+unfoldable pub use Rattle.dmx_calls.specs.Tenure.{has_ended}
 pub use Rattle.dmx_calls.specs.declared.log.Entry.{Entry, Entry as CodeEntry}
 pub use Rattle.dmx_calls.specs.declared.node.NodeKind.{NodeKind}
 pub use Rattle.dmx_calls.specs.declared.reply.Errno.{Errno}
 pub use Rattle.feed_pull.proofs.CutPackets.{are_packets}
 pub use Rattle.feed_pull.proofs.Drawing.{draws_none, draws_then, none_given}
 pub use Rattle.feed_pull.proofs.PullLemmas.{Pulls-done, Pulls-front, Pulls-size}
-pub use Rattle.feed_pull.proofs.Stopping.{end_by, many_reads, of_stream, on_err, rose_by, still_counts}
+pub use Rattle.feed_pull.proofs.Stopping.{end_by, many_reads, of_stream, on_err, rose_by}
 pub use Rattle.lemmas.proofs.Lists.{at_before, at_end, at_last, at_last as got_last}
 pub use Rattle.lemmas.proofs.Options.{same_some}
 pub use Rattle.script_run.proofs.Calls.{asked_more, turn_more}
@@ -50,17 +50,15 @@ pub use Rattle.script_run.specs.Budget.{all_commands}
 pub use Rattle.script_run.specs.IsRun.{AreAsked, Batch, InTurn, IsEvent, Step, feeding, steps_of}
 pub use Rattle.script_run.specs.SoFar.{HasDoneSoFar, IsFedSoFar, IsOver, IsPaidBehind, IsSoFar, feeder}
 pub use Rattle.serial_core.specs.Budget.{AreBegun, IsBegun, IsMoment, IsOnTheWay, IsWithinBudget, no_call, one_call}
-pub use Rattle.serial_core.specs.Examples.{DrainedOutcomes, DrainedRun, PlayedOutcomes, PlayedRun, WaitedOutcomes, WaitedRun}
 pub use Rattle.serial_core.specs.Imports.{Act, Again, AreNumbered, Batches, Command, Core, DEMUX_NODES, Draws, End as EndAct, Event, Feed, Frontend, History, Invocation, IsAfter, IsDone, IsInRange, IsLegalFor, IsPacket, IsTooLong, Line, LogEntry, May, OfStream, Open, Passed, Pulling, Pulls, Response, Scripted, SourceEnd, Tick, TooMany, act_of, bytes_written, call_of, clients_in, clients_of, commands_of, cut, entry_of, filled, has_failed, head_of, histories_of, invocation_of, most_calls, next_of_line, outcomes, passing, plays_of, range_with_len, replies, response_of, rules_at, sources, told_entry, told_head, waits_on, woven}
-pub use Rattle.serial_core.specs.Inside.Legal.{AreLegal, from_frontend, packets_through}
 pub use Rattle.serial_core.specs.Inside.Lines.{AllOverrunBy, AreAfter, AreInBudget, ComesByLines, IsFrontBy, IsLineBy, IsWholeBy, OverrunsBy, calls_by}
 pub use Rattle.serial_core.specs.Inside.Moving.{ComesBy, ComesByCalls, HasDrawn, IsAt, IsDoneBy, IsReady, IsSound, MadeAtMost, Moves, one_if}
-pub use Rattle.serial_core.specs.Inside.Standing.{AreCounted, AreUnder, IsFeeding, IsNodes, IsSeat, IsUnder, Pairs, StandsAt, acts_of, acts_on, entries_in}
-pub use Rattle.serial_core.specs.Laws.{HistoriesAreLegal, IsOne, PacketsPass, TriedIsRun}
+pub use Rattle.serial_core.specs.Inside.Standing.{AreCounted, AreInOrder, AreUnder, IsFeeding, IsNodes, IsSeat, IsUnder, Pairs, StandsAt, acts_of, acts_on, entries_in}
+pub use Rattle.serial_core.specs.Laws.{IsOne}
 pub use Rattle.serial_core.specs.Left.{AreFreshCores, IsFreshRunner, IsLeftBy, histories_in}
 pub use Rattle.serial_core.specs.Nodes.{Node, Told, answer_by, answered, history_in, history_of, log_in, log_of, uncalled}
 pub use Rattle.serial_core.specs.Runs.{HaveSerialRuns, IsAccountedRun, SerialRunsAreRuns}
-pub use Rattle.serial_core.specs.SerialRun.{AreDone, IsSerialRun, IsWorked, Run, after_waiting, all_passed, and_on, batch_sizes, begun, called, calls, ended, fed_to_all, finished, made, node_at, passed, replies_of, reply_to, through, ticked, tried_command, tried_lines, turned}
+pub use Rattle.serial_core.specs.SerialRun.{AreDone, IsSerialRun, IsWorked, Run, after_waiting, all_passed, batch_sizes, begun, called, calls, ended, fed_to_all, finished, made, node_at, passed, replies_of, reply_to, through, ticked, turned}
 pub use Rattle.serial_core.specs.SerialRun.{fed}
 pub use Rattle.serial_core.specs.declared.node.AnyCore.{AnyCore}
 pub use Rattle.serial_core.specs.declared.node.AnyCore.TheVariants.{Demux, Dvr}
@@ -74,8 +72,8 @@ pub use Rattle.std.proofs.Math.Seq.{drop-append_seam, drop-cons, get_or-append_s
 pub use Rattle.std.proofs.lemmas.Bool.{cases_lt}
 pub use Rattle.std.proofs.lemmas.Bool.Decides.{nat_tests}
 pub use Rattle.std.proofs.lemmas.Grind.{flat_map-append}
-pub use Rattle.std.proofs.lemmas.List.{drop-drop, drop_all, get_or-map, get_or-replicate, get_or-set_other, get_or-set_same, get_or_append_left, length-map, length-replicate, length-set, map-append, reverse-append, take-append-drop, take-append-le, take_all}
-pub use Rattle.std.proofs.lemmas.List.Elements.{All-append, All-cons, All-head, All-map, All-nil, All-push, All-set, All-tail, All-weaker}
+pub use Rattle.std.proofs.lemmas.List.{drop-drop, drop_all, get_or-map, get_or-replicate, get_or-set_other, get_or-set_same, get_or_append_left, length-map, length-replicate, length-set, map-append, reverse-append, take-append-le, take_all}
+pub use Rattle.std.proofs.lemmas.List.Elements.{All-append, All-cons, All-head, All-nil, All-push, All-tail}
 pub use Rattle.std.proofs.lemmas.List.Folds.{sum_by-replicate}
 pub use Rattle.std.proofs.lemmas.List.FromFn.{get_or-map-range_with_len, length-range_with_len, map-range_with_len_more}
 pub use Rattle.std.proofs.lemmas.List.Sums.{get_or-le-sum_by, sum_by-append, sum_by-cons, sum_by-le, sum_by-set}

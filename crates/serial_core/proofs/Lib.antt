@@ -15,8 +15,7 @@ pub mod Feeding
 pub mod Coming
 pub mod Runs
 pub mod Commanding
-pub mod Lawful
+pub mod InOrder
 pub mod Lining
 pub mod Ending
-mod Worked
 pub mod Imports

@@ -1,5 +1,5 @@
 -- Moves one after another.
-use Rattle.serial_core.proofs.Imports.{◌≡◌, refl, ap, subst, ◌∙◌, ℕ, [], ◌++◌, append_assoc, Result, Ok, Err, OnErr, IsErrAnd, SourceEnd, Pulling, Runner, Run, HasDrawn, IsReady, IsSound, Moves, draws_none, draws_then, on_err, still_counts}
+use Rattle.serial_core.proofs.Imports.{◌≡◌, refl, ap, subst, ◌∙◌, ℕ, [], ◌++◌, append_assoc, Result, Ok, Err, OnErr, IsErrAnd, SourceEnd, Pulling, Runner, Run, HasDrawn, IsReady, IsSound, Moves, draws_none, draws_then, on_err}
 
 pub moves_none : (x : SourceEnd) (v : Runner) (goes : Run → Run → Type 0) → IsSound v → ((r : Run) → goes r r) → Moves x x v v goes
 moves_none x v goes sound same = record {
@@ -39,11 +39,10 @@ moves_by x y a b G K so g = record {
 }
 
 -- the feeder may have its next turn
-pub ready_on : (batch : ℕ) (x y : SourceEnd) (a b : Runner) (G : Run → Run → Type 0) → Moves x y a b G → IsReady batch x a → IsReady batch y b
+pub ready_on : (batch : ℕ) (x y : SourceEnd) (a b : Runner) (G : Run → Run → Type 0) → Moves x y a b G → IsReady batch a → IsReady batch b
 ready_on batch x y a b G moves ready = record {
   some = ready.some;
   few = ready.few;
-  faults = still_counts a.puller.reading b.puller.reading x y moves.draws.follows ready.faults;
   sound = moves.sound;
 }
 

@@ -6,12 +6,10 @@ pub use Rattle.client_core.specs.Inside.Core.{Core, IsAfter}
 pub use Rattle.client_core.specs.Outcomes.{outcomes}
 pub use Rattle.client_core.specs.declared.event.Event.{Event}
 pub use Rattle.client_script.specs.Grammar.{IsInRange}
-pub use Rattle.client_script.specs.Script.{AreNumbered, Scripted, clients_in, clients_of, most_bytes, plain}
+pub use Rattle.client_script.specs.Script.{AreNumbered, Scripted, clients_in, clients_of, most_bytes}
 pub use Rattle.client_script.specs.declared.line.Line.{Line}
 pub use Rattle.client_script.specs.declared.line.Line.TheVariants.{Command, Feed, Tick}
-pub use Rattle.client_script.specs.declared.line.Target.TheVariants.{Dvr, Node, Slot}
-pub use Rattle.client_script.specs.declared.line.Verb.TheVariants.{Drain, Once, ReadWait, Write}
-pub use Rattle.client_script.specs.declared.line.Want.TheVariants.{Open, Pes, Read, Start}
+pub use Rattle.client_script.specs.declared.line.Want.TheVariants.{Open}
 pub use Rattle.dmx_calls.specs.Accounted.{IsAccounted}
 pub use Rattle.dmx_calls.specs.Answer.{answer}
 pub use Rattle.dmx_calls.specs.Back.{GivesBack}
@@ -21,16 +19,13 @@ pub use Rattle.dmx_calls.specs.History.{Entry, History, entry_of}
 pub use Rattle.dmx_calls.specs.Invocation.{Invocation}
 pub use Rattle.dmx_calls.specs.Legal.{IsLegalFor, May}
 pub use Rattle.dmx_calls.specs.Log.{Act, LogEntry, act_of, filled, passing}
-pub use Rattle.dmx_calls.specs.Response.{Again, Data, Done, Passed, Response}
+pub use Rattle.dmx_calls.specs.Response.{Again, Passed, Response}
 pub use Rattle.dmx_calls.specs.Rules.{rules_at}
 pub use Rattle.dmx_calls.specs.declared.histories.Fed.{Fed}
 pub use Rattle.dmx_calls.specs.declared.limits.TheConstants.{DEMUX_NODES}
 pub use Rattle.dmx_calls.specs.declared.call.Call.TheVariants.{End}
 pub use Rattle.dmx_calls.specs.declared.outcome.Outcome.{Outcome}
 pub use Rattle.dmx_calls.specs.declared.params.Input.TheVariants.{Frontend}
-pub use Rattle.dmx_calls.specs.declared.params.Output.TheVariants.{TsdemuxTap}
-pub use Rattle.dmx_calls.specs.declared.params.PesParams.{PesParams}
-pub use Rattle.dmx_calls.specs.declared.reply.Tap.TheVariants.{Keep}
 pub use Rattle.dvr_core.specs.Stands.{StandsFor}
 pub use Rattle.emu_io.specs.Ends.{SourceEnd}
 pub use Rattle.feed_pull.specs.Pulling.{IsDone, Pulling, Pulls, has_failed}

@@ -3,4 +3,3 @@
 pub mod Lines
 pub mod Moving
 pub mod Standing
-pub mod Legal

@@ -2,7 +2,6 @@ pub mod Imports
 pub mod Nodes
 pub mod SerialRun
 pub mod Laws
-pub mod Examples
 pub mod Budget
 pub mod Left
 pub mod Runs

@@ -20,7 +20,7 @@ impl Runner {
         core: &ClientCore,
         steps: &mut Steps<L>,
     ) -> Result<(), NoMemory>
-        requires ready { IsReady batch (S.end source.old) self.old }
+        requires ready { IsReady batch self.old }
         requires made { MadeAtMost self.old (2 ^ 43) }
         ensures moves { OnOk result (Moves (S.end source.old) (S.end source.new) self.old self.new
             (λ r s. (client : ℕ) (script : Scripted) → IsAfter client script (replies_of client r) core.now → s ≡ after_waiting script batch client r)) }
@@ -44,7 +44,7 @@ impl Runner {
         event: Event,
         steps: &mut Steps<L>,
     ) -> Result<(), NoMemory>
-        requires ready { IsReady batch (S.end source.old) self.old }
+        requires ready { IsReady batch self.old }
         requires made { MadeAtMost self.old (2 ^ 43) }
         requires client { client < 8 }
         requires node { event.node ≤ nodes }
@@ -75,7 +75,7 @@ impl Runner {
         line: u32,
         steps: &mut Steps<L>,
     ) -> Result<(), Stop>
-        requires ready { IsReady batch (S.end source.old) self.old }
+        requires ready { IsReady batch self.old }
         requires made { MadeAtMost self.old (core.old.step + 2 ^ 42) }
         requires client { client < 8 }
         requires calls { core.old.step ≤ 2 ^ 39 }

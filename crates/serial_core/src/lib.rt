@@ -13,14 +13,13 @@
 //! more was read; else the source has nothing left. `TooLong` comes only where so many reads were made, or where the commands and
 //! the bytes allow a client so many calls. Laws: each script and stream have a serial run (`every_script_has_a_serial_run`), and
 //! only one (`the_serial_run_is_one`); it is a run as `script_run` says it (`the_serial_run_is_a_run`), and no client makes more
-//! calls than the budget allows (`clients_are_within_budget`). The checker works out some runs.
+//! calls than the budget allows (`clients_are_within_budget`).
 //!
 //! What is only tested, by the sessions of `examples/`: that ample memory is enough. The order of the lines is this project's
 //! own.
 #![tactic(auto)]
 
 mod command;
-pub mod examples;
 mod laws;
 mod line;
 mod node;
@@ -30,8 +29,7 @@ mod runner;
 mod seat;
 
 pub use laws::{
-    clients_are_within_budget, every_packet_passes_each_node_once, every_script_has_a_serial_run,
-    serial_histories_are_legal, the_serial_run_is_a_run, the_serial_run_is_one,
-    what_is_tried_is_the_run,
+    clients_are_within_budget, every_script_has_a_serial_run, the_serial_run_is_a_run,
+    the_serial_run_is_one,
 };
 pub use run::{Left, run_steps};

@@ -21,7 +21,7 @@ impl Runner {
         asked: Line,
         steps: &mut Steps<L>,
     ) -> Result<(), Stop>
-        requires ready { IsReady batch (S.end source.old) self.old }
+        requires ready { IsReady batch self.old }
         requires made { MadeAtMost self.old (calls_by cores.old) }
         requires late { self.old.moment + 2 ^ 32 ≤ 2 ^ 64 }
         requires clients { length cores.old ≤ 8 }
@@ -61,7 +61,7 @@ impl Runner {
         lines: &[Line],
         steps: &mut Steps<L>,
     ) -> Result<(), Stop>
-        requires ready { IsReady batch (S.end source.old) self.old }
+        requires ready { IsReady batch self.old }
         requires begins { MayBegin lines.now cores.old self.old }
         ensures moves { OnOk result (Moves (S.end source.old) (S.end source.new) self.old self.new (IsFrontBy batch lines.now (length lines.now) cores.old cores.new)) }
         ensures draws { OnErr result (HasDrawn (S.end source.old) (S.end source.new) self.old.puller self.new.puller) }
@@ -84,7 +84,7 @@ impl Runner {
         lines: &[Line],
         steps: &mut Steps<L>,
     ) -> Result<(), Stop>
-        requires ready { IsReady batch (S.end source.old) self.old }
+        requires ready { IsReady batch self.old }
         requires begins { MayBegin lines.now cores.old self.old }
         ensures moves { OnOk result (Moves (S.end source.old) (S.end source.new) self.old self.new (IsWholeBy batch lines.now cores.old cores.new)) }
         ensures draws { OnErr result (HasDrawn (S.end source.old) (S.end source.new) self.old.puller self.new.puller) }

@@ -1,12 +1,11 @@
 // The serial run of a script.
-ghost use Rattle.std.specs.Prelude.{◌≡◌, ◌≢◌, true, false, ℕ, ◌+◌, ◌-◌, ◌<◌, ◌≤◌, ◌^◌, ◌↔◌, List, [], ◌∷◌, ◌++◌, length, map, All, IfOk, OnOk, OnErr, IsErrOf, IsTrue, slice_index_or};
+ghost use Rattle.std.specs.Prelude.{◌≡◌, ◌≢◌, true, false, ℕ, ◌+◌, ◌<◌, ◌≤◌, ◌^◌, ◌↔◌, List, [], ◌∷◌, ◌++◌, length, map, All, IfOk, OnOk, OnErr, IsErrOf, IsTrue, slice_index_or};
 ghost use Rattle.serial_core.specs.Imports.{Core as CoreValue, Draws, Going, IsAfter, IsAtEnd, IsTooLong, OfStream, Pulling, Pulls, Scripted, TooMany, clients_in, has_failed, head_of, outcomes, range_with_len, told_head};
 ghost use Rattle.serial_core.specs.Inside.Lines.{AreAfter};
 ghost use Rattle.serial_core.specs.Inside.Moving.{IsSound};
 ghost use Rattle.serial_core.specs.SerialRun.{Run, replies_of};
 ghost use Rattle.serial_core.specs.Left.{AreFreshCores, IsFreshRunner, IsLeftBy, histories_in};
-ghost use Rattle.serial_core.specs.Inside.Legal.{AreLegal};
-ghost use Rattle.serial_core.specs.Inside.Standing.{IsNodes};
+ghost use Rattle.serial_core.specs.Inside.Standing.{AreInOrder, IsNodes};
 
 use crate::nodes::Nodes;
 use crate::runner::Runner;
@@ -59,7 +58,7 @@ fn outcomes_of(alloc: Global, cores: &[ClientCore]) -> Result<Vec<Vec<Outcome>>,
 fn left_by(alloc: Global, runner: Runner, cores: &[ClientCore]) -> Result<Left, Stop>
     requires sound { IsSound runner }
     requires ended { runner.nodes.has_ended ≡ true }
-    ensures histories { IfOk result (λ left. (r : Run) → IsNodes runner.nodes r → AreLegal r → left.histories ≡ histories_in r) }
+    ensures histories { IfOk result (λ left. (r : Run) → IsNodes runner.nodes r → AreInOrder r → left.histories ≡ histories_in r) }
     ensures outcomes { IfOk result (λ left. (script : Scripted) (r : Run) → AreAfter script r cores.now
         → map (λ those. those.items) left.outcomes.items ≡ map (λ client. outcomes client script (replies_of client r)) (range_with_len 0 (length cores.now))) }
     ensures head { IfOk result (λ left. (ahead taken : List ℕ) (given : List (List ℕ)) → Pulls ahead taken given runner.puller → told_head left.head ≡ head_of runner.puller.cutting.size (ahead ++ taken) left.head.read_fault) }
@@ -98,7 +97,6 @@ fn run_over<S: Source, L: Ledger>(
     requires begun { IsFreshRunner runner }
     requires fresh { AreFreshCores script.now cores.old }
     requires going { runner.puller.reading ≡ Going }
-    requires faults { (S.end source.old).faults < 2 ^ 64 - 1 }
     ensures left { IfOk result (λ left. OfStream (S.end source.old) (S.end source.new) runner.puller (λ ahead taken. IsLeftBy script.now batch runner.puller.cutting.size (ahead ++ taken) left)) }
     ensures rose { IfOk result (λ left. IsTrue left.head.read_fault ↔ ((S.end source.old).faults < (S.end source.new).faults)) }
     ensures later { IfOk result (λ _. (S.end source.old).faults ≤ (S.end source.new).faults) }
@@ -135,7 +133,6 @@ pub fn run_steps<S: Source>(
     requires few { batch ≤ 64 }
     requires going { puller.reading ≡ Going }
     requires fresh { puller.given ≡ 0 }
-    requires faults { (S.end source.old).faults < 2 ^ 64 - 1 }
     // The histories, the outcomes and the head are those of the serial run, which is the only one.
     ensures left { IfOk result (λ left. OfStream (S.end source.old) (S.end source.new) puller (λ ahead taken. IsLeftBy script.now batch puller.cutting.size (ahead ++ taken) left)) }
     // The source failed exactly where its count rose; else it has nothing left.

@@ -30,7 +30,7 @@ impl Runner {
         most: u32,
         steps: &mut Steps<L>,
     ) -> Result<u32, NoMemory>
-        requires ready { IsReady most (S.end source.old) self.old }
+        requires ready { IsReady most self.old }
         requires made { MadeAtMost self.old (2 ^ 43) }
         ensures moves { IfOk result (λ n. Moves (S.end source.old) (S.end source.new) self.old self.new
             (λ r s. (s ≡ turned most r) × (n ≡ min most (length r.left)))) }
@@ -64,7 +64,7 @@ impl Runner {
         count: u32,
         steps: &mut Steps<L>,
     ) -> Result<(), NoMemory>
-        requires ready { IsReady batch (S.end source.old) self.old }
+        requires ready { IsReady batch self.old }
         requires made { MadeAtMost self.old (2 ^ 43) }
         ensures moves { OnOk result (Moves (S.end source.old) (S.end source.new) self.old self.new (λ r s. s ≡ fed batch count r)) }
         ensures draws { OnErr result (HasDrawn (S.end source.old) (S.end source.new) self.old.puller self.new.puller) }
@@ -89,7 +89,7 @@ impl Runner {
         batch: u32,
         steps: &mut Steps<L>,
     ) -> Result<(), NoMemory>
-        requires ready { IsReady batch (S.end source.old) self.old }
+        requires ready { IsReady batch self.old }
         requires made { MadeAtMost self.old (2 ^ 43) }
         ensures moves { OnOk result (Moves (S.end source.old) (S.end source.new) self.old self.new (λ r s. s ≡ finished batch r)) }
         ensures draws { OnErr result (HasDrawn (S.end source.old) (S.end source.new) self.old.puller self.new.puller) }

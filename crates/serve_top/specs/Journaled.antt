@@ -1,5 +1,5 @@
 -- What a server has done where its stream has ended.
-use Rattle.std.specs.Prelude.{◌≡◌, ◌≤◌, ◌++◌, ◌∷◌, [], ℕ, Bool, List, length, map, reverse, slice_get, Some, All}
+use Rattle.std.specs.Prelude.{◌≡◌, ◌≤◌, ◌+◌, ◌++◌, ◌∷◌, [], ℕ, Bool, List, length, map, reverse, slice_get, Some, All}
 use Rattle.serve_top.specs.Imports.{AreOnNodes, Caller, Consumes, DEMUX_NODES, Desk, Fed, FeederWorker, Going, HasAnsweredAll, HasFedAll, HasLeft, HaveCalled, HaveHistories, JournalLine, LogEntry, Of188, Outcome, PassesNone, Pulls, SinkEnd, SourceEnd, TableId, cut, has_failed, head_of, told_head}
 use Rattle.serve_top.specs.declared.journals.Handed.{Handed}
 use Rattle.serve_top.specs.declared.journals.ReportParts.{ReportParts}
@@ -31,7 +31,8 @@ module _ {T J B : Type 0} (source : T → SourceEnd) (sink : T → SinkEnd) (too
     pub failed : Bool
     pub reads : HasReadTo failed before after
     pub head : told_head end.head ≡ head_of Of188 taken failed
-    -- the stream has passed all nodes, in batches of 64 packets, of which their journal was told
+    -- the stream has passed all nodes, in batches of 64 packets, of which their journal was told: the feeder has a pass of each
+    pub passes : length feeder.passes ≡ DEMUX_NODES + 1
     pub feeding : List Fed
     pub fed : HasFedAll every 64 may (cut Of188 taken).packets feeder feeding
     pub batches : told feeding was now

@@ -52,10 +52,12 @@ pub record HasReported {T : Type 0} (source : T → SourceEnd) (sink : T → Sin
   pub books : List (List LogEntry)
   pub called : HaveCalled every (fed_by (cut Of188 taken).packets) feeder feeding clients books
   -- these are the calls that the requests of its line ask for, one after another, each told in its reply, and then those by which
-  -- all nodes were closed, as by each request to leave; and the script has the commands that these spell, and no client of it writes
+  -- all nodes were closed, as by each request to leave; and the script has the commands that these spell, and no client of it
+  -- writes. What became of commands is told of the clients of the lines, and of no other
   pub script : Scripted
   pub writes : script.writes ≡ no_writes
   pub told : List (List Outcome)
+  pub as_many : length told ≡ length lines
   pub asked : (c : ℕ) (book : List LogEntry) → slice_get books c ≡ Some book
       → (line : T) × (slice_get (reverse lines) c ≡ Some line) × (client : Caller) × (slice_get clients c ≡ Some client)
       × (became : List Outcome) × (slice_get told c ≡ Some became) × IsServed source sink may script c client line book became

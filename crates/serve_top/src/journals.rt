@@ -1,5 +1,5 @@
 // What a server does from its first call to its last, for whatever its seats hand their calls over to.
-ghost use Rattle.std.specs.Prelude.{◌≡◌, ◌≢◌, ◌<◌, ◌≤◌, ◌^◌, ◌-◌, ◌++◌, ◌∷◌, [], map, vec_len, All, Err, IfOk, IsErrOf};
+ghost use Rattle.std.specs.Prelude.{◌≡◌, ◌≢◌, ◌≤◌, ◌++◌, ◌∷◌, [], map, vec_len, All, Err, IfOk, IsErrOf};
 ghost use Rattle.serve_top.specs.Imports.{AreAllCallers, HasFedToEnd, HasPassed, HaveSat, IsDone, IsSend, IsSync, MayPass, is_in};
 ghost use Rattle.serve_top.specs.Journaled.{AreServed, HasServedLines, IsLeftBy, IsNewFeeder};
 ghost use Rattle.serve_top.specs.Read.{HasReadTooOften};
@@ -79,14 +79,14 @@ fn sit_and_pass<
     clock: &C,
     gate: &G,
 )
-    requires feeder { MayPass 64 (S.end source.old).faults adapter.now feeder.old }
+    requires feeder { MayPass 64 adapter.now feeder.old }
     requires begun { HasPassed (is_in nodes.now) 64 (C.may_give clock.now) B.took (S.end source.old) (S.end source.old) feeder.old.puller batches.old batches.old feeder.old }
     requires desks { All (λ d. D.ready adapter.now d) desks.old.items }
     ensures feeder { HasFedToEnd (is_in nodes.now) 64 (C.may_give clock.now) B.took (S.end source.old) (S.end source.new) batches.old batches.new feeder.old feeder.new }
     ensures desks { HaveSat (D.sat (C.may_give clock.now) adapter.now) desks.old.items desks.new.items }
 {
     let mut first = ||
-        requires may { MayPass 64 (S.end source.now).faults adapter.now feeder.now }
+        requires may { MayPass 64 adapter.now feeder.now }
         requires begun { HasPassed (is_in nodes.now) 64 (C.may_give clock.now) B.took (S.end source.now) (S.end source.now) feeder.now.puller batches.now batches.now feeder.now }
         ensures { HasFedToEnd (is_in nodes.entry.now) 64 (C.may_give clock.entry.now) B.took (S.end source.entry.now) (S.end source.exit.now) batches.entry.now batches.exit.now feeder.entry.now feeder.exit.now }
     { feeder.work(rt, adapter, source, batches, BATCH, nodes, clock, gate) };
@@ -156,7 +156,6 @@ pub fn served<
     gate: &G,
 ) -> Result<ReportParts<J>, NoReport>
     requires few { vec_len lines ≤ 8 }
-    requires faults { (S.end source.old).faults < 2 ^ 64 - 1 }
     ensures served { IfOk result (λ s. AreServed T.Source.end T.Sink.end J.took B.took lines.items (C.may_give clock.now) (S.end source.old) (S.end source.new) batches.old batches.new s.feeder s.clients.items s.handed) }
     ensures all { IfOk result (λ s. AreAllCallers s.adapter (s.clients.items ++ s.feeder ∷ [])) }
     ensures reads { IsErrOf result NoReport.TooLong → HasReadTooOften (S.end source.old) (S.end source.new) }
@@ -210,7 +209,6 @@ pub fn serve_to<
     gate: &G,
 ) -> Result<Handed<J>, NoReport>
     requires few { vec_len lines ≤ 8 }
-    requires faults { (S.end source.old).faults < 2 ^ 64 - 1 }
     // What was called is what the requests on the lines ask for, and the journals were given just that.
     ensures served { IfOk result (HasServedLines T.Source.end T.Sink.end J.took B.took lines.items (C.may_give clock.now) (S.end source.old) (S.end source.new) batches.old batches.new) }
     ensures reads { IsErrOf result NoReport.TooLong → HasReadTooOften (S.end source.old) (S.end source.new) }

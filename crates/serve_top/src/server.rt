@@ -1,6 +1,5 @@
 // What a server does from its first call to its report.
-ghost use Rattle.std.specs.Prelude.{◌≡◌, ◌≢◌, ◌<◌, ◌≤◌, ◌+◌, ◌^◌, ◌-◌, ℕ, true, map, vec_len, All, IfOk, OnOk, IsErrOf};
-ghost use Rattle.emu_io.specs.Causes.{raised};
+ghost use Rattle.std.specs.Prelude.{◌≡◌, ◌≢◌, ◌≤◌, ◌+◌, ℕ, true, map, vec_len, All, IfOk, OnOk, IsErrOf};
 ghost use Rattle.serve_top.specs.Inside.Keeping.{AreKeptLines};
 ghost use Rattle.serve_top.specs.Read.{HasReadTooOften};
 ghost use Rattle.serve_top.specs.Reported.{HasReported};
@@ -27,7 +26,7 @@ pub enum NoReport {
     /// At least 4,294,967,296 bytes of the source were read: one at least by each of as many reads. Nothing was written.
     #[error("the stream was read too often")]
     TooLong,
-    /// A write failed. A part of the report was written, from its front on.
+    /// A write failed, and the sink's count of faults rose. No clause says how much of the report was written.
     #[error("what was called can't be written")]
     Failed,
 }
@@ -125,13 +124,12 @@ pub fn serve<
     gate: &G,
 ) -> Result<(), NoReport>
     requires few { vec_len lines ≤ 8 }
-    requires faults { (S.end source.old).faults < 2 ^ 64 - 1 }
     // The report is that of the stream's bytes and of what was called, which is what the requests on the lines ask for.
     ensures reported { OnOk result (HasReported T.Source.end T.Sink.end lines.items (C.may_give clock.now) (S.end source.old) (S.end source.new) (K.end sink.old).written (K.end sink.new).written) }
     ensures memory { IsErrOf result NoReport.NoMemory → sink.new ≡ sink.old }
     ensures too_long { IsErrOf result NoReport.TooLong → sink.new ≡ sink.old }
     ensures reads { IsErrOf result NoReport.TooLong → HasReadTooOften (S.end source.old) (S.end source.new) }
-    ensures failed { IsErrOf result NoReport.Failed → (K.end sink.new).faults ≡ raised (K.end sink.old).faults }
+    ensures failed { IsErrOf result NoReport.Failed → (K.end sink.new).faults ≡ (K.end sink.old).faults + 1 }
 {
     let lines = kept_lines(alloc, lines, ears)?;
     let mut batches = Rung {

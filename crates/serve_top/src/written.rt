@@ -16,7 +16,7 @@ use ts_watch::Head;
 use workers::Batches;
 
 /// A journal that writes a line for each call, or for each batch, as it is given them. Where a write fails, or memory for a line
-/// is refused, it isn't whole any more, and writes nothing behind that.
+/// is refused, it isn't whole any more; that it then writes nothing more is tested, and no clause.
 #[derive(Drop)]
 pub struct WrittenLines<K: Drop> {
     /// Where the lines go.

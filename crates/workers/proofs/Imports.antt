@@ -39,7 +39,7 @@ pub use Rattle.dmx_calls.specs.declared.reply.Tap.TheVariants.{Attach as AttachT
 pub use Rattle.feed_pull.proofs.CutPackets.{are_packets}
 pub use Rattle.feed_pull.proofs.Drawing.{draws_none, draws_then, none_given}
 pub use Rattle.feed_pull.proofs.PullLemmas.{Pulls-done, Pulls-size}
-pub use Rattle.feed_pull.proofs.Stopping.{many_reads, of_stream, on_err, still_counts}
+pub use Rattle.feed_pull.proofs.Stopping.{many_reads, of_stream, on_err}
 pub use Rattle.feed_pull.specs.Pulling.{given_by}
 pub use Rattle.feed_pull.specs.Steps.{ReadsNothing}
 pub use Rattle.lemmas.proofs.Lists.{at_map, has_at, has_either, has_left, has_right}

@@ -46,7 +46,7 @@ impl FeederWorker {
         gate: &G,
         steps: &mut Steps<L>,
     ) -> Result<bool, NoMemory>
-        requires may { MayPass most (S.end source.old).faults adapter.now self.old }
+        requires may { MayPass most adapter.now self.old }
         ensures fit { IsFitFeeder adapter.now self.new }
         ensures same { IsSameCaller self.old.feeder self.new.feeder }
         ensures others { LeavesOthers (is_in nodes.now) self.old.feeder.passes self.new.feeder.passes }
@@ -86,7 +86,7 @@ impl FeederWorker {
         gate: &G,
         steps: &mut Steps<L>,
     ) -> Result<(), NoMemory>
-        requires may { MayPass most (S.end source.old).faults adapter.now self.old }
+        requires may { MayPass most adapter.now self.old }
         ensures fit { IsFitFeeder adapter.now self.new }
         ensures same { IsSameCaller self.old.feeder self.new.feeder }
         ensures others { LeavesOthers (is_in nodes.now) self.old.feeder.passes self.new.feeder.passes }
@@ -131,7 +131,7 @@ impl FeederWorker {
         blank: Blank,
     )
         requires ledger { (blank.name ≡ L.name) × (blank.parts ≡ L.parts) × (0 < L.parts) }
-        requires may { MayPass most (S.end source.old).faults adapter.now self.old }
+        requires may { MayPass most adapter.now self.old }
         requires begun { HasPassed (is_in nodes.now) most (C.may_give clock.now) B.took (S.end source.old) (S.end source.old) self.old.puller batches.old batches.old self.old }
         ensures { HasFedToEnd (is_in nodes.now) most (C.may_give clock.now) B.took (S.end source.old) (S.end source.new) batches.old batches.new self.old self.new }
     {
@@ -159,7 +159,7 @@ impl FeederWorker {
         clock: &C,
         gate: &G,
     )
-        requires may { MayPass most (S.end source.old).faults adapter.now self.old }
+        requires may { MayPass most adapter.now self.old }
         requires begun { HasPassed (is_in nodes.now) most (C.may_give clock.now) B.took (S.end source.old) (S.end source.old) self.old.puller batches.old batches.old self.old }
         ensures { HasFedToEnd (is_in nodes.now) most (C.may_give clock.now) B.took (S.end source.old) (S.end source.new) batches.old batches.new self.old self.new }
     {

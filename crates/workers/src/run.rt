@@ -1,5 +1,5 @@
 // The run of a script by threads.
-ghost use Rattle.std.specs.Prelude.{◌≡◌, false, ℕ, ◌+◌, ◌-◌, ◌<◌, ◌≤◌, ◌^◌, ◌↔◌, List, [], ◌∷◌, ◌++◌, map, All, IfOk, OnOk, OnErr, IsErrOf, IsTrue};
+ghost use Rattle.std.specs.Prelude.{◌≡◌, false, ℕ, ◌+◌, ◌<◌, ◌≤◌, ◌↔◌, List, [], ◌∷◌, ◌++◌, map, All, IfOk, OnOk, OnErr, IsErrOf, IsTrue};
 ghost use Rattle.workers.specs.Imports.{AreAllCallers, AreFreshCallers, AreOnNodes, Draws, Going, HaveHistories, IsAtEnd, IsDone, IsTooLong, OfStream, Pulling, clients_in};
 ghost use Rattle.workers.specs.Inside.Leaving.{GoesFirst, StopsBy, IsLeftByWorkers};
 ghost use Rattle.workers.specs.Left.{IsLeftBy};
@@ -118,7 +118,6 @@ pub fn work<R: Threads + Wait + Sync, S: Source + Send, C: Clock + Sync, G: Gate
     requires few { batch ≤ 64 }
     requires going { puller.reading ≡ Going }
     requires given { puller.given ≡ 0 }
-    requires faults { (S.end source.old).faults < 2 ^ 64 - 1 }
     // The whole stream has passed, and each client has done just its commands; the head is that of the stream.
     ensures left { IfOk result (λ left. OfStream (S.end source.old) (S.end source.new) puller (λ ahead taken. IsLeftBy script.now batch (C.may_give clock.now) puller.cutting.size (ahead ++ taken) left)) }
     // They are still the adapter's callers.

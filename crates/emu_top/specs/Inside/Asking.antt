@@ -1,6 +1,6 @@
 -- What was read of what `check` is asked.
-use Rattle.std.specs.Prelude.{◌≡◌, ⊤, ℕ, ◌+◌, ◌≤◌, false, List, ◌++◌, length, Some, Ok}
-use Rattle.emu_top.specs.Imports.{Consumes, OfStream, PacketSize, Pulling, Rose, SourceEnd, cut, head_of, told_head}
+use Rattle.std.specs.Prelude.{◌≡◌, ⊤, ℕ, ◌+◌, ◌<◌, ◌≤◌, false, List, ◌++◌, length, Some, Ok}
+use Rattle.emu_top.specs.Imports.{Consumes, OfStream, PacketSize, Pulling, SourceEnd, cut, head_of, told_head}
 use Rattle.report_check.specs.declared.fault.Fault.{Fault}
 use Rattle.emu_top.specs.Checking.{asked, asked_in}
 use Rattle.emu_top.specs.declared.status.Status.{Status}
@@ -29,7 +29,7 @@ pub record IsWholeOf (size : PacketSize) (bytes : List ℕ) (stream : Stream) : 
 -- why the stream of a puller isn't read to its end
 abbrev pub IsCutOff : (before after : SourceEnd) → Pulling → Status → Type 0
 IsCutOff before after puller ReadFault =
-    ((taken : List ℕ) × Consumes before.left after.left taken) × Rose before.faults after.faults
+    ((taken : List ℕ) × Consumes before.left after.left taken) × (before.faults < after.faults)
 IsCutOff before after puller (TooLong turns) =
     (turns ≡ 4294967296) × OfStream before after puller (λ ahead taken. turns ≤ puller.start + length taken)
 IsCutOff before after puller NoMemory = ⊤

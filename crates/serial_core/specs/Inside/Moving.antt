@@ -1,6 +1,6 @@
 -- How the code goes on with the run, while the stream is pulled as it is wanted.
-use Rattle.std.specs.Prelude.{◌≡◌, ◌≢◌, ℕ, ◌+◌, ◌-◌, ◌^◌, ◌<◌, ◌≤◌, Bool, true, false, List, [], ◌++◌, length, None}
-use Rattle.serial_core.specs.Imports.{Core, Draws, Going, IsAfter, IsDone, Pulling, Pulls, Scripted, SourceEnd, next_of_line}
+use Rattle.std.specs.Prelude.{◌≡◌, ◌≢◌, ℕ, ◌+◌, ◌-◌, ◌^◌, ◌≤◌, Bool, true, false, List, [], ◌++◌, length, None}
+use Rattle.serial_core.specs.Imports.{Core, Draws, IsAfter, IsDone, Pulling, Pulls, Scripted, SourceEnd, next_of_line}
 use Rattle.serial_core.specs.declared.runner.Runner.{Runner}
 use Rattle.serial_core.specs.SerialRun.{Run, replies_of, IsWorked}
 use Rattle.serial_core.specs.Budget.{IsBegun}
@@ -47,12 +47,10 @@ pub record Moves (before after : SourceEnd) (old new : Runner) (goes : Run → R
 abbrev pub HasDrawn : (before after : SourceEnd) → (old new : Pulling) → Type 0
 HasDrawn before after old new = (packets : List (List ℕ)) × Draws before after old new packets
 
--- What holds whenever the feeder may have a turn: a batch has 1 to 64 packets, the source may be read where reading goes
--- on, and the numbers are sound.
-pub record IsReady (batch : ℕ) (source : SourceEnd) (v : Runner) : Type 0 where
+-- What holds whenever the feeder may have a turn: a batch has 1 to 64 packets, and the numbers are sound.
+pub record IsReady (batch : ℕ) (v : Runner) : Type 0 where
   pub some : 1 ≤ batch
   pub few : batch ≤ 64
-  pub faults : v.puller.reading ≡ Going → source.faults < 2 ^ 64 - 1
   pub sound : IsSound v
 
 -- at most so many calls were made beside the feeder's turns

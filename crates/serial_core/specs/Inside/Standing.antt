@@ -1,6 +1,6 @@
 -- What it means that the code has run so far.
 use Rattle.std.specs.Prelude.{ℕ, ◌≡◌, ◌+◌, ◌<◌, ◌≤◌, Bool, true, false, List, [], ◌∷◌, ◌++◌, length, map, replicate}
-use Rattle.serial_core.specs.Imports.{Act, DEMUX_NODES, End as EndAct, Fed, History, StandsFor as DvrStands, pass_act, told_entry, woven}
+use Rattle.serial_core.specs.Imports.{Act, DEMUX_NODES, End as EndAct, Fed, History, StandsFor as DvrStands, pass_act, range_with_len, told_entry, woven}
 use Rattle.dmx_calls.specs.Invocation.{Invocation, Pass, End}
 use Rattle.node_core.specs.Stands.{StandsFor as DemuxStands}
 use Rattle.serial_core.specs.declared.node.AnyCore.{AnyCore}
@@ -56,6 +56,10 @@ Pairs R _ _ = ⊥
 -- the feeder's calls on the nodes of the code
 abbrev pub acts_on : Nodes → List Act
 acts_on v = acts_of v.feeding.items v.has_ended
+
+-- the nodes of a run are those of the numbers 0 to 32, in their order
+abbrev pub AreInOrder : Run → Type 0
+AreInOrder r = map (λ node. node.number) r.nodes ≡ range_with_len 0 (DEMUX_NODES + 1)
 
 -- the nodes of the code are where those of the run are
 pub record IsNodes (v : Nodes) (r : Run) : Type 0 where

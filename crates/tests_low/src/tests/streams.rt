@@ -1,6 +1,6 @@
 // Batches, sets of PIDs, and streams in memory that are pulled.
 
-ghost use Rattle.std.specs.Prelude.{◌≡◌, ◌-◌, ◌^◌, ◌<◌, [], length, IfOk, IfSome};
+ghost use Rattle.std.specs.Prelude.{◌≡◌, [], length, IfOk, IfSome};
 ghost use Rattle.ts_packet.specs.Cut.{cut};
 ghost use Rattle.feed_pull.specs.Pulling.{Pulls, fault_of};
 ghost use Rattle.feed_pull.specs.declared.fault.Reading.TheVariants.{Going};
@@ -116,13 +116,10 @@ static ROWS: [(Pulling, Pulled); 5] = [
 struct PulledStream {
     puller: Puller,
     source: MemSource,
-    ghost counts: { puller.reading ≡ Going → source.faults < 2 ^ 64 - 1 },
 }
 
-// A source of the long stream that gives all that is asked for, of which no read has failed.
-fn source_of(alloc: Global, fails: &[u64]) -> Result<MemSource, NoMemory>
-    ensures { IfOk result (λ source. source.faults ≡ 0) }
-{
+// A source of the long stream that gives all that is asked for.
+fn source_of(alloc: Global, fails: &[u64]) -> Result<MemSource, NoMemory> {
     let bytes = long_stream(alloc)?;
     Ok(MemSource::new(bytes, 1_000_000, fails.to_vec(alloc)?))
 }
@@ -205,7 +202,6 @@ fn is_pulled(alloc: Global, row: &(Pulling, Pulled)) -> Result<bool, NoMemory> {
 fn count_all<S: Source>(puller: &mut Puller, source: &mut S) -> Result<u64, NoMemory>
     requires begins { Pulls [] [] [] puller.old }
     requires going { puller.old.reading ≡ Going }
-    requires faults { (S.end source.old).faults < 2 ^ 64 - 1 }
     ensures { IfOk result (λ count. fault_of puller.new.reading ≡ None → IfSome (S.end source.old).left (λ input. count ≡ length (cut puller.old.cutting.size input).packets)) }
 {
     let mut count = 0u64;

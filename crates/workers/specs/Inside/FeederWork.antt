@@ -1,6 +1,6 @@
 -- The feeder at work.
-use Rattle.std.specs.Prelude.{◌≡◌, ◌≢◌, ◌⊎◌, ◌<◌, ◌≤◌, ◌+◌, ◌-◌, ◌^◌, ℕ, Bool, false, List, [], ◌∷◌, length, slice_get, None, Some, All}
-use Rattle.workers.specs.Imports.{DEMUX_NODES, Draws, Entry, Fed, Fits, Going, IsDone, IsSameCaller, NoMemory, Pulling, Pulls, SourceEnd, TableId, TooLong, TooMany, View, ended}
+use Rattle.std.specs.Prelude.{◌≡◌, ◌≢◌, ◌⊎◌, ◌≤◌, ◌+◌, ◌-◌, ◌^◌, ℕ, Bool, false, List, [], ◌∷◌, length, slice_get, None, Some, All}
+use Rattle.workers.specs.Imports.{DEMUX_NODES, Draws, Entry, Fed, Fits, IsDone, IsSameCaller, NoMemory, Pulling, Pulls, SourceEnd, TableId, TooLong, TooMany, View, ended}
 use Rattle.workers.specs.declared.feeder_worker.FeederWorker.{FeederWorker}
 use Rattle.workers.specs.Feeding.{AreFullBatches, HasEnded, HasFed}
 
@@ -11,12 +11,10 @@ pub record IsFitFeeder (locks : List TableId) (f : FeederWorker) : Type 0 where
   pub count : f.count ≤ f.puller.given
   pub given : f.puller.given ≤ 2 ^ 41
 
--- What holds whenever it may pass a batch: this has 1 to 64 packets, and the source, which has failed so
--- often, may be read where reading goes on.
-pub record MayPass (most failed : ℕ) (locks : List TableId) (f : FeederWorker) : Type 0 where
+-- What holds whenever it may pass a batch, which has 1 to 64 packets.
+pub record MayPass (most : ℕ) (locks : List TableId) (f : FeederWorker) : Type 0 where
   pub some : 1 ≤ most
   pub few : most ≤ 64
-  pub faults : f.puller.reading ≡ Going → failed < 2 ^ 64 - 1
   pub fit : IsFitFeeder locks f
 
 -- the passes of the nodes that are not among these are as they were

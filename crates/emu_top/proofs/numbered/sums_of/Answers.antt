@@ -101,7 +101,7 @@ refused number left (TooLong turns) g =
     let parts = (split_more g.bytes t.0 g.stream g.session.behind).1 in
     let fits : length g.stream + bytes_written g.script ≤ length g.bytes = omega (arith, parts, are_spelled (split g.bytes).script g.script g.session.says) in
     absurd (not_too_long (made number) g.bytes t.0 g.stream g.script turns t.1 (short number) fits g.known g.cause)
-refused number left ReadFault r = absurd (steady 0 (omega arith) r.rose)
+refused number left ReadFault r = absurd (steady 0 0 refl r.rose)
 refused number left WriteFault r = absurd r
 refused number left NoMemory r = refl
 refused number left Done r = absurd r
@@ -113,7 +113,7 @@ read_whole input (Some rest) bytes con end = con ∙ (ap (λ r. bytes ++ r) end 
 
 summed_by : (number batch : ℕ) (left : Option (List ℕ)) (ran : Left) (text : List ℕ) (failed : Bool) → ran.head.read_fault ≡ failed → Runs batch Of188 (unfailed (Some (made number))) (unfailed left) ran
     → text ≡ summary_of (told_head ran.head) ran.histories → IsSums number batch text
-summed_by number batch left ran text true is r e = absurd (steady 0 (omega arith) (subst (λ b. ReadsTo b (unfailed (Some (made number))) (unfailed left)) is r.reads))
+summed_by number batch left ran text true is r e = absurd (steady 0 0 refl (subst (λ b. ReadsTo b (unfailed (Some (made number))) (unfailed left)) is r.reads))
 summed_by number batch left ran text false is r e =
     let reads : ReadsTo false (unfailed (Some (made number))) (unfailed left) = subst (λ b. ReadsTo b (unfailed (Some (made number))) (unfailed left)) is r.reads in
     let whole : made number ≡ r.bytes = read_whole (made number) left r.bytes r.taken reads.1 in

@@ -7,7 +7,7 @@ pub returns-in-Ok-Some-Run : goal.returns-in-Ok-Some-Run
 returns-in-Ok-Some-Run g c =
     let batch = c.in-Ok-Some-Run.batch in
     let packet = c.in-Ok-Some-Run.packet in
-    let done = does (IsThreadOutput batch packet _) _ _ _ _ c.run.result c.requires.source_can_count c.requires.sink_can_count c.run.ensures.says in
+    let done = does (IsThreadOutput batch packet _) _ _ _ _ c.run.result c.run.ensures.says in
     record {
       serves = serves _ (Run batch packet) _ _ _ c.run.result (sym c.in-Ok-Some-Run.ensures.value ∙ (c.in-Ok-Some-Run.field-0-is ∙ ap Some c.in-Ok-Some-Run.field-0-0-is)) done c.run.ensures.reads_once c.run.ensures.writes_once;
     }

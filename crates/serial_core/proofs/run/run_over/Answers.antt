@@ -1,4 +1,4 @@
-use Rattle.serial_core.proofs.Imports.{◌^◌, ◌≡◌, ◌≢◌, sym, ap, ◌∙◌, ℕ, ◌+◌, ◌≤◌, List, ◌++◌, length, map, Err, inl, inr, true, false, arith, range_with_len, Scripted, outcomes, Pulls, has_failed, told_head, head_of, TooMany, TooLong, all_commands, bytes_written, IsTooLong, most_calls, clients_within, Left, Run, replies_of, AreLegal, AreAfter, IsNodes, histories_in, on_err, rose_by, end_by, many_reads, of_stream}
+use Rattle.serial_core.proofs.Imports.{◌^◌, ◌≡◌, ◌≢◌, sym, ap, ◌∙◌, ℕ, ◌+◌, ◌≤◌, List, ◌++◌, length, map, Err, inl, inr, true, false, arith, range_with_len, Scripted, outcomes, Pulls, has_failed, told_head, head_of, TooMany, TooLong, all_commands, bytes_written, IsTooLong, most_calls, clients_within, Left, Run, replies_of, AreInOrder, AreAfter, IsNodes, histories_in, on_err, rose_by, end_by, many_reads, of_stream}
 use Rattle.serial_core.proofs.Ending.{left_is, overrun_is, ok_by}
 use Rattle.serial_core.proofs.run.run_over.Goals as goal
 
@@ -7,7 +7,7 @@ returns-in-Ok-clause-left g c =
     let w = c.in-Ok.ensures in
     let done = w.moves.sound.ended w.ended in
     ok_by c.left_by.result _ _ _ _
-    (λ (left : Left) (a : (r : Run) → IsNodes c.whole.new.self.nodes r → AreLegal r → left.histories ≡ histories_in r)
+    (λ (left : Left) (a : (r : Run) → IsNodes c.whole.new.self.nodes r → AreInOrder r → left.histories ≡ histories_in r)
     (b : (ls : Scripted) (r : Run) → AreAfter ls r c.whole.new.cores → map (λ those. those.items) left.outcomes.items ≡ map (λ client. outcomes client ls (replies_of client r)) (range_with_len 0 (length c.whole.new.cores)))
     (h : (ahead taken : List ℕ) (given : List (List ℕ)) → Pulls ahead taken given c.whole.new.self.puller → told_head left.head ≡ head_of c.whole.new.self.puller.cutting.size (ahead ++ taken) left.head.read_fault).
     left_is c.args.script.now c.args.batch _ _ c.args.runner c.whole.new.self c.args.cores.now c.requires.begun c.requires.fresh c.whole.new.cores left c.whole.auto.cores (rw c.lines.ensures.lines at w.moves) done w.ended a b h)
@@ -54,7 +54,6 @@ pub whole-requires-clause-ready : goal.whole-requires-clause-ready
 whole-requires-clause-ready g c = record {
   some = c.requires.some;
   few = c.requires.few;
-  faults = λ going. c.requires.faults;
   sound = record {
     ended = λ is. absurd (let e : true ≡ false = sym is ∙ c.requires.begun.unended in cc);
     counted = c.requires.begun.counted;

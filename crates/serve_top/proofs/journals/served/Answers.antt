@@ -186,6 +186,7 @@ module _ {T J : Type 0} (source : T → SourceEnd) (sink : T → SinkEnd) (may :
       failed = has_failed q.puller.reading;
       reads = read_to p.puller.reading q.puller.reading x y through.draws.follows is.going through.done.stopped (w.few stop);
       head = left.head taken through.packets pulls ∙ ap (λ (s : PacketSize). head_of s taken (has_failed q.puller.reading)) (through.draws.carries.size ∙ is.size);
+      passes = w.nodes;
       feeding = through.feeding;
       fed = fed;
       batches = through.told;
@@ -227,7 +228,6 @@ sit_and_pass-requires-clause-feeder g c κs within =
     record {
       some = omega arith;
       few = omega arith;
-      faults = λ going. c.requires.faults;
       fit = begun_feeder (plain []) a.adapter _ a.feeder a.clients.items a.ensures.fresh a.ensures.all f.feeder is.caller is.count is.given;
     }
 

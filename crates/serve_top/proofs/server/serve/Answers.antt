@@ -194,6 +194,7 @@ module _ {T E : Type 0} (source : T → SourceEnd) (sink : T → SinkEnd) (may :
       script = script;
       writes = refl;
       told = told;
+      as_many = length-map journals (λ (k : Rung E KeptJournal). k.kept.outcomes.items) ∙ (s.kept ∙ (sym (length-map kept (λ (l : JournalLine T (Rung E KeptJournal)). l.line)) ∙ ap length are.are));
       asked = asked;
       left = s.left;
       histories = hs;

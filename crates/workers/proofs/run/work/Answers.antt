@@ -75,7 +75,6 @@ work_all-requires-clause-feeder g c κs within =
     record {
       some = r.some;
       few = r.few;
-      faults = λ going. r.faults;
       fit = begun_feeder c.args.script.now c.args.adapter.now _ c.args.feeder c.args.clients.items r.fresh r.all
           (record { feeder = c.args.feeder; puller = c.args.puller; count = 0; stop = None }) refl refl r.given;
     }

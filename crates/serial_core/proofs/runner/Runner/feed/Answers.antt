@@ -17,7 +17,6 @@ turn-requires-clause-ready g c =
     record {
       some = omega (arith, size, more, c.requires.ready.some);
       few = omega (arith, size, c.requires.ready.few);
-      faults = ready.faults;
       sound = ready.sound;
     }
 

@@ -1,4 +1,4 @@
-use Rattle.workers.proofs.Imports.{◌∙◌, ◌++◌, [], refl, same_trans, draws_none, draws_then, still_counts}
+use Rattle.workers.proofs.Imports.{◌∙◌, ◌++◌, [], refl, same_trans, draws_none, draws_then}
 use Rattle.workers.proofs.Working.{same_self}
 use Rattle.workers.proofs.feeder_worker.FeederWorker.pass_all.Goals as goal
 
@@ -10,7 +10,6 @@ turn-requires g c = record {
   may = record {
     some = c.requires.may.some;
     few = c.requires.may.few;
-    faults = still_counts _ _ _ _ c.batches.invariant.draws.1.follows c.requires.may.faults;
     fit = c.batches.invariant.fit;
   };
 }

@@ -1,0 +1,4 @@
+pub mod Made
+pub mod Ended
+pub mod CanEnd
+pub mod Clients

@@ -1,0 +1,4 @@
+pub mod Imports
+pub mod Verbs
+pub mod Laws
+pub mod Clients
