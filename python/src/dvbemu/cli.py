@@ -98,7 +98,11 @@ def plain(word, given):
 
 
 def program_for(word):
-    """The program, which is proved or compiled where there is none; the wrapper where it can't be kept. None where that fails."""
+    """The program, which is proved or compiled where there is none; the wrapper where it can't be kept. None where that fails. Ends with
+    the status 7 where it would have too little stack."""
+    if (stack := spawned.stack()) < spawned.LEAST_STACK:
+        print(f"dvbemu: the stack may have {stack} KiB, and {spawned.LEAST_STACK} are wanted (ulimit -s)", file=sys.stderr)
+        sys.exit(standard.NO_MEMORY)
     if built:
         return built[0]
     for _ in range(2):

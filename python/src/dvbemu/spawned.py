@@ -1,9 +1,12 @@
 """Programs that are started with nothing beside them: what they read and tell is in files in memory, so that no thread need look after it."""
 import os
+import resource
 
 DVBEMU = os.path.normpath(os.path.join(os.path.dirname(os.path.realpath(__file__)), "..", "..", "..", "dvbemu"))
 # What the wrapper sets for the program, but for `run`, where the caller hasn't set it: see there.
 SETTING = {"GLIBC_TUNABLES": "glibc.malloc.hugetlb=1"}
+# The bytes of stack that are usual, and the KiB of it that the program wants at least.
+STACK, LEAST_STACK = 8 << 20, 256
 
 
 def memory(pieces=()):
@@ -75,3 +78,12 @@ def ran(words, given=(), env=None):
     finally:
         os.close(ends[0])
     return bytes_of(ends[1]), bytes_of(ends[2]), status
+
+
+def stack():
+    """Gives programs that are started the stack that is usual, 8 MiB, or as much as may be had; how many KiB that is."""
+    soft, hard = resource.getrlimit(resource.RLIMIT_STACK)
+    if soft != resource.RLIM_INFINITY and soft < STACK:
+        soft = STACK if hard == resource.RLIM_INFINITY else min(STACK, hard)
+        resource.setrlimit(resource.RLIMIT_STACK, (soft, hard))
+    return (STACK if soft == resource.RLIM_INFINITY else soft) // 1024
