@@ -391,12 +391,12 @@ def lost_text(line: int, call: Call, span: tuple[int, int]) -> str:
         unread = f"unread when {NAMES.get(call.act, call.act)} dropped them"
         return head + unread + (f", as long as {many(call.repeats, 'section')} of those read before" if call.repeats else "")
     room = f"item {reply['item']}, counted from 0, needs {many(reply['need'], 'byte')} and found room for {reply['room']:,}"
-    buffer = f"in a buffer of size {call.reason}, which holds {int(call.reason) - 1}"
+    buffer = f", in a buffer of size {call.reason}, which holds {int(call.reason) - 1}" if call.reason else ""
     if call.lost.kept:
         why = f"all items from {reply['item']} on until a read told the Overflow, behind those that KEEP has kept"
     else:
         why = "all that was unread at an Overflow"
-    return head + f"{lost_items(call.lost)}{why}: {room}, {buffer}"
+    return head + f"{lost_items(call.lost)}{why}: {room}{buffer}"
 
 
 def lost_items(lost: Lost) -> str:

@@ -46,7 +46,7 @@ if TYPE_CHECKING:
         played: bool
         read_as: dict[int, int]
         served: bool
-        size: Optional[int]
+        size: int
         skipped: int
         tapped: int
         times: int
@@ -461,7 +461,7 @@ class Story:
         for name, count in ("break", sum(row.breaks for row in rows)), ("duplicate", sum(row.duplicates for row in rows)):
             if count > hidden and not (name == "break" and self.joints):
                 kind = f"{name} of {'sections' if used.kind == 'section' else 'packets'}"
-                self.stumble(kind, node.owner, node, used.line, pid, {"pid": pid, "count": count})
+                self.stumble(kind, used.client, node, used.line, pid, {"pid": pid, "count": count})
 
     def leave_capture(self, node: Node) -> None:
         """A capture's time is over; a timeout that a poll told and no read is noted now."""
@@ -635,9 +635,11 @@ class Story:
         """An Overflow that a read answered."""
         reply, capture = reply_of(call.entry), node.capture
         client.lost.append((line, call, reply["span"]))
-        call.reason = str(node.size)
         call.lost = lost_by(node, reply)
-        is_larger, is_first = node.size is not None and reply["need"] > node.size - 1, node.size == node.first_size
+        if node.size is None:
+            return  # no report of a program
+        call.reason = str(node.size)
+        is_larger, is_first = reply["need"] > node.size - 1, node.size == node.first_size
         kind = "larger" if is_larger else "first size" if is_first else "overflow"
         facts: Facts = {"item": reply["item"], "need": reply["need"], "size": node.size, "wanted": 0, "times": 0, "batch": node.batch,
                         "served": self.is_served, "played": node.filter is not None and node.filter.is_played}  # fmt: skip
