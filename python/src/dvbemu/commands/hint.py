@@ -9,14 +9,16 @@ from collections import Counter
 
 from ..explain import offered
 from ..explain import played
+from ..explain.plain import second
 from .. import progress
 from .. import reports
 from .. import tool
 from ..clock import NoClock, timed
+from ..inputs import many
 from ..psi.fields import is_pes_head, places_text, stream_text
-from ..explain.sentences import many, node_text, pids_text, wrapped
+from ..explain.sentences import node_text, pids_text, wrapped
 from ..explain.story import Story
-from ..explain.walk import CRC, second
+from ..explain.walk import CRC
 
 GROUPS = 5
 NOTHING = "Nothing to tell: packets of its PID passed each filter that ran, each section filter gave something, and no read was answered Overflow."
