@@ -1,4 +1,6 @@
 """The files that a command takes in the place of standard input: a script or a session, and the streams that come behind it."""
+from __future__ import annotations
+
 import os
 import stat
 import sys
@@ -7,7 +9,7 @@ PIECE, SCRIPT, BEGINNING = 1 << 20, 1 << 20, 4096
 LINE = b"stream\n"
 
 
-def many(count, one, more=None):
+def many(count: int, one: str, more: str | None = None) -> str:
     """A number of things: `1 read`, `2,000 reads`."""
     return f"{count:,} {one if count == 1 else more or one + 's'}"
 

@@ -3,6 +3,8 @@
 The bytes of all reads of the node stand there in the order of its entries. What isn't among them is told on standard error: what was lost,
 how many bytes, and behind which of those that are written; and each filter, PID or start that was asked for and refused.
 """
+from __future__ import annotations
+
 import re
 import sys
 
@@ -61,6 +63,8 @@ def chosen(words, given, report):
 
 class Asked(Walk):
     """What clients have asked a node for."""
+
+    filter: Filter | None
 
     def begin_capture(self, entry):
         """What comes stands in the reads."""
