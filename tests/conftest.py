@@ -33,12 +33,17 @@ class Result(NamedTuple):
     out: str
     err: str
 
+    @property
+    def data(self) -> bytes:
+        """The bytes of standard output."""
+        return self.out.encode(errors="surrogateescape")
+
 
 def run(*argv: str, stdin: bytes | str = b"", **more: str) -> Result:
     """`dvbemu ARGV ..`, with these variables beside those of the environment."""
     given = stdin.encode() if isinstance(stdin, str) else stdin
     done = subprocess.run([PROGRAM, *argv], input=given, capture_output=True, check=False, env={**os.environ, **more})
-    return Result(done.returncode, done.stdout.decode(errors="replace"), done.stderr.decode(errors="replace"))
+    return Result(done.returncode, *(end.decode(errors="surrogateescape") for end in (done.stdout, done.stderr)))
 
 
 class Kept(io.BytesIO):
@@ -60,7 +65,7 @@ def run_here(*argv: str, stdin: bytes | str = b"") -> Result:
         stderr=io.TextIOWrapper(err, "utf-8", "backslashreplace", write_through=True),
     ):
         status = standard.status_of(command_line.teller_of(argv), command_line.main, "", *argv)
-    return Result(status or 0, *(end.getvalue().decode(errors="replace") for end in (out, err)))
+    return Result(status or 0, *(end.getvalue().decode(errors="surrogateescape") for end in (out, err)))
 
 
 def pytest_make_parametrize_id(val):
