@@ -26,6 +26,11 @@ EXAMPLES = ROOT / "examples"
 PROGRAM = str(ROOT / "dvbemu")
 
 
+def examples(ending: str) -> list[str]:
+    """The files of examples/ with this ending, without it: `rules/one-tap`, .."""
+    return sorted(path.relative_to(EXAMPLES).as_posix().removesuffix(ending) for path in EXAMPLES.glob(f"*/*{ending}"))
+
+
 class Result(NamedTuple):
     """How a command has ended: its status, and what it wrote on both ends."""
 
