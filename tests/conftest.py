@@ -1,6 +1,7 @@
 """Fixtures that all tests share: the command, reports by the second program, and files of examples/."""
 from __future__ import annotations
 
+import gc
 import io
 import os
 import signal
@@ -70,6 +71,8 @@ def run_here(*argv: str, stdin: bytes | str = b"") -> Result:
         stderr=io.TextIOWrapper(err, "utf-8", "backslashreplace", write_through=True),
     ):
         status = standard.status_of(command_line.teller_of(argv), command_line.main, "", *argv)
+    # (some commands leave what they have made to the end of their process)
+    gc.enable()
     return Result(status or 0, *(end.getvalue().decode(errors="surrogateescape") for end in (out, err)))
 
 

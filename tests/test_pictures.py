@@ -72,7 +72,6 @@ BANDS = [
 ]
 
 
-
 def plain(count):
     """Packets of PID 256 with a unit start and no payload."""
     return b"".join(packet(256, counter, b"", True) for counter in range(count))
