@@ -1,4 +1,4 @@
-"""Fixtures that all tests share: the command, reports by the second program, and files of examples/."""
+"""What all tests share: the command, as a process and in this one, reports by the second program, and the files of examples/."""
 from __future__ import annotations
 
 import gc
@@ -15,12 +15,12 @@ import pytest
 from packets import session_of
 
 # (the command line sets these for its process, which this one isn't)
-KEPT = {number: signal.getsignal(number) for number in (signal.SIGINT, signal.SIGPIPE)}
+HANDLERS = {number: signal.getsignal(number) for number in (signal.SIGINT, signal.SIGPIPE)}
 from dvbemu import cli as command_line, standard
 from dvbemu.oracle import second
 
-for kept in KEPT.items():
-    signal.signal(*kept)
+for handler in HANDLERS.items():
+    signal.signal(*handler)
 
 ROOT = Path(__file__).resolve().parent.parent
 EXAMPLES = ROOT / "examples"
