@@ -315,6 +315,11 @@ def main(program, *words):
     return 0
 
 
+def teller_of(words):
+    """Who tells what a command can't go on behind."""
+    return " ".join(["dvbemu", *(word for word in words[:1] if word in TOOLS)])
+
+
 def begin(program, *words):
     """Does what the words ask for, and ends with its status."""
-    standard.run(" ".join(["dvbemu", *(word for word in words[:1] if word in TOOLS)]), main, program, *words)
+    standard.run(teller_of(words), main, program, *words)

@@ -118,11 +118,8 @@ def told_of(fault):
     return f"a fault of this program, at {place_of(fault)}: {type(fault).__name__}: {fault}".replace("\n", " "), INTERNAL
 
 
-def run(teller, main, *words):
-    """Runs a command, and ends with the status that it gives."""
-    hold()
-    # (where the caller waits for no child, neither would this)
-    signal.signal(signal.SIGCHLD, signal.SIG_DFL)
+def status_of(teller, main, *words):
+    """Runs a command over the ends as they stand, and gives its status."""
     try:
         try:
             status = main(*words)
@@ -136,4 +133,12 @@ def run(teller, main, *words):
         text, status = told_of(fault)
         progress.end()
         print(f"{teller}: {text}", file=sys.stderr)
-    sys.exit(status)
+    return status
+
+
+def run(teller, main, *words):
+    """Runs a command, and ends with the status that it gives."""
+    hold()
+    # (where the caller waits for no child, neither would this)
+    signal.signal(signal.SIGCHLD, signal.SIG_DFL)
+    sys.exit(status_of(teller, main, *words))
