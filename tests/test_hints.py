@@ -485,6 +485,13 @@ def test_size_that_holds_in_drawn_sessions(report_of):
     assert tried > count // 4
 
 
+def test_size_that_holds_overflows_of_several_kinds(report_of):
+    script = "c0 open n0|c0 size n0 13|c0 section n0 256 0 4|feed 4|c0 poll n0|feed 1|feed 3|c0 read n0 23|c0 drain n0 46|c0 read n0 45|feed 1"
+    stream = b"".join(section(counter) if counter % 3 else packet(256, counter, b"\0" + PMT, True) for counter in range(60))
+    size = held(report_of(script, stream, 4))
+    assert size is not None and not overflows(script, stream, 4, size)
+
+
 @pytest.mark.parametrize("text, is_loop", LOOPS)
 def test_breaks_of_a_loop(text, is_loop):
     report = reports.read(io.StringIO(text))

@@ -189,6 +189,10 @@ def is_no_stream(report: Report, whole: int) -> bool:
     return report.packets >= 8 and 4 * report.skipped > whole and 2 * len(report.pids) > report.packets
 
 
+# The kinds of stumbles over a buffer's size.
+SIZES = "larger", "first size", "overflow"
+
+
 class Story:
     """A report gone through: its clients by number, and the stumbles."""
 
@@ -215,6 +219,7 @@ class Story:
         if report.clients and not any(report.clients):
             self.stumble("nobody", None, None, None)
         self.tell_carried()
+        self.join_sizes()
 
     def tell_carried(self) -> None:
         """Tells the hints on section filters what a PMT that was read says of their PIDs."""
@@ -254,6 +259,13 @@ class Story:
             for call, behind in zip(client.calls, [*client.calls[1:], None]):
                 if (call.node, call.act, call.reply) == (DVR, "poll", "ready") and not (behind and behind.act == "pass"):
                     call.reason = "as a write does that completes no packet"
+
+    def join_sizes(self) -> None:
+        """The size that is named holds what came at each Overflow of a client's node, of whatever kind each of them is."""
+        for (kind, client, node, subject), stumble in self.stumbles.items():
+            if kind in SIZES and stumble.facts["wanted"]:
+                same = (self.stumbles.get((other, client, node, subject)) for other in SIZES)
+                stumble.facts["wanted"] = max(one.facts["wanted"] for one in same if one)
 
     def stumble(self, kind: str, client: int | None, node: Node | None, line: int | None, subject: Hashable = None,
                 facts: Facts | None = None) -> Stumble:  # fmt: skip
