@@ -4,9 +4,11 @@ from __future__ import annotations
 import gc
 import io
 import os
+import random
 import signal
 import subprocess
 import sys
+import tempfile
 from pathlib import Path
 from typing import Callable, NamedTuple
 from unittest import mock
@@ -25,6 +27,18 @@ for handler in HANDLERS.items():
 ROOT = Path(__file__).resolve().parent.parent
 EXAMPLES = ROOT / "examples"
 PROGRAM = str(ROOT / "dvbemu")
+SERVED = ROOT / "tools" / "checks" / "served.report"
+SERVER = ROOT / "crates" / "dvb_serve" / "out" / "dvb_serve"
+# The words that start a program, or are one.
+STARTS = {*command_line.PROVED, "serve", "calls", "test"}
+# The seconds in which a command must have ended.
+ENDS = 60
+# The Pythons of this machine, one of which may have a library that another hasn't.
+PYTHONS = sorted({sys.executable, *(os.path.join(folder, "python3") for folder in os.environ["PATH"].split(os.pathsep))})
+EMPTY = b"dvbemu 1\npackets=0 skipped=0 rest=0\nend\n"
+
+# (each command starts `python3`: the one that runs this is there at once, and no shim that looks for one)
+os.environ["PATH"] = os.pathsep.join([os.path.dirname(sys.executable), os.environ["PATH"]])
 
 
 def examples(ending: str) -> list[str]:
@@ -60,13 +74,14 @@ class Kept(io.BytesIO):
 
 
 def run_here(*argv: str, stdin: bytes | str = b"") -> Result:
-    """The same in this process, with the ends in memory: for words of tools that take a file `-` by sys.stdin alone, and start nothing."""
-    given = stdin.encode() if isinstance(stdin, str) else stdin
-    out, err = Kept(), Kept()
-    with mock.patch.multiple(
+    """The same in this process, with what it writes in memory: for words of tools that start nothing."""
+    out, err, given = Kept(), Kept(), tempfile.TemporaryFile()
+    given.write(stdin.encode() if isinstance(stdin, str) else stdin)
+    given.seek(0)
+    with given, mock.patch.multiple(
         sys,
         argv=[],
-        stdin=io.TextIOWrapper(io.BytesIO(given), "utf-8"),
+        stdin=io.TextIOWrapper(given, "utf-8"),
         stdout=io.TextIOWrapper(out, "utf-8", "surrogateescape"),
         stderr=io.TextIOWrapper(err, "utf-8", "backslashreplace", write_through=True),
     ):
@@ -102,4 +117,74 @@ def report_of() -> Callable[..., bytes]:
     def made(script: str, stream: bytes = b"", batch: int = 1, packet: int = 188) -> bytes:
         return second.report(session_of(script, stream), batch, packet).encode()
 
+    return made
+
+
+class Bytes(NamedTuple):
+    """The same, with what it wrote as bytes."""
+
+    status: int
+    out: bytes
+    err: str
+
+
+class Room:
+    """A folder, in which commands are run."""
+
+    def __init__(self, folder: Path) -> None:
+        self.folder = folder
+
+    def write(self, files: dict[str, bytes]) -> None:
+        """Writes files."""
+        for name, text in files.items():
+            path = self.folder / name
+            path.parent.mkdir(exist_ok=True)
+            path.write_bytes(text)
+
+    def read(self, name: str) -> bytes:
+        """The bytes of a file."""
+        return (self.folder / name).read_bytes()
+
+    def run(self, line: str, given: bytes = b"") -> Bytes:
+        """A command that has run."""
+        done = subprocess.run([PROGRAM, *line.split()], cwd=self.folder, input=given, capture_output=True, check=False, timeout=ENDS)
+        return Bytes(done.returncode, done.stdout, done.stderr.decode(errors="replace"))
+
+    def call(self, line: str, given: bytes = b"") -> Bytes:
+        """The same of a tool that starts no program, in this process."""
+        kept = os.getcwd()
+        os.chdir(self.folder)
+        try:
+            found = run_here(*line.split(), stdin=given)
+        finally:
+            os.chdir(kept)
+        return Bytes(found.status, found.data, found.err)
+
+    def quick(self, line: str, given: bytes = b"") -> Bytes:
+        """The same in this process where that can be: of a tool that starts no program, and of what is told without one."""
+        word, *behind = line.split()
+        if word in STARTS and behind != ["--version"]:
+            return self.run(line, given)
+        return self.call(line, given)
+
+
+@pytest.fixture
+def room(tmp_path: Path) -> Room:
+    """An empty folder, in which commands are run."""
+    return Room(tmp_path)
+
+
+@pytest.fixture(scope="session")
+def files_room(tmp_path_factory: pytest.TempPathFactory) -> Room:
+    """A folder with files of each kind that words read; a test changes none of them."""
+    made = Room(tmp_path_factory.mktemp("files"))
+    session, report = ((EXAMPLES / "programs" / f"scan{ending}").read_bytes() for ending in (".session", ".report"))
+    stream = session.split(b"\nstream\n", 1)[1]
+    (made.folder / "folder").mkdir()
+    made.write({
+        "session": session, "report": report, "stream": stream, "script": b"c0 open n0\nstream\n", "a.session": b"stream\n",
+        "wrong": report.replace(b"data 00b0", b"data 00b1", 1), "random": random.Random(7).randbytes(100_000),
+        "big": session + 200 * stream, "served": SERVED.read_bytes(), "recording": (EXAMPLES / "programs" / "scan.ts").read_bytes(),
+        "tests/a.session": b"stream\n", "tests/a.report": EMPTY, "kept/head": EMPTY, "kept/batches": b"",
+    })  # fmt: skip
     return made

@@ -1,19 +1,10 @@
-#!/usr/bin/env python3
-"""Tries tools/merge over folders that are made of reports: of served.report, and of one of two programs that was worked out by hand. Each
-must become the same report again, byte for byte; folders with a line too few, torn or wrong are told. The last line is
-`N passed, M failed`.
-"""
+"""`dvbemu merge` over folders that are made of reports: of served.report, and of one of two programs that was worked out by hand. Each
+becomes the same report again, byte for byte; folders with a line too few, torn or wrong are told."""
 import os
 import re
-import subprocess
-import sys
-import tempfile
 
-HERE = os.path.dirname(os.path.realpath(__file__))
-sys.path.insert(1, os.path.join(HERE, "..", "lib"))
-sys.dont_write_bytecode = True
-
-from checks import PROGRAM, Tally, bytes_of
+import pytest
+from conftest import SERVED
 
 DONE = "done drop=0..0 tap=keep"
 PASS = "{} feed {} pass input=frontend first={} count={} at={} = passed\n"
@@ -62,34 +53,6 @@ def parts_of(report):
     return {**files, "batches": "".join(batches.values()), "head": head}
 
 
-def merged(files):
-    """What the tool makes of a folder of these files."""
-    with tempfile.TemporaryDirectory() as folder:
-        for name, text in files.items():
-            with open(os.path.join(folder, name), "w", encoding="ascii") as file:
-                file.write(text)
-        return subprocess.run([PROGRAM, "merge", folder], capture_output=True, text=True, check=False)
-
-
-def try_no_files(tally):
-    """What is no file in the folder isn't waited for."""
-    for name in "head", "batches", "2.calls":
-        for make, what in (os.mkfifo, "a FIFO"), (os.mkdir, "a folder"), (lambda path: os.symlink("/dev/null", path), "a device"):
-            with tempfile.TemporaryDirectory() as folder:
-                for other, text in parts_of(TWO).items():
-                    with open(os.path.join(folder, other), "w", encoding="ascii") as file:
-                        file.write(text)
-                os.remove(os.path.join(folder, name))
-                make(os.path.join(folder, name))
-                try:
-                    told = subprocess.run([PROGRAM, "merge", folder], capture_output=True, text=True, check=False, timeout=60)
-                except subprocess.TimeoutExpired:
-                    tally.count(False, f"{name} is {what}: no end after a minute")
-                    continue
-                right = told.returncode == 1 and told.stderr == f"dvbemu merge: {os.path.join(folder, name)}: it is no file\n"
-                tally.count(right, f"{name} is {what}: {told.returncode}, {told.stderr}")
-
-
 def changed(name, old, new):
     """The files of the two programs with a change."""
     files = parts_of(TWO)
@@ -112,20 +75,31 @@ WRONG = [
     ({"1.calls": ""}, "has no file `head`"),
 ]
 
-
-def main():
-    """Tries all."""
-    tally = Tally()
-    served = bytes_of(os.path.join(HERE, "served.report")).decode()
-    for name, report in ("served.report", served), ("two programs", TWO), ("no node is free", FULL):
-        told = merged(parts_of(report))
-        tally.count(told.stdout == report and not told.returncode, f"{name}: another report:\n{told.stdout}{told.stderr}")
-    for files, wanted in WRONG:
-        told = merged(files)
-        tally.count(told.returncode == 1 and wanted in told.stderr, f"wanted: {wanted}\n{told.stderr}")
-    try_no_files(tally)
-    return tally.end()
+NO_FILES = {"a FIFO": os.mkfifo, "a folder": os.mkdir, "a device": lambda path: os.symlink("/dev/null", path)}
 
 
-if __name__ == "__main__":
-    sys.exit(main())
+def merged(room, files):
+    """What the word makes of a folder of these files."""
+    room.write({f"kept/{name}": text.encode() for name, text in files.items()})
+    return room.call("merge kept")
+
+
+@pytest.mark.parametrize("report", [SERVED.read_text(), TWO, FULL], ids=["served.report", "two programs", "no node is free"])
+def test_report(room, report):
+    assert merged(room, parts_of(report)) == (0, report.encode(), "")
+
+
+@pytest.mark.parametrize("files, line", WRONG, ids=[line for _, line in WRONG])
+def test_refused(room, files, line):
+    status, _, told = merged(room, files)
+    assert status == 1 and line in told
+
+
+@pytest.mark.parametrize("make", NO_FILES.values(), ids=NO_FILES)
+@pytest.mark.parametrize("name", ["head", "batches", "2.calls"])
+def test_no_file(room, name, make):
+    room.write({f"kept/{other}": text.encode() for other, text in parts_of(TWO).items()})
+    (room.folder / "kept" / name).unlink()
+    make(room.folder / "kept" / name)
+    status, _, told = room.run("merge kept")
+    assert (status, told) == (1, f"dvbemu merge: kept/{name}: it is no file\n")

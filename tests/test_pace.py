@@ -1,20 +1,13 @@
-#!/usr/bin/env python3
-"""Tries tools/pace: when packets are due, worked out by hand (ISO/IEC 13818-1, 2.4.2.2: between two PCRs the bytes come evenly;
-27,000,000 ticks are a second), and what the program writes over the stream of examples/programs, compared with the PCRs that stand
-there. No packet may come before it is due; how late one may come is asked loosely, since the machine may be busy. The last line is
-`N passed, M failed`.
-"""
+"""`dvbemu pace`: when packets are due, worked out by hand (ISO/IEC 13818-1, 2.4.2.2: between two PCRs the bytes come evenly; 27,000,000 ticks
+are a second), and what it writes over the stream of examples/programs, compared with the PCRs that stand there. No packet may come before it
+is due; how late one may come is asked loosely, since the machine may be busy."""
 import os
 import subprocess
-import sys
 import time
 
-HERE = os.path.dirname(os.path.realpath(__file__))
-sys.path[1:1] = [os.path.join(HERE, "..", "lib"), os.path.join(HERE, "..", "..", "python", "src")]
-sys.dont_write_bytecode = True
-
+import pytest
+from conftest import EXAMPLES, PROGRAM
 from dvbemu import clock
-from checks import EXAMPLES, PROGRAM, Tally
 
 SECOND, TENTH = 27_000_000, 2_700_000
 WRAP = 2**33 * 300
@@ -96,51 +89,45 @@ def pcrs_of(stream):
 
 
 def arrivals(words, stream):
-    """What tools/pace writes, and how many bytes had come by which second since it was started."""
-    begin, told, count = time.monotonic(), [], 0
-    ran = subprocess.Popen([PROGRAM, "pace", *words, "-"], stdin=subprocess.PIPE, stdout=subprocess.PIPE)
-    ran.stdin.write(stream)
-    ran.stdin.close()
-    written = b""
-    while chunk := os.read(ran.stdout.fileno(), 65536):
-        count += len(chunk)
-        told.append((time.monotonic() - begin, count))
-        written += chunk
-    return written, told, ran.wait()
+    """What `pace` writes, how many bytes had come by which second since it was started, and its status."""
+    begin, told, written = time.monotonic(), [], b""
+    with subprocess.Popen([PROGRAM, "pace", *words, "-"], stdin=subprocess.PIPE, stdout=subprocess.PIPE) as ran:
+        ran.stdin.write(stream)
+        ran.stdin.close()
+        while chunk := os.read(ran.stdout.fileno(), 65536):
+            written += chunk
+            told.append((time.monotonic() - begin, len(written)))
+    return written, told, ran.returncode
 
 
-def try_program(tally):
+@pytest.mark.parametrize("stream, pid, wanted", [row[1:] for row in DUE], ids=[row[0] for row in DUE])
+def test_due(stream, pid, wanted):
+    whole = b"".join(stream)
+    right = None if wanted is None else list(zip(wanted, stream))
+    assert due_of([whole], pid) == right
+    assert due_of([whole[place : place + 7] for place in range(0, len(whole), 7)], pid) == right
+
+
+def test_the_largest_pcr():
+    assert clock.pcr_of(with_pcr(WRAP - 1)) == WRAP - 1
+
+
+@pytest.mark.alone
+def test_program():
     """The program over a stream of four seconds, eight times as fast."""
     stream = stream_of_examples()
     pcrs = pcrs_of(stream)
     written, told, status = arrivals(["--rate", str(FAST)], stream)
-    tally.count((status, written) == (0, stream), "pace: what is written isn't the stream")
+    assert (status, written) == (0, stream)
     first, whole = told[0][0], (pcrs[-1][1] - pcrs[0][1]) / FAST
     for place, second in pcrs:
         due = (second - pcrs[0][1]) / FAST
         came = next(at for at, count in told if count >= place + 188)
-        tally.count(came >= due, f"pace: the packet at byte {place} comes at {came}, before {due}")
-        tally.count(came - first <= due + SLACK, f"pace: the packet at byte {place} comes at {came - first}, long behind {due}")
-    tally.count(told[-1][0] - first >= whole / 2, f"pace: all comes within {told[-1][0] - first}, and is due within {whole}")
+        assert due <= came <= first + due + SLACK, f"the packet at byte {place}"
+    assert told[-1][0] - first >= whole / 2
 
 
-def main():
-    """The status."""
-    tally = Tally()
-    for name, stream, pid, wanted in DUE:
-        whole = b"".join(stream)
-        found = due_of([whole], pid)
-        right = found == (None if wanted is None else list(zip(wanted, stream)))
-        tally.count(right, f"pace: {name}: {found and [at for at, _ in found]}")
-        bits = [whole[place : place + 7] for place in range(0, len(whole), 7)]
-        tally.count(due_of(bits, pid) == found, f"pace: {name}: another answer where it comes in pieces")
-    tally.count(clock.pcr_of(with_pcr(WRAP - 1)) == WRAP - 1, "pace: the largest PCR")
-    try_program(tally)
-    for words, status in ((["-"], 1), (["--rate", "0", "-"], 2), (["--pid", "300", "-"], 1)):
-        ran = subprocess.run([PROGRAM, "pace", *words], input=plain() * 9, capture_output=True, check=False)
-        tally.count((ran.returncode, ran.stdout) == (status, b"") and ran.stderr, f"pace: {words}: {ran.returncode} {ran.stderr}")
-    return tally.end()
-
-
-if __name__ == "__main__":
-    sys.exit(main())
+@pytest.mark.parametrize("words, status", [("-", 1), ("--rate 0 -", 2), ("--pid 300 -", 1)])
+def test_refused(room, words, status):
+    found = room.call(f"pace {words}", plain() * 9)
+    assert found[:2] == (status, b"") and found.err

@@ -1,23 +1,18 @@
-#!/usr/bin/env python3
-"""Tries tools/json: each report of examples/ as JSON Lines and back, byte for byte, each line against docs/report.schema.json, some lines by
+"""`dvbemu json`: each report of examples/ as JSON Lines and back, byte for byte, each line against docs/report.schema.json, some lines by
 hand, and texts that make no report.
 
 The schema is read by a few lines that stand here, which know the words that it uses and no other; where the library jsonschema (Debian:
-python3-jsonschema) is there, it must find the same of the lines of one example. The last line is `N passed, M failed`.
-"""
+python3-jsonschema) is there, it must find the same of the lines of one report."""
 import json
 import os
 import re
 import subprocess
-import sys
 
-HERE = os.path.dirname(os.path.realpath(__file__))
-sys.path.insert(1, os.path.join(HERE, "..", "lib"))
-sys.dont_write_bytecode = True
+import pytest
+from conftest import EXAMPLES, PYTHONS, ROOT
 
-from checks import EXAMPLES, PROGRAM, ROOT, Tally, bytes_of, files
-
-SCHEMA = json.loads(bytes_of(os.path.join(ROOT, "docs", "report.schema.json")))
+SCHEMA = json.loads((ROOT / "docs" / "report.schema.json").read_text())
+REPORTS = sorted(EXAMPLES.glob("*/*.report"))
 KNOWN = {
     "$schema", "title", "description", "oneOf", "$defs", "$ref", "type", "properties", "required", "additionalProperties", "const", "enum",
     "items", "minItems", "maxItems", "minimum", "maximum", "pattern",
@@ -79,14 +74,6 @@ UNLIKE = [
 ]  # fmt: skip
 
 
-def ran(words, given=b""):
-    """The tool that has run."""
-    return subprocess.run([PROGRAM, "json", *words], input=given, capture_output=True, check=False)
-
-
-# ------ the schema
-
-
 def number_fits(schema, value):
     """Whether a number, a text or a list is within the bounds that a schema names."""
     size = len(value) if isinstance(value, list) else None
@@ -125,66 +112,59 @@ def fits(schema, value):
     return closed and set(schema.get("required", ())) <= set(value) and all(fits(named.get(name, {}), one) for name, one in value.items())
 
 
-# ------ what is tried
+@pytest.fixture
+def lines(room):
+    """The JSON Lines of WHOLE."""
+    status, out, told = room.call("json", WHOLE.encode())
+    assert (status, told) == (0, "")
+    return out.decode().splitlines()
 
 
-def try_examples(tally):
-    """Each example there and back, and its lines by the schema."""
-    for name in files(".report"):
-        path = os.path.join(EXAMPLES, name + ".report")
-        told = ran([path]).stdout
-        lines = told.decode().splitlines()
-        wrong = [line for line in lines if not fits(SCHEMA, json.loads(line))]
-        tally.count(lines and not wrong, f"json: {name}: not by the schema: {wrong[:1]}")
-        report = bytes_of(path)
-        tally.count(ran(["--back", "-"], told).stdout == report, f"json: {name}: another report comes back")
-        tally.count(len(lines) == report.count(b"\n") - 1, f"json: {name}: {len(lines)} lines of JSON")
+@pytest.mark.parametrize("path", REPORTS, ids=[f"{path.parent.name}/{path.stem}" for path in REPORTS])
+def test_examples(room, path):
+    report = path.read_bytes()
+    told = room.call(f"json {path}").out
+    objects = [json.loads(line) for line in told.splitlines()]
+    assert objects and all(fits(SCHEMA, one) for one in objects)
+    assert len(objects) == report.count(b"\n") - 1
+    assert room.call("json --back -", told) == (0, report, "")
 
 
-def try_by_hand(tally):
-    """The lines that were worked out by hand, and changes of them."""
-    told = ran([], WHOLE.encode()).stdout.decode()
-    lines = told.splitlines()
-    of = dict(zip(WHOLE.splitlines()[1:], map(json.loads, lines)))
-    for line, wanted in BY_HAND:
-        tally.count(of.get(line) == wanted, f"json: {line}: {of.get(line)}, not {wanted}")
-    tally.count(ran(["--back"], told.encode()).stdout == WHOLE.encode(), "json: the report by hand doesn't come back")
-    for change, wanted in REFUSED:
-        back = ran(["--back"], "".join(line + "\n" for line in change(lines)).encode())
-        right = back.returncode == 1 and not back.stdout and wanted in back.stderr.decode()
-        tally.count(right, f"json: without '{wanted}': {back.stderr.decode()}")
-    back = ran([], told.encode())
-    right = (back.returncode, back.stdout) == (1, b"") and b"these are JSON Lines: `dvbemu json --back` writes their report" in back.stderr
-    tally.count(right, f"json: JSON Lines without --back: {back.stderr.decode()}")
-    for old, new in UNLIKE:
-        changed = told.replace(old, new).splitlines()
-        tally.count(not all(fits(SCHEMA, json.loads(line)) for line in changed), f"json: the schema takes {new}")
-    return lines
+@pytest.mark.parametrize("line, wanted", BY_HAND, ids=[line for line, _ in BY_HAND])
+def test_by_hand(lines, line, wanted):
+    assert json.loads(lines[WHOLE.splitlines()[1:].index(line)]) == wanted
 
 
-def try_library(tally, lines):
-    """The same by a library, where there is one."""
+def test_by_hand_and_back(room, lines):
+    assert room.call("json --back", "".join(line + "\n" for line in lines).encode()) == (0, WHOLE.encode(), "")
+
+
+@pytest.mark.parametrize("change, line", REFUSED, ids=range(len(REFUSED)))
+def test_refused(room, lines, change, line):
+    status, out, told = room.run("json --back", "".join(line + "\n" for line in change(lines)).encode())
+    assert (status, out) == (1, b"") and line in told
+
+
+def test_json_lines_without_back(room, lines):
+    status, out, told = room.call("json", "".join(line + "\n" for line in lines).encode())
+    assert (status, out) == (1, b"") and "these are JSON Lines: `dvbemu json --back` writes their report" in told
+
+
+@pytest.mark.parametrize("old, new", UNLIKE)
+def test_schema_refuses(lines, old, new):
+    assert any(old in line for line in lines)
+    assert not all(fits(SCHEMA, json.loads(line.replace(old, new))) for line in lines)
+
+
+def test_library(lines):
     script = "import json, sys, jsonschema\nvalidator = jsonschema.Draft202012Validator(json.load(open(sys.argv[1])))\n"
     script += "print(*(int(validator.is_valid(json.loads(line))) for line in sys.stdin))"
     changed = [line.replace(old, new) for old, new in UNLIKE for line in lines if old in line]
-    given = "".join(line + "\n" for line in lines + changed).encode()
-    for python in (sys.executable, "/usr/bin/python3"):
-        words = [python, "-c", script, os.path.join(ROOT, "docs", "report.schema.json")]
-        found = subprocess.run(words, input=given, capture_output=True, check=False) if os.path.exists(python) else None
-        if found and found.returncode == 0:
-            wanted = ["1"] * len(lines) + ["0"] * len(changed)
-            tally.count(found.stdout.decode().split() == wanted, f"json: jsonschema finds {found.stdout.decode()}")
+    given = "".join(line + "\n" for line in lines + changed)
+    for python in filter(os.path.exists, PYTHONS):
+        words = [python, "-c", script, ROOT / "docs" / "report.schema.json"]
+        found = subprocess.run(words, input=given, capture_output=True, text=True, check=False)
+        if found.returncode == 0:
+            assert found.stdout.split() == ["1"] * len(lines) + ["0"] * len(changed)
             return
-    print("json: no library jsonschema, skipped")
-
-
-def main():
-    """The status."""
-    tally = Tally()
-    try_examples(tally)
-    try_library(tally, try_by_hand(tally))
-    return tally.end()
-
-
-if __name__ == "__main__":
-    sys.exit(main())
+    pytest.skip("no library jsonschema (Debian: python3-jsonschema)")
