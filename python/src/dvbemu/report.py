@@ -235,7 +235,7 @@ def _entry(plain: Any) -> Entry:
 
 def _reply(text: str) -> Reply:
     """The reply that a text is, which the reader has accepted."""
-    found = dict(reports.read_reply(text))
+    found: dict[str, Any] = dict(reports.read_reply(text))
     name = found.pop("name")
     if name == "data":
         return Data(bytes.fromhex(text[5:]) if found["length"] else b"")
