@@ -32,15 +32,15 @@ USAGES = ["8192 0 payload 00", "-1 0 payload 00", "0 16 payload 00", "0 0 packet
 
 
 @pytest.mark.parametrize("words, packet", PACKETS)
-def test_bytes(cli, words, packet):
-    assert cli("packet", *words.split()) == (0, packet + "\n", "")
+def test_bytes(tool, words, packet):
+    assert tool("packet", *words.split()) == (0, packet + "\n", "")
     assert len(packet) == 376
 
 
 @pytest.mark.parametrize("syntax, count, packets", SECTIONS)
-def test_section_is_read_back(cli, tmp_path, syntax, count, packets):
+def test_section_is_read_back(tool, tmp_path, syntax, count, packets):
     body = bytes(place * 7 % 251 for place in range(count))
-    digits = cli("packet", *f"16 15 section 42{syntax:02x}00 {body.hex()}".split()).out
+    digits = tool("packet", *f"16 15 section 42{syntax:02x}00 {body.hex()}".split()).out
     found, skipped, rest = second.cut(bytes.fromhex(digits))
     assert (len(found), skipped, rest) == (packets, 0, 0)
     assert [second.counter_of(one) for one in found] == [(15 + place) % 16 for place in range(packets)]
@@ -50,10 +50,10 @@ def test_section_is_read_back(cli, tmp_path, syntax, count, packets):
 
 
 @pytest.mark.parametrize("words, line", REFUSED)
-def test_refused(cli, words, line):
-    assert cli("packet", *words.split()) == (1, "", f"dvbemu packet: {line}\n")
+def test_refused(tool, words, line):
+    assert tool("packet", *words.split()) == (1, "", f"dvbemu packet: {line}\n")
 
 
 @pytest.mark.parametrize("words", USAGES)
-def test_usage(cli, words):
-    assert cli("packet", *words.split())[:2] == (2, "")
+def test_usage(tool, words):
+    assert tool("packet", *words.split())[:2] == (2, "")

@@ -106,7 +106,11 @@ def plain(word: str, given: Namespace) -> list[str]:
 
 
 def program_for(word: str) -> str | None:
-    """The program, which is proved or compiled where there is none; the wrapper where it can't be kept. None where that fails."""
+    """The program, which is proved or compiled where there is none; the wrapper where it can't be kept. None where that fails. Ends with
+    the status 7 where it would have too little stack."""
+    if (stack := spawned.stack()) < spawned.LEAST_STACK:
+        print(f"dvbemu: the stack may have {stack} KiB, and {spawned.LEAST_STACK} are wanted (ulimit -s)", file=sys.stderr)
+        sys.exit(standard.NO_MEMORY)
     if built:
         return built[0]
     for _ in range(2):
@@ -320,6 +324,11 @@ def main(program: str, *words: str) -> int | None:
     return 0
 
 
+def teller_of(words: Sequence[str]) -> str:
+    """Who tells what a command can't go on behind."""
+    return " ".join(["dvbemu", *(word for word in words[:1] if word in TOOLS)])
+
+
 def begin(program: str, *words: str) -> NoReturn:
     """Does what the words ask for, and ends with its status."""
-    standard.run(" ".join(["dvbemu", *(word for word in words[:1] if word in TOOLS)]), main, program, *words)
+    standard.run(teller_of(words), main, program, *words)

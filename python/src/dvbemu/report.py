@@ -227,7 +227,7 @@ class Report:
         return told_by(["explain"], self.text)
 
 
-def _entry(plain: Any) -> Entry:
+def _entry(plain: reports.Entry) -> Entry:
     act = reports.read_act(plain.act)
     call = Call(act["name"], {name: value for name, value in act.items() if name != "name"}, plain.act)
     return Entry(plain.place, plain.who, plain.step, call, _reply(plain.reply))
@@ -235,8 +235,8 @@ def _entry(plain: Any) -> Entry:
 
 def _reply(text: str) -> Reply:
     """The reply that a text is, which the reader has accepted."""
-    found: dict[str, Any] = dict(reports.read_reply(text))
-    name = found.pop("name")
+    found = reports.read_reply(text)
+    name = found["name"]
     if name == "data":
         return Data(bytes.fromhex(text[5:]) if found["length"] else b"")
     if name in reports.REFUSALS:
@@ -247,6 +247,8 @@ def _reply(text: str) -> Reply:
         return Again(bool(found["ended"]))
     if name == "ready":
         return Ready(bool(found["readable"]), found["error"], found["at"], bool(found["ended"]))
-    kinds: dict[str, Any] = {"busy": Busy, "overflow": Overflow, "timedout": TimedOut, "passed": Passed}
-    reply: Reply = kinds[name](**found)
-    return reply
+    if name == "busy":
+        return Busy(found["owner"])
+    if name == "overflow":
+        return Overflow(found["span"], found["item"], found["need"], found["room"])
+    return TimedOut(found["started"], found["now"], found["timeout"]) if name == "timedout" else Passed()

@@ -2,6 +2,7 @@
 from __future__ import annotations
 
 import os
+import resource
 from typing import TYPE_CHECKING
 
 if TYPE_CHECKING:
@@ -10,6 +11,8 @@ if TYPE_CHECKING:
 DVBEMU = os.path.normpath(os.path.join(os.path.dirname(os.path.realpath(__file__)), "..", "..", "..", "dvbemu"))
 # What the wrapper sets for the program, but for `run`, where the caller hasn't set it: see there.
 SETTING = {"GLIBC_TUNABLES": "glibc.malloc.hugetlb=1"}
+# The bytes of stack that are usual, and the KiB of it that the program wants at least.
+STACK, LEAST_STACK = 8 << 20, 256
 
 
 def memory(pieces: Iterable[bytes] = ()) -> int:
@@ -84,3 +87,12 @@ def ran(words: list[str], given: Iterable[bytes] = (), env: Mapping[str, str] | 
     finally:
         os.close(ends[0])
     return bytes_of(ends[1]), bytes_of(ends[2]), status
+
+
+def stack() -> int:
+    """Gives programs that are started the stack that is usual, 8 MiB, or as much as may be had; how many KiB that is."""
+    soft, hard = resource.getrlimit(resource.RLIMIT_STACK)
+    if soft != resource.RLIM_INFINITY and soft < STACK:
+        soft = STACK if hard == resource.RLIM_INFINITY else min(STACK, hard)
+        resource.setrlimit(resource.RLIMIT_STACK, (soft, hard))
+    return (STACK if soft == resource.RLIM_INFINITY else soft) // 1024

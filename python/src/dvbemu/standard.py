@@ -128,11 +128,8 @@ def told_of(fault: BaseException) -> tuple[str, int]:
     return f"a fault of this program, at {place_of(fault)}: {type(fault).__name__}: {fault}".replace("\n", " "), INTERNAL
 
 
-def run(teller: str, main: Callable[..., int | None], *words: str) -> NoReturn:
-    """Runs a command, and ends with the status that it gives."""
-    hold()
-    # (where the caller waits for no child, neither would this)
-    signal.signal(signal.SIGCHLD, signal.SIG_DFL)
+def status_of(teller: str, main: Callable[..., int | None], *words: str) -> int | str | None:
+    """Runs a command over the ends as they stand, and gives its status."""
     status: int | str | None
     try:
         try:
@@ -147,4 +144,12 @@ def run(teller: str, main: Callable[..., int | None], *words: str) -> NoReturn:
         text, status = told_of(fault)
         progress.end()
         print(f"{teller}: {text}", file=sys.stderr)
-    sys.exit(status)
+    return status
+
+
+def run(teller: str, main: Callable[..., int | None], *words: str) -> NoReturn:
+    """Runs a command, and ends with the status that it gives."""
+    hold()
+    # (where the caller waits for no child, neither would this)
+    signal.signal(signal.SIGCHLD, signal.SIG_DFL)
+    sys.exit(status_of(teller, main, *words))

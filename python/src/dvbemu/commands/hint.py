@@ -12,16 +12,16 @@ from typing import TYPE_CHECKING
 
 from ..explain import offered
 from ..explain import played
+from ..explain.plain import second
 from .. import progress
 from .. import reports
 from .. import tool
 from ..clock import NoClock, timed
+from ..inputs import many
 from ..psi.fields import is_pes_head, places_text, stream_text
 from ..explain.sentences import node_text, pids_text, wrapped
 from ..explain.story import Story
 from ..explain.walk import CRC
-from ..inputs import many
-from ..oracle import second
 
 if TYPE_CHECKING:
     from typing import Iterable, Mapping, Sequence
@@ -127,7 +127,7 @@ def used_lines(used: Used, packets: Sequence[bytes], by_pid: Mapping[int, Sequen
     if len(groups) > GROUPS:
         lines += wrapped(f"And {sum(groups.values()) - sum(count for _, count in groups.most_common(GROUPS)):,} more.", 2)
     if like := offered.like_this(used.act, found):
-        lines += wrapped(f"This would select {like.count:,} of them: `{command_text(used, like)}`", 2)
+        lines += wrapped(f"This would select {like.sections:,} of them: `{command_text(used, like)}`", 2)
     return lines + [line for place, like in offered.moved(used.act, found) for line in wrapped(moved_text(used, place, like), 2)]
 
 
@@ -135,7 +135,7 @@ def moved_text(used: Used, place: int, like: Like) -> str:
     """A filter byte that was counted as the bytes of a section are, in words."""
     value, mask, _ = used.act["bytes"][place]
     meant = f"If filter byte {place} is meant for {places_text(place - 2)}, it is filter byte {place - 2}, and 0x{value & mask:02X} stands there"
-    return f"{meant}; this would select {like.count:,}: `{command_text(used, like)}`"
+    return f"{meant}; this would select {like.sections:,}: `{command_text(used, like)}`"
 
 
 # ------ overflows

@@ -1,6 +1,16 @@
 """What is known of the filters and captures of a report, for tools/explain."""
+from __future__ import annotations
+
+from typing import TYPE_CHECKING
+
 from ..psi.fields import streams_in
 from .walk import KEEP, ONESHOT, Answered
+
+if TYPE_CHECKING:
+    from typing import Iterable
+
+    from ..reports import Act
+    from .story import Stumble
 
 PACKET = 188
 
@@ -8,10 +18,11 @@ PACKET = 188
 class Offered:
     """Stretches of the stream's packets that were surely offered to a filter's captures while it had a PID."""
 
-    def __init__(self):
-        self.stretches, self.goes_on = [], False
+    def __init__(self) -> None:
+        self.stretches: list[list[int]] = []
+        self.goes_on = False
 
-    def take(self, first, after):
+    def take(self, first: int, after: int) -> None:
         """Takes a batch."""
         if self.goes_on and self.stretches and self.stretches[-1][1] == first:
             self.stretches[-1][1] = after
@@ -19,11 +30,11 @@ class Offered:
             self.stretches.append([first, after])
         self.goes_on = True
 
-    def leave(self):
+    def leave(self) -> None:
         """The capture ends: what is offered next isn't taken together with what came before."""
         self.goes_on = False
 
-    def may_hide(self, packets, pids):
+    def may_hide(self, packets: int, pids: int) -> int:
         """How many of the stream's breaks or duplicates of so many PIDs may lie where no capture sees them: one at each packet
         that isn't offered, and one at the first packet of each PID in a stretch that doesn't begin with the stream."""
         seen = sum(after - first for first, after in self.stretches)
@@ -36,7 +47,7 @@ class Filter:
     while it ran. `gave` says that anything came through it, and `empty` what it had been offered, as stretches of its PID, when the report
     last showed that nothing had."""
 
-    def __init__(self, act, line, client):
+    def __init__(self, act: Act, line: int, client: int) -> None:
         self.kind, self.pid, self.line, self.client = act["name"], act["pid"], line, client
         self.output = act.get("output", "")
         self.is_played = act.get("input") == "dvr"
@@ -44,20 +55,21 @@ class Filter:
         self.keeps = bool(act["flags"] & KEEP)
         self.act = act
         self.ever, self.started = {self.pid}, False
-        self.offered, self.written = {}, 0
-        self.gave, self.empty = False, None
+        self.offered: dict[int, Offered] = {}
+        self.written, self.gave = 0, False
+        self.empty: list[tuple[int, int]] | None = None
 
-    def take(self, act, pids):
+    def take(self, act: Act, pids: Iterable[int]) -> None:
         """Takes a batch that is surely offered to the capture, by these PIDs."""
         for pid in pids:
             self.offered.setdefault(pid, Offered()).take(act["first"], act["first"] + act["count"])
 
-    def tell_empty(self):
+    def tell_empty(self) -> None:
         """Nothing has come through up to here."""
         offered = self.offered.get(self.pid)
-        self.empty = [tuple(stretch) for stretch in offered.stretches] if offered else []
+        self.empty = [(first, after) for first, after in offered.stretches] if offered else []
 
-    def leave(self):
+    def leave(self) -> None:
         """A capture ends."""
         for offered in self.offered.values():
             offered.leave()
@@ -73,29 +85,33 @@ class Capture(Answered):
     call of its command. `lengths` has those of the sections that were read, the last one at the end. Of a dvr node's capture `tapped` says
     whether a tap was attached, and `dry` has the lines of the reads that found nothing."""
 
-    def __init__(self, client, line, passed, passes, is_late):
+    def __init__(self, client: int, line: int, passed: int, passes: int, is_late: bool) -> None:
         super().__init__()
         self.client, self.line, self.begin, self.is_late = client, line, passed, is_late
-        self.items, self.polled = 0, None
-        self.have, self.digits, self.tail, self.lengths = 0, "", "", {}
-        self.clear, self.clear_passes, self.early = passed, passes, []
-        self.held, self.over, self.known, self.loops, self.tapped, self.dry = 0, None, (0, passed), False, False, []
+        self.items, self.have, self.digits, self.tail = 0, 0, "", ""
+        self.polled: int | None = None
+        self.lengths: dict[bytes, int] = {}
+        self.clear, self.clear_passes = passed, passes
+        self.early: list[int] | None = []
+        self.held, self.known, self.loops, self.tapped = 0, (0, passed), False, False
+        self.over: Stumble | None = None
+        self.dry: list[int] = []
 
-    def hold(self, least, most, count):
+    def hold(self, least: int, most: int, count: int) -> int:
         """Takes a read of at most so many bytes, of a capture to which at least and at most so many had come: tells how many a buffer has to
         hold that no Overflow comes to this read."""
         wanted = max(0, most - self.held)
         self.held = min(least, self.held + count)
         return wanted
 
-    def most(self, passed, size, is_section):
+    def most(self, passed: int, size: int, is_section: bool) -> int:
         """How many bytes may have come by now, where so much of the stream has passed, and no Overflow is told: no more than the buffer holds,
         and a packet brings no more than its own bytes, but where it completes a section."""
         unread = self.answered + size - 1
         arrived, at = self.known
         return unread if is_section else min(unread, arrived + PACKET * (passed - at))
 
-    def repeats(self, length):
+    def repeats(self, length: int) -> int:
         """How many sections are dropped with so many bytes, where these are as long as the ones that were read and come again in their order;
         0 where they aren't."""
         lengths, count = list(self.lengths.values()), 0
@@ -104,33 +120,34 @@ class Capture(Answered):
             count += 1
         return count if length == 0 else 0
 
-    def look(self, line, passed, found, is_read):
+    def look(self, line: int, passed: int, found: bool, is_read: bool) -> None:
         """Takes a read or a poll, which found something or nothing, when so much of the stream had passed."""
         if found or passed > self.begin:
             self.early = None
         elif is_read and self.early is not None and line not in self.early[-1:]:
             self.early.append(line)
 
-    def take_section(self, digits):
+    def take_section(self, digits: str) -> tuple[int | None, bytes, bool]:
         """Takes a read of a section filter; gives the section's length where it is known, the bytes of it that are there, and whether it
         is whole."""
         self.digits += digits
         data = bytes.fromhex(self.digits)
         length = ((data[1] << 8 | data[2]) & 0x0FFF) + 3 if len(data) > 2 else None
-        whole = length is not None and len(data) >= length
-        self.have, self.digits = (0, "") if whole else (len(data), self.digits)
-        self.items += whole
-        if whole:
-            self.lengths.pop(data, None)
-            self.lengths[data] = length
-        return length, data, whole
+        if length is None or len(data) < length:
+            self.have = len(data)
+            return length, data, False
+        self.have, self.digits = 0, ""
+        self.items += 1
+        self.lengths.pop(data, None)
+        self.lengths[data] = length
+        return length, data, True
 
-    def take_payload(self, digits):
+    def take_payload(self, digits: str) -> list[int]:
         """Takes a read of payloads; gives the stream_ids of the PES packets that begin in it, also over the read before."""
         data = self.tail + digits
         self.tail = data[-6:]
         return streams_in(bytes.fromhex(data))
 
-    def skip_to(self, after):
+    def skip_to(self, after: int) -> None:
         super().skip_to(after)
         self.have, self.digits, self.tail = 0, "", ""

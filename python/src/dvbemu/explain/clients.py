@@ -1,10 +1,21 @@
 """The clients of a report, what they called, and what they got, for tools/explain."""
+from __future__ import annotations
+
 from bisect import bisect_right
-from typing import NamedTuple
+from typing import TYPE_CHECKING, NamedTuple
 
 from ..psi.fields import NAMES, head_of
 from ..reports import DVR
 from ..psi.tables import read
+
+if TYPE_CHECKING:
+    from typing import Optional, Tuple
+
+    from ..reports import Entry, Outcome, Reply
+    from .story import Node
+
+    # A table_id, a table_id_extension, and whether the sections are those of the table of this number.
+    Kind = Tuple[int, Optional[int], bool]
 
 PACKET = 188
 
@@ -16,13 +27,15 @@ class Call:
 
     __slots__ = ("node", "entry", "act", "reply", "reason", "section", "whole", "streams", "lost", "repeats")
 
-    def __init__(self, node, entry):
-        self.node, self.entry, self.reason, self.streams, self.lost = node, entry, "", (), None
+    def __init__(self, node: int, entry: Entry) -> None:
+        self.node, self.entry, self.reason = node, entry, ""
+        self.streams: list[int] = []
+        self.lost: Lost | None = None
         self.section, self.whole, self.repeats = b"", False, 0
         self.act = entry.act.partition(" ")[0]
         self.reply = entry.reply.partition(" ")[0]
 
-    def length(self):
+    def length(self) -> int:
         """How many bytes a read gave."""
         return 0 if self.reply != "data" or self.entry.reply == "data -" else (len(self.entry.reply) - 5) // 2
 
@@ -39,11 +52,11 @@ class Lost(NamedTuple):
     after: int
 
 
-def lost_by(node, reply):
+def lost_by(node: Node, reply: Reply) -> Lost:
     """What is known of the span of an Overflow. Of whole packets each item is another one of those that have passed since the capture began;
     what clients write has no place in the stream."""
-    is_whole = node.number == DVR or bool(node.filter) and node.filter.output == "tsdemux_tap"
-    is_section = bool(node.filter) and node.filter.kind == "section"
+    is_whole = node.number == DVR or node.filter is not None and node.filter.output == "tsdemux_tap"
+    is_section = node.filter is not None and node.filter.kind == "section"
     kept, (begin, after) = bool(node.filter and node.filter.keeps), reply["span"]
     packets = -(-after // PACKET) - begin // PACKET if is_whole else None
     read = reply["item"] if kept else node.capture.items if node.capture else 0
@@ -54,24 +67,35 @@ def lost_by(node, reply):
     return Lost(kept, packets, sections, max(node.capture.clear, least), node.passed)
 
 
+class Through(NamedTuple):
+    """What a client reads through: a node, and the kind, the output and the PID of its filter; "", "" and 0 where it has none."""
+
+    node: int
+    kind: str
+    output: str
+    pid: int
+
+
 class Got:
     """What the reads of a node through one kind of filter gave: how often each section, and of payloads how often each stream_id stands in
     them."""
 
-    def __init__(self):
-        self.reads, self.with_data, self.bytes, self.items, self.pids = 0, 0, 0, 0, set()
-        self.sections, self.streams = {}, {}
+    def __init__(self) -> None:
+        self.reads, self.with_data, self.bytes, self.items = 0, 0, 0, 0
+        self.pids: set[int] = set()
+        self.sections: dict[bytes, int] = {}
+        self.streams: dict[int, int] = {}
 
-    def take_section(self, data):
+    def take_section(self, data: bytes) -> None:
         """Takes a section that was read to its end."""
         self.sections[data] = self.sections.get(data, 0) + 1
 
-    def tables(self):
+    def tables(self) -> dict[Kind, list[set[int]]]:
         """The values of each field of the sections' heads, by table_id and table_id_extension, and whether it is the table of this number."""
-        found = {}
+        found: dict[Kind, list[set[int]]] = {}
         for data in self.sections:
             head = head_of(data)
-            values = found.setdefault((*head[:2], read(data) is not None), [set() for _ in NAMES])
+            values = found.setdefault((head.table, head.extension, read(data) is not None), [set() for _ in NAMES])
             for known, value in zip(values, head):
                 if value is not None:
                     known.add(value)
@@ -81,27 +105,32 @@ class Got:
 class Waits:
     """How often a client waited on a node, and until what."""
 
-    def __init__(self):
-        self.lines, self.passes, self.ends, self.others = [], 0, 0, 0
+    def __init__(self) -> None:
+        self.lines: list[int] = []
+        self.passes, self.ends, self.others = 0, 0, 0
 
 
 class Client:
     """What one client asked and got."""
 
-    def __init__(self, number, outcomes):
+    def __init__(self, number: int, outcomes: list[Outcome]) -> None:
         self.number, self.outcomes = number, outcomes
         calling = [outcome for outcome in outcomes if outcome.first < outcome.after]
         self.firsts, self.lines = [outcome.first for outcome in calling], [outcome.line for outcome in calling]
         self.afters, self.begins = [outcome.after for outcome in calling], set(self.firsts)
-        self.calls, self.got, self.waits = [], {}, {}
-        self.lost, self.timed, self.refused = [], [], []
+        self.calls: list[Call] = []
+        self.got: dict[Through, Got] = {}
+        self.waits: dict[int, Waits] = {}
+        self.lost: list[tuple[int, Call, tuple[int, int]]] = []
+        self.timed: list[tuple[int, Call, int | None]] = []
+        self.refused: list[tuple[int, Call]] = []
 
-    def line_of(self, step):
+    def line_of(self, step: int) -> int:
         """The line of the command that made this call, or 0 where no command did."""
         place = bisect_right(self.firsts, step) - 1
         return self.lines[place] if place >= 0 else 0
 
-    def is_last(self, step):
+    def is_last(self, step: int) -> bool:
         """Whether this call is the last one of its command."""
         place = bisect_right(self.firsts, step) - 1
         return place < 0 or self.afters[place] == step + 1

@@ -1,13 +1,21 @@
 """Hints for a receiver's writer, for tools/explain: each with what the report shows and the rule that it comes from.
 
-RULES has for each kind of stumble the heading or paragraph of docs/BEHAVIOUR.md and words that stand there; tools/checks/hints looks
+RULES has for each kind of stumble the heading or paragraph of docs/BEHAVIOUR.md and words that stand there; tests/test_hints.py looks
 for them.
 """
+from __future__ import annotations
+
+from typing import TYPE_CHECKING
+
 from ..psi.fields import as_hex, pid_text
 from .refusals import LARGEST_SIZE
-from ..reports import DVR
-from .sentences import NAMES, joined, lines_text, many, node_name, node_text, pids_text
+from ..inputs import many
+from ..reports import DVR, node_name
+from .sentences import NAMES, joined, lines_text, node_text, pids_text
 from .walk import CRC
+
+if TYPE_CHECKING:
+    from .story import Facts, Stumble
 
 RULES = {
     "no capture": ("Read", "without a capture: Data of no bytes"),
@@ -58,7 +66,7 @@ PLAIN = {
 }
 
 
-def size_words(stumble):
+def size_words(stumble: Stumble) -> str:
     """The words of the stumbles over a buffer's size."""
     facts = stumble.facts
     if stumble.kind == "larger":
@@ -76,7 +84,7 @@ def size_words(stumble):
     return f"an Overflow: {late}{'' if facts['played'] else '; `dvbemu hint REPORT SESSION` tells which packets were lost, and when'}"
 
 
-def size_of_packets_words(facts):
+def size_of_packets_words(facts: Facts) -> str:
     """The words of the stumble over packets that take up another number of bytes."""
     of = f"{many(facts['skipped'], 'byte')} were skipped at {many(facts['packets'], 'packet')}"
     if facts["size"] == 192:
@@ -87,7 +95,7 @@ def size_of_packets_words(facts):
     return f"{of}, as where packets take up 188 bytes of the stream and are read as 204: try it without `--packet 204`"
 
 
-def pid_words(stumble):
+def pid_words(stumble: Stumble) -> str:
     """The words of the stumbles over a filtered PID."""
     facts = stumble.facts
     if stumble.kind == "no packet":
@@ -108,7 +116,7 @@ def pid_words(stumble):
     return f"{of}; {rules[stumble.kind]}"
 
 
-def written_words(facts):
+def written_words(facts: Facts) -> str:
     """The words of the stumble over a filter that takes what clients write."""
     pid = pids_text([facts["pid"]])
     if not facts["written"]:
@@ -117,14 +125,15 @@ def written_words(facts):
     return f"the filter takes {pid} of what clients write: {wrote}, and nothing of them came through"
 
 
-def again_without(stumble):
+def again_without(stumble: Stumble) -> str:
     """The set call of a section filter without what may keep sections away, as a line of a script."""
     act = stumble.facts["act"]
+    assert stumble.node is not None
     name = node_name(stumble.node)
     return f"c{stumble.client} section {name} {act['pid']} {act['timeout']} {act['flags'] & ~CRC | 4}"
 
 
-def nothing_words(stumble):
+def nothing_words(stumble: Stumble) -> str:
     """The words of the stumble over a section filter that selects nothing."""
     facts, act = stumble.facts, stumble.facts["act"]
     count = many(facts["most"], "packet") if facts["least"] == facts["most"] else f"at least {many(facts['least'], 'packet')}"
@@ -143,7 +152,7 @@ def nothing_words(stumble):
     return f"{shown}: {other}, or let `dvbemu hint REPORT SESSION` find what rules each section out"
 
 
-def late_words(stumble):
+def late_words(stumble: Stumble) -> str:
     """The words of the stumbles over a stream that had ended."""
     facts = stumble.facts
     what = "the dvr node is opened or resized" if stumble.node == DVR else "the filter is started"
@@ -155,7 +164,7 @@ def late_words(stumble):
     return f"{none}; {clock}: let `dvbemu pace` write the stream at its own pace, or try the filter with `steps`"
 
 
-def words(stumble):
+def words(stumble: Stumble) -> str:
     """What the report shows of a stumble."""
     facts = stumble.facts
     if stumble.kind in PLAIN:
@@ -169,12 +178,12 @@ def words(stumble):
     if stumble.kind in ("larger", "first size", "overflow"):
         return size_words(stumble)
     if stumble.kind == "dropped":
-        return f"{NAMES[facts['act']]} drops {many(facts['bytes'], 'byte')} that the client hadn't read"
+        return f"{NAMES[facts['call']]} drops {many(facts['bytes'], 'byte')} that the client hadn't read"
     if stumble.kind == "busy":
         return f"EBADF, since the Open in line {facts['opened']} was answered Busy and the client calls the node all the same"
     if stumble.kind == "large pid":
-        most, of = (8191, "13 bits") if facts["act"] == "section" else (8192, "which names every packet")
-        return f"EINVAL, since PID {facts['pid']} is above {most} ({of}); {NAMES[facts['act']]} sets no filter"
+        most, of = (8191, "13 bits") if facts["call"] == "section" else (8192, "which names every packet")
+        return f"EINVAL, since PID {facts['pid']} is above {most} ({of}); {NAMES[facts['call']]} sets no filter"
     if stumble.kind == "free tap":
         passed = ("" if facts["least"] == facts["most"] else "up to ") + many(facts["most"], "packet")
         tap = f"the tap of {node_name(facts['tapped'])} is attached while the dvr node is Free"
@@ -202,7 +211,7 @@ def words(stumble):
     return pid_words(stumble)
 
 
-def hint_text(stumble):
+def hint_text(stumble: Stumble) -> str:
     """A hint in words, without its rule."""
     if stumble.client is None:
         return f"{words(stumble)}." if stumble.kind == "nobody" else f"The stream: {words(stumble)}."
@@ -214,7 +223,7 @@ def hint_text(stumble):
     return f"{where}{first}: {words(stumble)}."
 
 
-def rule_texts(stumble):
+def rule_texts(stumble: Stumble) -> list[str]:
     """The rules of a hint, as they are quoted."""
     kinds = [stumble.kind]
     if stumble.kind == "first size" and stumble.node == DVR:

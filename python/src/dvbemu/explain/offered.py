@@ -4,12 +4,21 @@ none, and the packets and sections that an Overflow lost.
 The rules are those of the plain second program, fuzz/second.py, which works out all sections of a capture anew at each packet; here each
 packet is taken once.
 """
+from __future__ import annotations
+
 from bisect import bisect_left, bisect_right
-from typing import NamedTuple
+from typing import TYPE_CHECKING, NamedTuple
 
 from .. import reports
 from ..psi.tables import has_right_crc
-from .walk import CRC, ONESHOT, Walk, second
+from .plain import second
+from .walk import CRC, ONESHOT, Walk
+
+if TYPE_CHECKING:
+    from typing import Iterable, Iterator, Mapping, Sequence
+
+    from ..reports import Act, Entry, FilterBytes, Reply
+    from .story import Story
 
 PACKET = 188
 
@@ -17,10 +26,11 @@ PACKET = 188
 class Sections:
     """The sections of a PID, by the rules of second.sections, each given with the packet that completes it."""
 
-    def __init__(self):
-        self.last, self.open = None, None
+    def __init__(self) -> None:
+        self.last: bytes | None = None
+        self.open: bytearray | None = None
 
-    def take(self, packet):
+    def take(self, packet: bytes) -> list[bytes]:
         """The sections that the PID's next packet completes."""
         payload = second.payload_of(packet)
         if second.error_bit(packet) or payload is None:
@@ -37,13 +47,13 @@ class Sections:
         self.open = bytearray() if behind <= len(payload) else None
         return found + self.extend(payload[behind:])
 
-    def extend(self, data):
+    def extend(self, data: bytes) -> list[bytes]:
         """The sections that are whole with further bytes of the open segment. It ends where no section can follow."""
         if self.open is None:
             return []
         self.open += data
         found, place = [], 0
-        while (after := self.end_of_section(place)) and after <= len(self.open):
+        while (after := end_of_section(self.open, place)) and after <= len(self.open):
             found.append(bytes(self.open[place:after]))
             place = after
         del self.open[:place]
@@ -51,29 +61,30 @@ class Sections:
             self.open = None
         return found
 
-    def end_of_section(self, place):
-        """Where the section ends that begins here; 0 where that isn't known yet, and None where none can begin."""
-        head = self.open[place : place + 3]
-        if head[:1] == b"\xff":
-            return None
-        if len(head) < 3:
-            return 0
-        length = (head[1] & 0x0F) << 8 | head[2]
-        return place + 3 + length if length <= 4093 else None
+
+def end_of_section(segment: bytearray, place: int) -> int | None:
+    """Where the section of an open segment ends that begins here; 0 where that isn't known yet, and None where none can begin."""
+    head = segment[place : place + 3]
+    if head[:1] == b"\xff":
+        return None
+    if len(head) < 3:
+        return 0
+    length = (head[1] & 0x0F) << 8 | head[2]
+    return place + 3 + length if length <= 4093 else None
 
 
-def sections_of(packets):
+def sections_of(packets: Iterable[bytes]) -> list[bytes]:
     """The sections of packets of one PID."""
     reader = Sections()
     return [section for packet in packets for section in reader.take(packet)]
 
 
-def is_intact(section):
+def is_intact(section: bytes) -> bool:
     """Whether a section's CRC_32 is right, or it has none."""
     return section[1] >> 7 == 0 or has_right_crc(section)
 
 
-def selects(act, section):
+def selects(act: Act, section: bytes) -> bool:
     """Whether a section filter, given by its set call, selects a section."""
     return second.matches(act["bytes"], section) and (not act["flags"] & CRC or is_intact(section))
 
@@ -84,7 +95,7 @@ class Lost(NamedTuple):
 
     line: int
     node: int
-    span: tuple
+    span: tuple[int, int]
     is_section: bool
     items: int
     first: int
@@ -98,24 +109,32 @@ class Used(NamedTuple):
     client: int
     line: int
     node: int
-    act: dict
-    places: list
-    pids: set
+    act: Act
+    places: list[list[int]]
+    pids: set[int]
 
 
 class Offered(Walk):
     """A node with the stream at hand. `used` has its filters that gave nothing, `lost` what its Overflows lost, and `ran` says whether a
     filter ran at all."""
 
-    def __init__(self, number, story, packets, by_pid):
+    filter: Act | None
+
+    def __init__(self, number: int, story: Story, packets: Sequence[bytes], by_pid: Mapping[int, Sequence[int]]) -> None:
         super().__init__(number)
         self.story, self.packets, self.by_pid = story, packets, by_pid
-        self.used, self.lost, self.ran, self.ever = [], [], False, set()
-        self.places, self.all_places, self.gave, self.line, self.client = [], [], False, 0, 0
-        self.taken, self.ends, self.bringers, self.sections = 0, [], [], Sections()
-        self.taps = {}
+        self.used: list[Used] = []
+        self.lost: list[Lost] = []
+        self.ran, self.gave, self.line, self.client = False, False, 0, 0
+        self.ever: set[int] = set()
+        self.places: list[int] = []
+        self.all_places: list[list[int]] = []
+        self.ends: list[int] = []
+        self.bringers: list[int] = []
+        self.taken, self.sections = 0, Sections()
+        self.taps: dict[int, list[int]] = {}
 
-    def take(self, entry):
+    def take(self, entry: Entry) -> None:
         """Takes the next entry."""
         act, reply = reports.act_of(entry), reports.reply_of(entry)
         name, told = act["name"], reply["name"]
@@ -131,10 +150,10 @@ class Offered(Walk):
             self.gave = self.gave or reply["drop"][1] > reply["drop"][0]
             self.accept(entry, act, reply)
 
-    def take_pass(self, act):
+    def take_pass(self, act: Act) -> None:
         """A batch passes; what clients write has no place in the stream."""
         runs = self.runs or self.number == reports.DVR and self.owner is not None
-        if act["input"] != "frontend" or not runs or (self.filter or {}).get("input") == "dvr":
+        if act["input"] != "frontend" or not runs or self.is_played():
             return
         if self.due is not None and not self.gave and act["at"] >= self.due:
             return
@@ -143,43 +162,47 @@ class Offered(Walk):
         if second.ALL_PACKETS in pids:
             self.places += range(first, after)
             return
-        found = []
+        found: list[int] = []
         for pid in pids:
             places = self.by_pid.get(pid, [])
             found += places[bisect_left(places, first) : bisect_left(places, after)]
         self.places += sorted(found)
 
-    def set_filter(self, entry, act):
+    def is_played(self) -> bool:
+        """Whether the filter takes what clients write."""
+        return self.filter is not None and self.filter.get("input") == "dvr"
+
+    def set_filter(self, entry: Entry, act: Act) -> None:
         """A filter, which has given nothing yet."""
         self.filter, self.all_places, self.gave, self.ever = act, [], False, set()
         self.line, self.client = self.story.line_of(entry), int(entry.who[1])
 
-    def change_pids(self, entry, act):
+    def change_pids(self, entry: Entry, act: Act) -> None:
         """The filter has another PID, or one less."""
         self.ever |= self.pids if self.runs else set()
 
-    def begin_capture(self, entry):
+    def begin_capture(self, entry: Entry) -> None:
         """A capture is offered packets from here on."""
         self.places, self.ran = [], True
         self.ever |= self.pids if self.filter else set()
         self.taken, self.ends, self.bringers, self.sections = 0, [], [], Sections()
 
-    def end_capture(self, entry, reply):
+    def end_capture(self, entry: Entry, reply: Reply) -> None:
         """A capture has ended."""
         self.all_places.append(self.places)
         self.places = []
 
-    def end_filter(self):
+    def end_filter(self) -> None:
         """The filter's time is over."""
         self.all_places.append(self.places)
-        is_told = self.filter and (self.filter["name"] == "section" or self.filter["input"] != "dvr" and not any(self.all_places))
-        if is_told and self.ever and not self.gave:
-            self.used.append(Used(self.client, self.line, self.number, self.filter, self.all_places, self.ever))
+        used = self.filter
+        if used and self.ever and not self.gave and (used["name"] == "section" or used["input"] != "dvr" and not any(self.all_places)):
+            self.used.append(Used(self.client, self.line, self.number, used, self.all_places, self.ever))
         self.filter, self.places, self.all_places = None, [], []
 
     # ------ items
 
-    def take_items(self):
+    def take_items(self) -> None:
         """Takes the items of the packets that have been offered to the capture: `ends` has where in it each ends, and `bringers` the place of
         the packet that completes it."""
         for place in self.places[self.taken :]:
@@ -188,7 +211,7 @@ class Offered(Walk):
                 self.bringers.append(place)
         self.taken = len(self.places)
 
-    def lengths(self, packet):
+    def lengths(self, packet: bytes) -> list[int]:
         """The lengths of the items that the capture's next packet completes."""
         if self.filter and self.filter["name"] == "section":
             found = [len(section) for section in self.sections.take(packet) if selects(self.filter, section)]
@@ -197,16 +220,16 @@ class Offered(Walk):
             return [len(payload)] if (payload := second.payload_of(packet)) else []
         return [PACKET]
 
-    def take_overflow(self, entry, reply):
+    def take_overflow(self, entry: Entry, reply: Reply) -> None:
         """Finds what an Overflow lost."""
         self.gave = True
-        if self.node.capture is None or (self.filter or {}).get("input") == "dvr":
+        if self.node.capture is None or self.is_played():
             return
         begin, after = reply["span"]
         self.take_items()
         first, last = bisect_right(self.ends, begin), bisect_left(self.ends, after)
         if first <= last < len(self.ends):
-            is_section = bool(self.filter) and self.filter["name"] == "section"
+            is_section = self.filter is not None and self.filter["name"] == "section"
             places = self.bringers[first], self.bringers[last]
             self.lost.append(Lost(self.story.line_of(entry), self.number, (begin, after), is_section, last - first + 1, *places))
 
@@ -223,12 +246,12 @@ class Ruled(NamedTuple):
     bits: int
 
 
-def byte_at(place):
+def byte_at(place: int) -> int:
     """The byte of a section that a filter byte stands against."""
     return place if place == 0 else place + 2
 
 
-def ruled_out(places, section):
+def ruled_out(places: FilterBytes, section: bytes) -> tuple[Ruled, ...]:
     """What of a filter rules a section out, by the places of its bytes; nothing where it selects it."""
     if second.matches(places, section):
         return ()
@@ -247,17 +270,17 @@ def ruled_out(places, section):
 class Like(NamedTuple):
     """A filter like another one: its bytes, its flags, and how many sections it selects."""
 
-    bytes: dict
+    bytes: FilterBytes
     flags: int
-    count: int
+    sections: int
 
 
-def bad_places(places, sections):
+def bad_places(places: FilterBytes, sections: Iterable[bytes]) -> list[int]:
     """The places of the filter bytes that rule some of the sections out."""
     return sorted({ruled.place for section in sections for ruled in ruled_out(places, section)})
 
 
-def tries(places, sections):
+def tries(places: FilterBytes, sections: Sequence[bytes]) -> Iterator[FilterBytes]:
     """Filters like this one that may select more: with the values that stand in the sections, and without the bytes that rule them out."""
     bad = bad_places(places, sections)
     named = {place: three for place, three in places.items() if place not in bad}
@@ -268,7 +291,7 @@ def tries(places, sections):
     yield named
 
 
-def like(places, flags, sections):
+def like(places: FilterBytes, flags: int, sections: Iterable[bytes]) -> Like | None:
     """A filter with these bytes and flags, without the flag for the CRC_32 where only that keeps sections away; None where it selects none."""
     matched = [section for section in sections if second.matches(places, section)]
     right = [section for section in matched if not flags & CRC or is_intact(section)]
@@ -277,13 +300,13 @@ def like(places, flags, sections):
     return Like(places, flags & ~CRC, len(matched)) if matched else None
 
 
-def like_this(act, sections):
+def like_this(act: Act, sections: Sequence[bytes]) -> Like | None:
     """The first filter like this one that selects some of the sections; None where none does."""
     tried = (like(places, act["flags"], sections) for places in (act["bytes"], *tries(act["bytes"], sections)))
     return next(filter(None, tried), None)
 
 
-def moved(act, sections):
+def moved(act: Act, sections: Sequence[bytes]) -> Iterator[tuple[int, Like]]:
     """Filters with a byte two places before, each with the byte's place: a filter byte counted as those of a section are, of which a filter
     leaves bytes 1 and 2 out. They are given where the byte's value stands there."""
     places = act["bytes"]

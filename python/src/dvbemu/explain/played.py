@@ -1,11 +1,19 @@
 """The packets that a report is of: those of its session, or of the recording that was played, which is told by how many packets of each PID
 there are. For tools/hint and tools/session."""
+from __future__ import annotations
+
 from collections import Counter
+from typing import TYPE_CHECKING
 
-from ..psi.fields import pid_text
 from ..inputs import many
+from ..psi.fields import pid_text
+from .plain import second
 
-from ..oracle import second
+if TYPE_CHECKING:
+    from typing import Iterable, Iterator, Mapping, Tuple
+
+    # The head of a report: packets, skipped and rest.
+    Head = Tuple[int, int, int]
 
 # How many bytes a packet of a recording takes up, and how many of these stand in front of it (a time stamp of .m2ts); and how many packets
 # show that.
@@ -16,12 +24,12 @@ class NotPlayed(Exception):
     """Packets that aren't those of the report."""
 
 
-def counted(packets):
+def counted(packets: Iterable[bytes]) -> Counter[int]:
     """How many packets each PID has."""
     return Counter(map(second.pid_of, packets))
 
 
-def of_session(stream, head, counts):
+def of_session(stream: bytes, head: Head, counts: Mapping[int, int]) -> list[bytes]:
     """The packets of a session's stream, by its report's head (packets, skipped and rest) and how many packets each PID has there."""
     for size in (188, 204):
         packets, skipped, rest = second.cut(stream, size)
@@ -31,7 +39,7 @@ def of_session(stream, head, counts):
     raise NotPlayed(f"no session of this report: {difference(counted(packets), len(packets), head[0], counts)}")
 
 
-def cuts_of(recording):
+def cuts_of(recording: bytes) -> Iterator[list[bytes]]:
     """The packets of a recording, for each number of bytes that they seem to take up."""
     for size, ahead in FORMS:
         for at in range(ahead, size + ahead):
@@ -41,12 +49,12 @@ def cuts_of(recording):
                 break
 
 
-def is_recording(given):
+def is_recording(given: bytes) -> bool:
     """Whether a file seems to be a recording, and no session."""
     return given[:1] == SYNC or given[4 : 5 + 192 : 192] == SYNC * 2
 
 
-def of_recording(recording, head, counts):
+def of_recording(recording: bytes, head: Head, counts: Mapping[int, int]) -> list[bytes]:
     """The packets that were played of a recording: it is repeated where it is shorter, and cut where it is longer."""
     told = "it has no packet"
     for packets in filter(None, cuts_of(recording)):
@@ -57,14 +65,14 @@ def of_recording(recording, head, counts):
     raise NotPlayed(f"no recording of this report: {told}")
 
 
-def played_counts(packets, number):
+def played_counts(packets: list[bytes], number: int) -> Counter[int]:
     """How many packets each PID has where a recording is played up to so many packets."""
     times, rest = divmod(number, len(packets))
     whole = counted(packets)
     return Counter({pid: times * count for pid, count in whole.items() if times}) + counted(packets[:rest])
 
 
-def difference(mine, number, other, counts):
+def difference(mine: Counter[int], number: int, other: int, counts: Mapping[int, int]) -> str:
     """How packets differ from those of the report: in their number, or by a PID."""
     if number != other:
         return f"it has {many(number, 'packet')}, the report {other:,}"

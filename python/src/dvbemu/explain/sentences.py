@@ -1,4 +1,8 @@
 """Calls and replies of a report in plain words, for tools/explain."""
+from __future__ import annotations
+
+from typing import TYPE_CHECKING
+
 from .clients import PACKET
 from ..psi.fields import NAMES as FIELD_NAMES
 from ..psi.fields import filter_texts, head_of, head_text, pid_name, pid_text, stream_text, table_text
@@ -8,6 +12,15 @@ from ..reports import DVR, act_of, moment, node_name, reply_of
 from ..psi.tables import short_text, text_of
 from .walk import FLAGS
 
+if TYPE_CHECKING:
+    from typing import Iterable, Mapping, Sequence, Tuple, Union
+
+    from ..reports import Act, Outcome, Reply
+    from .clients import Call, Got, Kind, Lost, Through, Waits
+
+    # What makes commands alike: the kind of their calls or the call, its node, and its reply where that counts.
+    Likeness = Union[Tuple[str, int], Tuple[str, int, str]]
+
 WIDTH = 100
 GATHERED = 9
 TABLES, VALUES, SAID = 4, 6, 8
@@ -16,9 +29,10 @@ LOOKS = ("read", "poll")
 GIVEN = "gave data"
 
 
-def wrapped(text, indent):
+def wrapped(text: str, indent: int) -> list[str]:
     """A text in lines of at most 100 columns, those behind the first with a further indent of two."""
-    lines, line = [], " " * indent
+    lines: list[str] = []
+    line = " " * indent
     for word in text.split(" "):
         if len(line) + 1 + len(word) > WIDTH and line.strip():
             lines.append(line)
@@ -27,13 +41,13 @@ def wrapped(text, indent):
     return [*lines, line]
 
 
-def joined(parts):
+def joined(parts: Iterable[object]) -> str:
     """A list in words: `a`, `a and b`, `a, b and c`."""
-    parts = list(map(str, parts))
-    return " and ".join([", ".join(parts[:-1]), parts[-1]] if len(parts) > 1 else parts)
+    texts = list(map(str, parts))
+    return " and ".join([", ".join(texts[:-1]), texts[-1]] if len(texts) > 1 else texts)
 
 
-def lines_text(lines):
+def lines_text(lines: Sequence[int]) -> str:
     """Lines of the script, at most six of them by number: `line 4`, `lines 4, 6 and 9`."""
     if len(lines) == 1:
         return f"line {lines[0]}"
@@ -42,7 +56,7 @@ def lines_text(lines):
     return f"lines {', '.join(map(str, lines[:5]))} and {len(lines) - 5:,} more up to {lines[-1]}"
 
 
-def pids_text(pids):
+def pids_text(pids: Iterable[int]) -> str:
     """PIDs in words."""
     pids = sorted(pids)
     if not pids:
@@ -52,7 +66,7 @@ def pids_text(pids):
     return ("PID " if len(pids) == 1 else "PIDs ") + joined(names)
 
 
-def node_text(number):
+def node_text(number: int) -> str:
     """A node in words."""
     return "the dvr node" if number == DVR else node_name(number)
 
@@ -60,37 +74,37 @@ def node_text(number):
 # ------ acts
 
 
-def flags_text(flags):
+def flags_text(flags: int) -> str:
     """The flags of a set call in words."""
     names = [FLAGS.get(1 << bit, str(1 << bit)) for bit in range(flags.bit_length()) if flags >> bit & 1]
     return "no flag" if not names else ("flag " if len(names) == 1 else "flags ") + joined(names)
 
 
-def section_text(act, on):
+def section_text(act: Act, on: str) -> str:
     """A SetFilter in words."""
     timeout = f"timeout {act['timeout']} ms" if act["timeout"] else "no timeout"
     filtered = f"{pids_text([act['pid']])}, {', '.join(filter_texts(act['bytes'])) or 'every section'}"
     return f"sets a section filter on {on} ({filtered}, {timeout}, {flags_text(act['flags'])})"
 
 
-def pes_text(act, on):
+def pes_text(act: Act, on: str) -> str:
     """A SetPes in words."""
     where = f"output {act['output'].upper()}" + (", input DVR" if act["input"] == "dvr" else "")
     return f"sets a PES filter on {on} ({pids_text([act['pid']])}, {where}, PES type {act['type']}, {flags_text(act['flags'])})"
 
 
-def packets_text(act):
+def packets_text(act: Act) -> str:
     """The packets that a client has written and passes, in words."""
     first, last = act["first"], act["first"] + act["count"] - 1
     return f"what it has written, {f'packet {first}' if first == last else f'packets {first} to {last}'},"
 
 
-def at_most_text(act):
+def at_most_text(act: Act) -> str:
     """How much a read asks for."""
     return f"at most {act['count']} byte{'s' * (act['count'] != 1)}"
 
 
-def act_text(call):
+def act_text(call: Call) -> str:
     """What a call asks, in words."""
     act, on = act_of(call.entry), node_text(call.node)
     if call.act == "section":
@@ -114,7 +128,7 @@ def act_text(call):
     return {"open": "opens", "close": "closes", "start": "starts", "stop": "stops"}[call.act] + " " + on
 
 
-def moment_text(call):
+def moment_text(call: Call) -> str:
     """The moment of a call, where it carries one above 0."""
     at = moment(call.entry)
     return f" at moment {at}" if at else ""
@@ -123,7 +137,7 @@ def moment_text(call):
 # ------ replies
 
 
-def done_text(call, reply):
+def done_text(call: Call, reply: Reply) -> str:
     """A Done in words."""
     first, after = reply["drop"]
     text = "Done"
@@ -136,7 +150,7 @@ def done_text(call, reply):
     return text
 
 
-def ready_text(reply):
+def ready_text(reply: Reply) -> str:
     """A Ready in words."""
     if reply["error"] != "none":
         return "Ready, " + ("an Overflow" if reply["error"] == "overflow" else "a TimedOut") + " is to be told"
@@ -145,14 +159,14 @@ def ready_text(reply):
     return "Ready, bytes can be read" + ("; the stream has ended" if reply["ended"] else "")
 
 
-def section_words(call):
+def section_words(call: Call) -> str:
     """Which table the section is that a read gives, or what its head says where it begins and is none."""
     if call.whole and (table := short_text(call.section)):
         return f": {table}"
     return f": {head_text(head_of(call.section))}" if "end" not in call.reason else ""
 
 
-def data_text(call):
+def data_text(call: Call) -> str:
     """Data in words: how much, and what stands in it."""
     length = call.length()
     text = f"Data of {many(length, 'byte') if length else 'no bytes'}" + (f", {call.reason}" if call.reason else "")
@@ -164,12 +178,12 @@ def data_text(call):
     return text
 
 
-def expired_text(reply):
+def expired_text(reply: Reply) -> str:
     """The moments of a timeout."""
     return f"started at moment {reply['started']} with a timeout of {reply['timeout']} ms, expired at {reply['now']}"
 
 
-def reply_text(call):
+def reply_text(call: Call) -> str:
     """What a call was answered, in words."""
     reply = reply_of(call.entry)
     if call.reply == "done":
@@ -192,7 +206,7 @@ def reply_text(call):
     return call.reply + (f", {call.reason}" if call.reason else "")
 
 
-def call_text(call):
+def call_text(call: Call) -> str:
     """A call and its reply in words."""
     return f"{act_text(call)}{moment_text(call)}: {reply_text(call)}"
 
@@ -200,7 +214,7 @@ def call_text(call):
 # ------ rows of like calls
 
 
-def kind_of_reply(call):
+def kind_of_reply(call: Call) -> str:
     """What the replies of gathered reads and polls are counted by."""
     if call.reply == "data":
         return GIVEN if call.length() else "gave no bytes"
@@ -213,18 +227,19 @@ def kind_of_reply(call):
     return {"overflow": "answered Overflow", "timedout": "answered TimedOut"}.get(call.reply, f"answered {call.reply}")
 
 
-def looks_text(calls):
+def looks_text(calls: Iterable[Call]) -> str:
     """Reads and polls of one node, gathered by what they ask."""
-    groups = {}
+    groups: dict[tuple[int, str], list[Call]] = {}
     for call in calls:
         asked = call.entry.act.partition(" at=")[0]
         groups.setdefault((call.node, asked), []).append(call)
     return "; ".join(group_text(group) if len(group) > 1 else call_text(group[0]) for group in groups.values())
 
 
-def group_text(calls):
+def group_text(calls: Sequence[Call]) -> str:
     """Reads or polls that ask the same."""
-    first, counted, given = calls[0], {}, 0
+    first, given = calls[0], 0
+    counted: dict[str, int] = {}
     for call in calls:
         kind = kind_of_reply(call)
         counted[kind] = counted.get(kind, 0) + 1
@@ -236,7 +251,7 @@ def group_text(calls):
     return f"{many(len(calls), first.act)} {asked}: {joined(counts)}"
 
 
-def calls_text(calls):
+def calls_text(calls: Sequence[Call]) -> str:
     """The calls of one command in words; several reads are gathered."""
     if not calls:
         return "makes no call"
@@ -248,7 +263,7 @@ def calls_text(calls):
     return "; ".join(map(call_text, calls))
 
 
-def likeness(calls):
+def likeness(calls: Sequence[Call]) -> Likeness | None:
     """What makes commands alike, so that a long row of them is gathered; None where nothing does."""
     if calls and all(call.act in LOOKS for call in calls):
         return "looks", calls[0].node
@@ -257,13 +272,13 @@ def likeness(calls):
     return calls[0].entry.act.partition(" at=")[0], calls[0].node, calls[0].reply
 
 
-def counter_text(kind):
+def counter_text(kind: str) -> str:
     """A system time counter in words."""
     base, value = (int(word.partition("=")[2]) for word in kind.split(" ")[1:])
     return f"{value:,}, in units of {base * 90:,} kHz"
 
 
-def command_text(outcome, calls):
+def command_text(outcome: Outcome, calls: Sequence[Call]) -> str:
     """What one command did, in words."""
     if outcome.kind == "unbound":
         return "names a slot that is bound to no node, so it makes no call"
@@ -275,14 +290,15 @@ def command_text(outcome, calls):
     return f"{text}; no node is free (EMFILE)" if outcome.kind == "EMFILE" else text
 
 
-def asked_texts(commands):
+def asked_texts(commands: Sequence[tuple[Outcome, list[Call]]]) -> list[str]:
     """The commands of a client, pairs of an outcome and its calls, in words; long rows of like ones are gathered."""
-    found, place = [], 0
+    found: list[str] = []
+    place = 0
     while place < len(commands):
         like, after = likeness(commands[place][1]), place + 1
         while like is not None and after < len(commands) and likeness(commands[after][1]) == like:
             after += 1
-        if after - place < GATHERED:
+        if like is None or after - place < GATHERED:
             after = place + 1
             found.append(f"line {commands[place][0].line}: {command_text(*commands[place])}")
         else:
@@ -293,7 +309,7 @@ def asked_texts(commands):
     return found
 
 
-def row_text(like, calls):
+def row_text(like: Likeness, calls: Sequence[Call]) -> str:
     """A row of like commands in words."""
     if like[0] == "looks":
         return looks_text(calls)
@@ -307,26 +323,25 @@ def row_text(like, calls):
 # ------ what a client got
 
 
-def got_text(key, got):
+def got_text(key: Through, got: Got) -> str:
     """What the reads of a node through one filter gave, in words."""
-    number, kind, output, _ = key
-    if kind:
+    if key.kind:
         of = pids_text(got.pids)
-        through = f"section filter of {of}" if kind == "section" else f"PES filter {output.upper()} of {of}"
-        head = f"{node_name(number)}, {through}: "
+        through = f"section filter of {of}" if key.kind == "section" else f"PES filter {key.output.upper()} of {of}"
+        head = f"{node_name(key.node)}, {through}: "
     else:
-        head = f"{node_text(number)}: " if number == DVR else f"{node_text(number)} without a filter: "
+        head = f"{node_text(key.node)}: " if key.node == DVR else f"{node_text(key.node)} without a filter: "
     if not got.with_data:
         return head + f"no bytes by {many(got.reads, 'read')}"
     text = head + f"{many(got.bytes, 'byte')} by {got.with_data:,} of {many(got.reads, 'read')}"
-    if kind == "section":
+    if key.kind == "section":
         return text + f", {many(got.items, 'section')} read to the end" + tables_text(got.tables()) + said_by(got)
-    if number == DVR or output == "tsdemux_tap":
+    if key.node == DVR or key.output == "tsdemux_tap":
         return text + f", {many(got.items, 'whole packet')} of {PACKET} bytes"
     return text + ", payloads" + streams_text(got.streams)
 
 
-def values_text(values):
+def values_text(values: Iterable[int]) -> str:
     """Numbers in ascending order, of many the first ones."""
     shown = sorted(values)
     if len(shown) <= VALUES:
@@ -334,9 +349,10 @@ def values_text(values):
     return f"{', '.join(map(str, shown[: VALUES - 1]))} and {len(shown) - VALUES + 1:,} more up to {shown[-1]}"
 
 
-def tables_text(tables):
+def tables_text(tables: dict[Kind, list[set[int]]]) -> str:
     """What stands in the heads of the sections that were read, by table_id and table_id_extension; of many by table_id alone."""
-    texts, tables = [], tables if len(tables) <= TABLES else merged(tables)
+    texts: list[str] = []
+    tables = tables if len(tables) <= TABLES else merged(tables)
     for (table, _, is_named), values in list(tables.items())[:TABLES]:
         told = zip(FIELD_NAMES[1:], values[1:])
         name = table_text(table) if is_named else f"0x{table:02X}"
@@ -345,45 +361,45 @@ def tables_text(tables):
     return (": " if texts else "") + "; ".join(texts) + (f"; and {more:,} more table_ids" if more > 0 else "")
 
 
-def merged(tables):
+def merged(tables: dict[Kind, list[set[int]]]) -> dict[Kind, list[set[int]]]:
     """What stands in the heads of sections, by table_id."""
-    found = {}
+    found: dict[Kind, list[set[int]]] = {}
     for (table, _, is_named), values in tables.items():
         for known, more in zip(found.setdefault((table, None, is_named), [set() for _ in FIELD_NAMES]), values):
             known |= more
     return found
 
 
-def said_by(got):
+def said_by(got: Got) -> str:
     """What the sections say that are tables, each in a line of its own, of many the first ones."""
     known = [text for text in map(text_of, got.sections) if text]
     more = [f"And {len(known) - SAID:,} more tables' sections"] if len(known) > SAID else []
     return "".join(f".\n{text}" for text in known[:SAID] + more)
 
 
-def streams_text(streams):
+def streams_text(streams: Mapping[int, int]) -> str:
     """Which PES packets begin in the payloads that were read."""
     found = [f"{many(count, 'PES packet')} of stream_id {stream_text(stream)}" for stream, count in sorted(streams.items())]
     return f", with {joined(found)}" if found else ""
 
 
-def lost_text(line, call, span):
+def lost_text(line: int, call: Call, span: tuple[int, int]) -> str:
     """A span that the client never got, in words."""
     reply, length = reply_of(call.entry), many(span[1] - span[0], "byte")
     head = f"line {line}, {node_text(call.node)}: {length}, {span[0]}..{span[1]} of the capture, "
-    if call.reply != "overflow":
+    if call.lost is None:
         unread = f"unread when {NAMES.get(call.act, call.act)} dropped them"
         return head + unread + (f", as long as {many(call.repeats, 'section')} of those read before" if call.repeats else "")
     room = f"item {reply['item']}, counted from 0, needs {many(reply['need'], 'byte')} and found room for {reply['room']:,}"
-    buffer = f"in a buffer of size {call.reason}, which holds {int(call.reason) - 1}"
+    buffer = f", in a buffer of size {call.reason}, which holds {int(call.reason) - 1}" if call.reason else ""
     if call.lost.kept:
         why = f"all items from {reply['item']} on until a read told the Overflow, behind those that KEEP has kept"
     else:
         why = "all that was unread at an Overflow"
-    return head + f"{lost_items(call.lost)}{why}: {room}, {buffer}"
+    return head + f"{lost_items(call.lost)}{why}: {room}{buffer}"
 
 
-def lost_items(lost):
+def lost_items(lost: Lost) -> str:
     """How many packets or sections were lost, and which of the stream's packets these are, or brought them."""
     of = f"{many(lost.packets, 'packet')}, " if lost.packets else f"at least {many(lost.sections, 'section')}, " if lost.sections else ""
     among = lost.after - lost.first
@@ -395,7 +411,7 @@ def lost_items(lost):
     return f"{of}brought by {'' if among == 1 else 'packets among '}the stream's {span}, "
 
 
-def waits_text(number, waits):
+def waits_text(number: int, waits: Waits) -> str:
     """How often a client waited on a node, in words."""
     times = waits.passes + waits.ends + waits.others
     parts = [
@@ -408,15 +424,15 @@ def waits_text(number, waits):
     return f"{lines_text(waits.lines)}, {node_text(number)}: {many(times, 'wait')}, {joined(texts)}"
 
 
-def timed_text(line, call, pid):
+def timed_text(line: int, call: Call, pid: int | None) -> str:
     """A TimedOut in words."""
     of = f" of {pids_text([pid])}" if pid is not None else ""
     return f"line {line}, {node_text(call.node)}: the section filter{of}, {expired_text(reply_of(call.entry))}"
 
 
-def refused_texts(refused):
+def refused_texts(refused: Iterable[tuple[int, Call]]) -> list[str]:
     """The refusals of a client in words, those with the same reason on the same node together."""
-    groups = {}
+    groups: dict[tuple[str, str, int], list[int]] = {}
     for line, call in refused:
         lines = groups.setdefault((call.reply, call.reason, call.node), [])
         if line not in lines[-1:]:

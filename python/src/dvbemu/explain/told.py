@@ -1,12 +1,25 @@
 """A report in sentences: the stream, what each client asked, got, lost and was refused, and the hints; for tools/explain and tools/page."""
-from typing import NamedTuple
+from __future__ import annotations
+
+from typing import TYPE_CHECKING, NamedTuple
 
 from .. import reports
 from . import sentences
+from ..inputs import many
 from ..psi.fields import pid_text
 from .hints import hint_text, rule_texts
-from .sentences import asked_texts, got_text, joined, lost_text, many, refused_texts, timed_text, waits_text
+from .sentences import asked_texts, got_text, joined, lost_text, refused_texts, timed_text, waits_text
 from .story import Story, joints
+
+if TYPE_CHECKING:
+    from typing import Callable, Iterable, ParamSpec, Sequence, Union
+
+    from .clients import Call, Client
+    from .story import Stumble
+
+    # A line as it is, or a sentence.
+    Row = Union[str, "Told"]
+    P = ParamSpec("P")
 
 SHOWN, NULL = 20, 8191
 LOOK = "`dvbemu hint REPORT STREAM` looks at the stream too"
@@ -19,7 +32,7 @@ class Told(NamedTuple):
     text: str
 
 
-def wrapped(text, indent):
+def wrapped(text: str, indent: int) -> list[Row]:
     """A sentence as the only one of its rows."""
     return [Told(indent, text)]
 
@@ -30,24 +43,24 @@ class Part(NamedTuple):
     node: int | None = None
     client: int | None = None
 
-    def of_node(self, number):
+    def of_node(self, number: int | None) -> bool:
         """Whether this node is asked for."""
         return self.node is None or number == self.node
 
-    def of_client(self, number):
+    def of_client(self, number: int | None) -> bool:
         """Whether this client is asked for."""
         return self.client is None or number == self.client
 
-    def has(self, stumble):
+    def has(self, stumble: Stumble) -> bool:
         """Whether a stumble belongs to it."""
         return self.of_client(stumble.client) and self.of_node(stumble.node)
 
 
-def pid_row_text(row, is_loop):
+def pid_row_text(row: reports.PidRow, is_loop: bool) -> str:
     """What the counters and error bits of a PID say; the breaks may be those of a loop."""
-    breaks = "break where the loop begins again", "breaks where the loop begins again"
-    told = (row.breaks, *(breaks if is_loop else ("break",))), (row.duplicates, "duplicate")
-    found = [many(count, *what) for count, *what in told if count]
+    where = " where the loop begins again" if is_loop else ""
+    told = (row.breaks, f"break{where}", f"breaks{where}"), (row.duplicates, "duplicate", "duplicates")
+    found = [many(count, one, more) for count, one, more in told if count]
     if row.errors:
         found.append(f"{row.errors:,} with the error bit")
     if found:
@@ -57,10 +70,10 @@ def pid_row_text(row, is_loop):
     return "no break, duplicate or error"
 
 
-def stream_lines(report):
+def stream_lines(report: reports.Report) -> list[Row]:
     """What the stream was."""
     head = f"{many(report.packets, 'packet')}, {many(report.skipped, 'byte')} skipped, {many(report.rest, 'byte')} left over at the end."
-    lines = ["The stream", "", *wrapped(head, 2)]
+    lines: list[Row] = ["The stream", "", *wrapped(head, 2)]
     is_loop = joints(report) > 0
     for row in report.pids:
         lines += wrapped(f"PID {pid_text(row.pid)}: {many(row.packets, 'packet')}, {pid_row_text(row, is_loop)}.", 2)
@@ -69,7 +82,7 @@ def stream_lines(report):
     return lines
 
 
-def part_lines(title, texts, nothing):
+def part_lines(title: str, texts: Sequence[Callable[[], str]], nothing: str) -> list[Row]:
     """A part of a client's page; of a long one the beginning."""
     if not texts:
         return wrapped(f"{title}: {nothing}.", 2)
@@ -81,9 +94,10 @@ def part_lines(title, texts, nothing):
     return lines + (wrapped(f"And {len(texts) - len(shown):,} more.", 4) if len(texts) > len(shown) else [])
 
 
-def commands_of(client):
+def commands_of(client: Client) -> list[tuple[reports.Outcome, list[Call]]]:
     """Each outcome of a client with its calls."""
-    found, place = [], 0
+    found: list[tuple[reports.Outcome, list[Call]]] = []
+    place = 0
     for outcome in client.outcomes:
         calls = []
         while place < len(client.calls) and client.calls[place].entry.step < outcome.after:
@@ -93,12 +107,12 @@ def commands_of(client):
     return found
 
 
-def later(function, *arguments):
+def later(function: Callable[P, str], *arguments: P.args, **named: P.kwargs) -> Callable[[], str]:
     """A text that is made only when it is shown."""
-    return lambda: function(*arguments)
+    return lambda: function(*arguments, **named)
 
 
-def lost_title(lost):
+def lost_title(lost: Sequence[tuple[int, Call, tuple[int, int]]]) -> str:
     """The bytes that were lost, and how many of them may be repeats."""
     counts = [(after - first, call.repeats) for _, call, (first, after) in lost]
     count, again = sum(count for count, _ in counts), sum(count for count, repeats in counts if repeats)
@@ -106,7 +120,7 @@ def lost_title(lost):
     return f"What was lost, {many(count, 'byte')}" + (f", {most} as long as repeats of what was read" if again else "")
 
 
-def asked_lines(client, part):
+def asked_lines(client: Client, part: Part) -> list[Row]:
     """What a client asked; of a single node just the commands that called it, with their calls there."""
     commands = commands_of(client)
     if part.node is not None:
@@ -118,7 +132,7 @@ def asked_lines(client, part):
     return lines
 
 
-def idle_lines(clients):
+def idle_lines(clients: Sequence[Client]) -> list[Row]:
     """The page of clients that follow one another and have no command."""
     first, last = clients[0].number, clients[-1].number
     if first == last:
@@ -126,10 +140,10 @@ def idle_lines(clients):
     return ["", f"Clients {first} to {last}", "", *wrapped("They have no command.", 2)]
 
 
-def client_lines(client, part, is_asked=True):
+def client_lines(client: Client, part: Part, is_asked: bool = True) -> list[Row]:
     """The page of a client with a command; what it asked may be left out."""
-    lines = ["", f"Client {client.number}", ""]
-    got = [later(got_text, key, client.got[key]) for key in sorted(client.got) if part.of_node(key[0])]
+    lines: list[Row] = ["", f"Client {client.number}", ""]
+    got = [later(got_text, key, client.got[key]) for key in sorted(client.got) if part.of_node(key.node)]
     spans = [row for row in client.lost if part.of_node(row[1].node)]
     lost = [later(lost_text, *row) for row in spans]
     waits = [later(waits_text, *pair) for pair in sorted(client.waits.items()) if part.of_node(pair[0])]
@@ -143,9 +157,9 @@ def client_lines(client, part, is_asked=True):
     return lines + part_lines("What was refused", refused, "nothing")
 
 
-def hint_lines(story, part):
+def hint_lines(story: Story, part: Part) -> list[Row]:
     """The hints, those on the stream first, then by client and line."""
-    lines = ["", "Hints", ""]
+    lines: list[Row] = ["", "Hints", ""]
     found = [stumble for stumble in story.stumbles.values() if part.has(stumble)]
     for stumble in sorted(found, key=lambda stumble: (-1, 0) if stumble.client is None else (stumble.client, stumble.lines[0])):
         lines += wrapped(hint_text(stumble), 2)
@@ -154,7 +168,7 @@ def hint_lines(story, part):
     return lines if found else lines + wrapped(f"None: this report shows nothing that they are given for. {LOOK}.", 2)
 
 
-def check_steps(report, story):
+def check_steps(report: reports.Report, story: Story) -> None:
     """Raises NotAReport where the entries' steps aren't just those that the clients' commands made."""
     line = 2 + len(report.pids)
     for number, client in sorted(story.clients.items()):
@@ -169,14 +183,14 @@ def check_steps(report, story):
             raise reports.NotAReport(line, what)
 
 
-def story_of(report):
+def story_of(report: reports.Report) -> Story:
     """A report gone through. Raises NotAReport where its clients' commands have other steps than its entries."""
     story = Story(report)
     check_steps(report, story)
     return story
 
 
-def page(report, part):
+def page(report: reports.Report, part: Part) -> str:
     """The whole page, or a part of it, without the stream."""
     story = story_of(report)
     lines = stream_lines(report) if part == Part() else []
@@ -188,9 +202,9 @@ def page(report, part):
     return text_of(lines + hint_lines(story, part))
 
 
-def text_of(rows):
+def text_of(rows: Iterable[Row]) -> str:
     """Rows as a text, sentences in lines of at most 100 columns."""
-    lines = []
+    lines: list[str] = []
     for row in rows:
         lines += sentences.wrapped(row.text, row.indent) if isinstance(row, Told) else [row]
     return "\n".join(lines).lstrip("\n") + "\n"

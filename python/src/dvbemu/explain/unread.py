@@ -6,11 +6,21 @@ entries only bounds are known: the sum before, or what reads have given since, a
 got as many as passed, each pass brought its packets. Before an overflow that a read tells, the fill is the one that the first
 lost item found.
 """
-from typing import NamedTuple
+from __future__ import annotations
+
+from typing import TYPE_CHECKING, NamedTuple
 
 from .. import reports
 from ..psi.fields import pid_name
 from .walk import KEEP, Answered, Walk
+
+if TYPE_CHECKING:
+    from typing import Mapping, Tuple
+
+    from ..reports import Act, Entry, Reply
+
+    # PIDs in a few words, and in fewer.
+    Label = Tuple[str, str]
 
 PACKET, ALL_PACKETS, MOST_NAMED = 188, 0x2000, 4
 
@@ -76,35 +86,41 @@ class Capture(Answered):
     further packets, by a stop or a timeout; `labels` has what it takes from which place on, in words and in fewer; `keeps` says
     that the filter was set with KEEP; `over` is the place where its timeout may be over."""
 
-    def __init__(self, begin, words, kind, label):
+    def __init__(self, begin: int, words: str, kind: str, label: Label) -> None:
         super().__init__()
-        self.begin, self.end, self.quiet, self.words, self.kind = begin, None, None, words, kind
+        self.begin, self.words, self.kind = begin, words, kind
+        self.end: int | None = None
+        self.quiet: int | None = None
         self.labels = [(begin, label)]
-        self.over, self.expiry, self.losses = None, None, []
+        self.over: int | None = None
+        self.expiry: Expiry | None = None
+        self.told_losses: list[tuple[int, int, Loss]] = []
+        self.losses: list[Loss | Untold] = []
         self.packets, self.told_packets = 0, 0
         self.known, self.steps = [Known(begin, 0, 0)], [Step(begin, 0, 0, 0)]
-        self.clear, self.pending, self.keeps = 0, None, False
+        self.clear, self.keeps = 0, False
+        self.pending: int | None = None
 
-    def keep(self, place, least=0, is_over=False):
+    def keep(self, place: int, least: int = 0, is_over: bool = False) -> None:
         """Keeps what is known behind an entry."""
         self.steps.append(Step(place, self.packets, self.answered, max(least, self.answered), is_over))
 
-    def know(self, place, arrived):
+    def know(self, place: int, arrived: int) -> None:
         """Keeps that just so many bytes have arrived."""
         self.known.append(Known(place, self.packets, arrived))
 
-    def tell(self, place, least=0, is_over=False, is_empty=True):
+    def tell(self, place: int, least: int = 0, is_over: bool = False, is_empty: bool = True) -> None:
         """Keeps what a read or a poll tells: that an overflow is pending, that none is, or neither where with KEEP bytes come first."""
         self.keep(place, least, is_over)
         self.told_packets = self.packets
         if not is_over and (is_empty or not self.keeps):
             self.clear = len(self.steps) - 1
 
-    def lose(self, place, reply):
+    def lose(self, place: int, reply: Reply) -> None:
         """Keeps an overflow span with the number of the last step behind which none was pending, and that of the read's."""
         begin, end = reply["span"]
         loss = Loss(place, place, place, begin, end, reply["item"], reply["need"], reply["room"])
-        self.losses.append((self.clear, len(self.steps), loss))
+        self.told_losses.append((self.clear, len(self.steps), loss))
         self.pending = None
 
 
@@ -112,26 +128,32 @@ class History(Walk):
     """A node's captures, its size behind each entry, and the least and the most bytes that may be unread behind each entry (None
     where nothing tells them)."""
 
-    def __init__(self, node, entries):
+    filter: Act | None
+    capture: Capture | None
+
+    def __init__(self, node: int, entries: list[Entry]) -> None:
         super().__init__(node)
         self.entries = entries
-        self.sizes, self.captures, self.drops = [], [], []
+        self.sizes: list[int | None] = []
+        self.captures: list[Capture] = []
+        self.drops: list[Drop] = []
         for entry in entries:
             self.take(entry, reports.act_of(entry), reports.reply_of(entry))
             self.sizes.append(self.size)
-        self.low, self.high = [0] * len(entries), [0] * len(entries)
+        self.low: list[int | None] = [0] * len(entries)
+        self.high: list[int | None] = [0] * len(entries)
         for capture in self.captures:
             self.fill(capture)
 
-    def losses(self):
+    def losses(self) -> list[Loss | Untold]:
         """All overflow spans, and the overflows that no read tells."""
         return [loss for capture in self.captures for loss in capture.losses]
 
-    def expiries(self):
+    def expiries(self) -> list[Expiry]:
         """All timeouts that are told."""
         return [capture.expiry for capture in self.captures if capture.expiry]
 
-    def take(self, entry, act, reply):
+    def take(self, entry: Entry, act: Act, reply: Reply) -> None:
         """Takes the next entry."""
         name = act["name"]
         if name == "pass":
@@ -143,32 +165,32 @@ class History(Walk):
         elif reply["name"] == "done":
             self.accept(entry, act, reply)
 
-    def note_moment(self, entry, act):
+    def note_moment(self, capture: Capture, entry: Entry, act: Act) -> None:
         """Notes the first entry at which the timeout may be over."""
-        capture = self.capture
         if self.due is not None and capture.over is None and capture.quiet is None and act["at"] >= self.due:
             capture.over = entry.place
 
-    def take_pass(self, entry, act):
+    def take_pass(self, entry: Entry, act: Act) -> None:
         """A batch passes, of the stream or of what a client has written."""
-        if self.capture and self.capture.quiet is None:
-            self.note_moment(entry, act)
+        capture = self.capture
+        if capture and capture.quiet is None:
+            self.note_moment(capture, entry, act)
             is_taken = act["input"] == (self.filter or {}).get("input", "frontend")
-            self.capture.packets += act["count"] if is_taken else 0
-            self.capture.keep(entry.place)
+            capture.packets += act["count"] if is_taken else 0
+            capture.keep(entry.place)
 
-    def take_read(self, entry, act, reply):
+    def take_read(self, entry: Entry, act: Act, reply: Reply) -> None:
         """A read and what it tells."""
         capture, name = self.capture, reply["name"]
         if capture is None or name in reports.REFUSALS:
             return
-        self.note_moment(entry, act)
+        self.note_moment(capture, entry, act)
         if name == "overflow":
             capture.know(entry.place, reply["span"][1])
             capture.lose(entry.place, reply)
             capture.skip_to(reply["span"][1])
         elif name == "timedout":
-            self.expire(entry)
+            self.expire(capture, entry)
         elif name == "data":
             capture.give(reply["length"])
             if capture.kind != "section" and not capture.keeps and reply["length"] < act["count"]:
@@ -177,14 +199,14 @@ class History(Walk):
             capture.know(entry.place, capture.answered)
         capture.tell(entry.place, is_empty=name != "data")
 
-    def take_poll(self, entry, act, reply):
+    def take_poll(self, entry: Entry, act: Act, reply: Reply) -> None:
         """A poll and what it tells."""
         capture = self.capture
         if capture is None or reply["name"] != "ready":
             return
-        self.note_moment(entry, act)
+        self.note_moment(capture, entry, act)
         if reply["error"] == "timedout":
-            self.expire(entry)
+            self.expire(capture, entry)
         if reply["error"] == "overflow" and capture.pending is None:
             capture.pending = entry.place
         if reply["readable"] == 0:
@@ -192,35 +214,36 @@ class History(Walk):
         has_more = reply["readable"] == 1 and reply["error"] == "none"
         capture.tell(entry.place, capture.answered + has_more, reply["error"] == "overflow", not has_more)
 
-    def expire(self, entry):
+    @staticmethod
+    def expire(capture: Capture, entry: Entry) -> None:
         """The timeout is told here."""
-        capture = self.capture
         if capture.expiry is None:
             place = entry.place if capture.over is None else capture.over
             capture.expiry = Expiry(place, entry.place)
             capture.quiet = capture.quiet or place
 
-    def begin_capture(self, entry):
+    def begin_capture(self, entry: Entry) -> None:
         """A capture begins: of the filter, or on the dvr node of what the taps name."""
-        kind = "dvr"
-        if self.number != reports.DVR:
+        kind, keeps = "dvr", False
+        if self.filter is not None:
+            keeps = bool(self.filter["flags"] & KEEP)
             kind = self.filter["name"] if self.filter["name"] == "section" else self.filter["output"]
         label = ("tapped packets", "tapped") if kind == "dvr" else pids_labels(self.pids)
         self.capture = Capture(entry.place, entry.act, kind, label)
-        self.capture.keeps = kind != "dvr" and bool(self.filter["flags"] & KEEP)
+        self.capture.keeps = keeps
         self.captures.append(self.capture)
 
-    def change_pids(self, entry, act):
+    def change_pids(self, entry: Entry, act: Act) -> None:
         """Another PID, or one less; a capture takes them from here on."""
         if self.capture:
             self.capture.labels.append((entry.place, pids_labels(self.pids)))
 
-    def stop(self, entry):
+    def stop(self, entry: Entry) -> None:
         """The capture takes no further packets."""
         if self.capture:
             self.capture.quiet = self.capture.quiet or entry.place
 
-    def end_capture(self, entry, reply):
+    def end_capture(self, entry: Entry, reply: Reply) -> None:
         """The capture ends, where there is one, and its unread bytes are dropped."""
         begin, end = reply["drop"]
         if end > begin:
@@ -235,11 +258,11 @@ class History(Walk):
 
     # ------ the bytes unread
 
-    def fill(self, capture):
+    def fill(self, capture: Capture) -> None:
         """Fills in the bytes unread behind each entry of a capture, and where its overflow spans are drawn from."""
         last = len(self.entries) if capture.end is None else capture.end
         bounds = [(low - step.answered, high - step.answered) for step, (low, high) in zip(capture.steps, bounds_of(capture))]
-        capture.losses = [self.fill_before(loss, capture, bounds) for loss in capture.losses]
+        capture.losses = [self.fill_before(loss, capture, bounds) for loss in capture.told_losses]
         if capture.pending is not None:
             capture.losses.append(Untold(capture.pending, capture.pending, min(last, len(self.entries) - 1)))
         places = [step.place for step in capture.steps] + [last]
@@ -249,11 +272,11 @@ class History(Walk):
             place, until = places[number : number + 2]
             self.low[place:until], self.high[place:until] = [low] * (until - place), [high] * (until - place)
 
-    def within(self, level, place):
+    def within(self, level: int, place: int) -> int:
         """A level that the buffer can have at this place."""
         return max(0, min(level, (self.sizes[place] or 1) - 1))
 
-    def fill_before(self, kept, capture, bounds):
+    def fill_before(self, kept: tuple[int, int, Loss], capture: Capture, bounds: list[tuple[int, int]]) -> Loss:
         """The overflow span with the places behind which it may have come and has come: the buffer is as full then as it says, and
         from then on only what is read leaves it; with KEEP it holds what comes before the span."""
         clear, told, loss = kept
@@ -271,7 +294,7 @@ class History(Walk):
         return loss._replace(first=first, sure=sure)
 
 
-def pids_labels(pids):
+def pids_labels(pids: set[int]) -> Label:
     """PIDs in a few words, and shorter for where there is less room."""
     names = ["all packets" if pid == ALL_PACKETS else pid_name(pid) for pid in sorted(pids)]
     if not pids:
@@ -282,10 +305,11 @@ def pids_labels(pids):
     return f"PIDs {', '.join(names)}" if len(pids) <= MOST_NAMED else short, short
 
 
-def bounds_of(capture):
+def bounds_of(capture: Capture) -> list[tuple[int, int]]:
     """The least and the most bytes that may have arrived behind each step."""
     known = [*capture.known, Known(float("inf"), capture.told_packets, capture.answered)]
-    least, found, here = {}, [], 0
+    least: dict[int, int] = {}
+    found, here = [], 0
     for step in capture.steps:
         least[step.packets] = max(least.get(step.packets, 0), step.least)
     for step in capture.steps:
@@ -295,7 +319,7 @@ def bounds_of(capture):
     return found
 
 
-def bounds_at(step, before, after, least, is_whole):
+def bounds_at(step: Step, before: Known, after: Known, least: Mapping[int, int], is_whole: bool) -> tuple[int, int]:
     """The bounds behind a step between two entries that tell how many bytes have arrived; least has the bytes that reads show to
     have come with so many packets."""
     if step.packets <= before.packets:

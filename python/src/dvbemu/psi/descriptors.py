@@ -1,9 +1,14 @@
 """The descriptors of ISO/IEC 13818-1, 2.6, and of ETSI EN 300 468, clause 6: their names, and of those that tell a reader something what
 they say."""
-from typing import NamedTuple
+from __future__ import annotations
+
+from typing import TYPE_CHECKING, NamedTuple
 
 from .fields import pid_text
 from .letters import text_of
+
+if TYPE_CHECKING:
+    from typing import Callable, Container, Iterable
 
 NAMES = {
     0x02: "video_stream", 0x03: "audio_stream", 0x04: "hierarchy", 0x05: "registration", 0x06: "data_stream_alignment",
@@ -44,7 +49,7 @@ class Short(Exception):
     """A table or a descriptor that ends before what it has to have."""
 
 
-def split(data):
+def split(data: bytes) -> list[Descriptor]:
     """The descriptors that these bytes are, which have to be whole."""
     found, place = [], 0
     while place < len(data):
@@ -56,26 +61,26 @@ def split(data):
     return found
 
 
-def number(data, first, after):
+def number(data: bytes, first: int, after: int) -> int:
     """The number that some bytes are, which have to be there."""
     if after > len(data):
         raise Short
     return int.from_bytes(data[first:after], "big")
 
 
-def decimal(data, first, after):
+def decimal(data: bytes, first: int, after: int) -> int | None:
     """The number that some bytes are, four bits a decimal digit; a digit above 9 stands for none."""
     number(data, first, after)
     digits = data[first:after].hex()
     return int(digits) if digits.isdecimal() else None
 
 
-def letters(data):
+def letters(data: bytes) -> str:
     """A code of three letters."""
     return data.decode("latin-1") if len(data) == 3 and data.isalpha() else data.hex()
 
 
-def counted(data, place):
+def counted(data: bytes, place: int) -> tuple[bytes, int]:
     """The bytes behind their count, and the place behind them."""
     after = place + 1 + number(data, place, place + 1)
     if after > len(data):
@@ -86,22 +91,22 @@ def counted(data, place):
 # ------ what they say
 
 
-def ca(data):
+def ca(data: bytes) -> str:
     """CA: the system and the PID of its messages."""
     return f"CA system 0x{number(data, 0, 2):04X} on PID {pid_text(number(data, 2, 4) & 0x1FFF)}"
 
 
-def languages(data):
+def languages(data: bytes) -> str:
     """ISO_639_language: the languages."""
     return "language " + ", ".join(letters(data[place : place + 3]) for place in range(0, len(data) - 3, 4))
 
 
-def of_each(size, word):
+def of_each(size: int, word: str) -> Callable[[bytes], str]:
     """A list of entries of so many bytes, each of which begins with a language."""
     return lambda data: f"{word} " + ", ".join(letters(data[place : place + 3]) for place in range(0, len(data) - size + 1, size))
 
 
-def service(data):
+def service(data: bytes) -> str:
     """service: its name, its provider and its type."""
     provider, place = counted(data, 1)
     name, _ = counted(data, place)
@@ -110,25 +115,25 @@ def service(data):
     return f"'{text_of(name)}'{by}, {kind}"
 
 
-def short_event(data):
+def short_event(data: bytes) -> str:
     """short_event: its name and what is said of it."""
     name, place = counted(data, 3)
     told, _ = counted(data, place)
     return f"'{text_of(name)}'" + (f", '{text_of(told)}'" if told else "")
 
 
-def network_name(data):
+def network_name(data: bytes) -> str:
     """network_name."""
     return f"'{text_of(data)}'"
 
 
-def service_list(data):
+def service_list(data: bytes) -> str:
     """service_list: the services with their types."""
     found = [(number(data, place, place + 2), number(data, place + 2, place + 3)) for place in range(0, len(data), 3)]
     return "services " + ", ".join(f"{one} ({SERVICES.get(kind, f'service_type 0x{kind:02X}')})" for one, kind in found)
 
 
-def satellite(data):
+def satellite(data: bytes) -> str:
     """satellite_delivery_system: frequency, position, polarisation and symbol rate."""
     frequency, position, rate = decimal(data, 0, 4), decimal(data, 4, 6), int(data[7:11].hex()[:7]) if data[7:11].hex()[:7].isdecimal() else 0
     number(data, 0, 11)
@@ -136,7 +141,7 @@ def satellite(data):
     return f"satellite {(position or 0) / 10:g}° {east}, {(frequency or 0) / 100:g} MHz {way}, {rate / 10:g} kBd"
 
 
-def cable(data):
+def cable(data: bytes) -> str:
     """cable_delivery_system: frequency, modulation and symbol rate."""
     number(data, 0, 11)
     names = {1: "16-QAM", 2: "32-QAM", 3: "64-QAM", 4: "128-QAM", 5: "256-QAM"}
@@ -145,14 +150,14 @@ def cable(data):
     return f"cable {(decimal(data, 0, 4) or 0) / 10000:g} MHz, {modulation}, {int(rate) / 10 if rate.isdecimal() else 0:g} kBd"
 
 
-def terrestrial(data):
+def terrestrial(data: bytes) -> str:
     """terrestrial_delivery_system: frequency and bandwidth, of which four values are reserved."""
     number(data, 0, 11)
     bandwidth = data[4] >> 5
     return f"terrestrial {number(data, 0, 4) * 10 / 1e6:g} MHz" + (f", {8 - bandwidth} MHz wide" if bandwidth < 4 else "")
 
 
-def local_times(data):
+def local_times(data: bytes) -> str:
     """local_time_offset: the country and its offset now."""
     found = []
     for place in range(0, len(data) - 12, 13):
@@ -162,7 +167,7 @@ def local_times(data):
     return "local time " + ", ".join(found)
 
 
-def registration(data):
+def registration(data: bytes) -> str:
     """registration: its four letters."""
     return "registration " + (data[:4].decode("latin-1") if data[:4].isalnum() else data[:4].hex())
 
@@ -173,7 +178,7 @@ SAY = {
 }  # fmt: skip
 
 
-def texts_of(descriptors, left_out=()):
+def texts_of(descriptors: Iterable[Descriptor], left_out: Container[int] = ()) -> list[str]:
     """What descriptors say, in words; of those of which nothing is told their names, and of those that a standard doesn't name their tags."""
     found = []
     for tag, data in descriptors:

@@ -3,8 +3,13 @@
 The fields are those of ISO/IEC 13818-1, 2.4.4.11 (a section whose section_syntax_indicator is 1). The names of PIDs and tables are
 those of its tables 2-3 and 2-31 and of ETSI EN 300 468, tables 1 and 2; the names of stream_ids those of its table 2-22.
 """
+from __future__ import annotations
+
 import re
-from typing import NamedTuple
+from typing import TYPE_CHECKING, NamedTuple
+
+if TYPE_CHECKING:
+    from ..reports import FilterBytes
 
 PIDS = {0: "PAT", 1: "CAT", 16: "NIT", 17: "SDT/BAT", 18: "EIT", 20: "TDT/TOT", 8191: "null packets"}
 TABLES = {
@@ -24,39 +29,39 @@ PES_START = re.compile(rb"\x00\x00\x01([\xbc-\xff])")
 HEAD = 8
 
 
-def pid_text(pid):
+def pid_text(pid: int) -> str:
     """A PID, from 10 on in hexadecimal too, with its name where a standard fixes it: `0 (PAT)`, `17 (0x11, SDT/BAT)`, `256 (0x100)`."""
     told = ([f"0x{pid:X}"] if pid > 9 else []) + ([PIDS[pid]] if pid in PIDS else [])
     return f"{pid} ({', '.join(told)})" if told else str(pid)
 
 
-def pid_name(pid):
+def pid_name(pid: int) -> str:
     """A PID with its name where a standard fixes it: `17 (SDT/BAT)`, `256`."""
     return f"{pid} ({PIDS[pid]})" if pid in PIDS else str(pid)
 
 
-def as_hex(pid):
+def as_hex(pid: int) -> int:
     """The PID that the decimal digits of another one are in hexadecimal."""
     return int(str(pid), 16)
 
 
-def is_pes_head(data):
+def is_pes_head(data: bytes) -> bool:
     """Whether what a section filter gives is a PES packet, whose first byte it has taken for a pointer_field: packet_start_code_prefix
     is 00 00 01, and a stream_id stands behind it."""
     return len(data) > 2 and data[:2] == b"\x00\x01" and data[2] >= 0xBC
 
 
-def table_text(table):
+def table_text(table: int) -> str:
     """A table_id with its name: `0x02 (PMT)`."""
     return f"0x{table:02X} ({TABLES[table]})" if table in TABLES else f"0x{table:02X}"
 
 
-def stream_text(number):
+def stream_text(number: int) -> str:
     """A stream_id with its name: `0xE0 (video stream 0)`."""
     return f"0x{number:02X} ({STREAMS[number]})" if number in STREAMS else f"0x{number:02X}"
 
 
-def streams_in(data):
+def streams_in(data: bytes) -> list[int]:
     """The stream_id behind each packet_start_code_prefix in these bytes that a stream_id can follow."""
     return [found[1][0] for found in PES_START.finditer(data)]
 
@@ -68,7 +73,7 @@ class Field(NamedTuple):
     """A field of a section: its name, the bytes of the section that it lies in, its bits of these, and its lowest bit."""
 
     name: str
-    places: tuple
+    places: tuple[int, ...]
     bits: int
     low: int = 0
 
@@ -85,7 +90,7 @@ LONG = (
 LAST_PLACE = 17
 
 
-def fields_for(table):
+def fields_for(table: int | None) -> tuple[Field, ...]:
     """The fields that a filter's bytes stand against, by the only table_id that it lets through, or None."""
     named = () if table in SHORT else LONG
     first = 3 if table in SHORT else HEAD
@@ -101,7 +106,7 @@ class Asked(NamedTuple):
     differs: int
 
 
-def asked_of(field, places):
+def asked_of(field: Field, places: FilterBytes) -> Asked | None:
     """What a filter asks of a field, or None; the filter's bytes are given by the section's."""
     value, mask, mode = 0, 0, 0
     for place in field.places:
@@ -112,7 +117,7 @@ def asked_of(field, places):
     return found if mask else None
 
 
-def value_text(asked, bits):
+def value_text(asked: Asked, bits: int) -> tuple[str, str]:
     """A field, the bits of it that count, and their value."""
     field, value = asked.field, asked.value & bits
     is_byte = field.name.startswith("section byte")
@@ -124,7 +129,7 @@ def value_text(asked, bits):
     return field.name, f"0x{value:02X}" if is_byte else str(value)
 
 
-def filter_texts(places):
+def filter_texts(places: FilterBytes) -> list[str]:
     """What a section filter asks, in words; places has value, mask and mode byte by the filter's place.
 
     Filter place 0 stands against section byte 0, and place i, from 1 on, against section byte i + 2.
@@ -142,7 +147,7 @@ def filter_texts(places):
     return texts + ([" or ".join(differing)] if differing else [])
 
 
-def places_text(place):
+def places_text(place: int) -> str:
     """The byte of a section that a filter byte stands against, with the fields that lie in it: `section byte 0 (table_id)`."""
     at = place + 2 if place else 0
     names = [field.name for field in (TABLE_ID, *LONG) if at in field.places and "byte" not in field.name]
@@ -166,7 +171,7 @@ class Head(NamedTuple):
 NAMES = ("table_id", "table_id_extension", "version_number", "current_next_indicator", "section_number", "last_section_number")
 
 
-def head_of(data):
+def head_of(data: bytes) -> Head:
     """The head of a section, of which these are the first bytes, at least one."""
     if len(data) < 2 or not data[1] & 0x80:
         return Head(data[0])
@@ -175,7 +180,7 @@ def head_of(data):
     return Head(data[0], extension, version, current, *(data[place] if len(data) > place else None for place in (6, 7)))
 
 
-def head_text(head):
+def head_text(head: Head) -> str:
     """A section's head in words; its table_id is no table's by itself."""
     told = [f"0x{head.table:02X}", *head[1:]]
     return ", ".join(f"{name} {value}" for name, value in zip(NAMES, told) if value is not None)

@@ -1,4 +1,6 @@
 """Texts of service information, by the character tables of ETSI EN 300 468, annex A."""
+from __future__ import annotations
+
 import unicodedata
 
 # The upper half of the default table, ISO/IEC 6937 with the sign of the euro (figure A.1); the accents stand before their letter.
@@ -16,7 +18,7 @@ OTHERS = {0x12: "euc_kr", 0x13: "gb2312", 0x15: "utf-8"}
 LINE_FEED, MARKS = 0x8A, range(0x80, 0xA0)
 
 
-def in_default(data):
+def in_default(data: bytes) -> str:
     """The letters of bytes of the default table."""
     found, accent = "", 0
     for byte in data:
@@ -29,21 +31,21 @@ def in_default(data):
     return found
 
 
-def part_of(data):
+def part_of(data: bytes) -> tuple[int, int] | None:
     """The part of ISO/IEC 8859 that a text's first bytes select, and how many these are; None where they select none."""
     if data[0] in PARTS:
         return PARTS[data[0]], 1
     return (data[2], 3) if data[0] == 0x10 and len(data) > 2 and data[1] == 0 and 1 <= data[2] <= 15 and data[2] != 12 else None
 
 
-def without_marks(letters, least):
+def without_marks(letters: str, least: int) -> str:
     """Letters without the marks of emphasis; a line feed is a space. The marks are those from the number least on."""
     kept = (" " if ord(letter) - least == 0x0A else letter for letter in letters if ord(letter) - least not in range(0x20) or
             ord(letter) - least == 0x0A)  # fmt: skip
     return "".join(letter if letter.isprintable() or letter == "\u00ad" else " " if letter.isspace() else "\ufffd" for letter in kept)
 
 
-def text_of(data):
+def text_of(data: bytes) -> str:
     """The text that bytes of service information are; what is no letter in its table is the sign U+FFFD."""
     if not data:
         return ""

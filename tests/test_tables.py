@@ -1,39 +1,16 @@
-#!/usr/bin/env python3
-"""Tries what tools/explain says of the tables in sections: of PAT, CAT, PMT, NIT, BAT, SDT, EIT, TDT and TOT in words that were worked out by
+"""What `dvbemu explain` says of the tables in sections: of PAT, CAT, PMT, NIT, BAT, SDT, EIT, TDT and TOT in words that were worked out by
 hand from ISO/IEC 13818-1, 2.4.4, and EN 300 468, of sections that are none of them, and of texts in each character table.
 
 Where tshark is installed, its dissection of the same sections must have the same numbers, names and times; where iconv knows ISO_6937, its
-letters must be those of the default table. Where one of them is missing that is told, and it is left out. The last line is
-`N passed, M failed`.
+letters must be those of the default table.
 """
 import os
 import re
 import subprocess
-import sys
-import tempfile
-import zlib
 
-HERE = os.path.dirname(os.path.realpath(__file__))
-sys.path[1:1] = [os.path.join(HERE, "..", "lib"), os.path.join(HERE, "..", "..", "python", "src")]
-sys.dont_write_bytecode = True
-
-from dvbemu.psi import descriptors
-from dvbemu.psi import letters
-from dvbemu.psi import tables
-from checks import Tally
-
-
-def with_crc(data):
-    """A section with its CRC_32: that of zlib, in its mirror image, without the last inversion."""
-    mirrored = zlib.crc32(bytes(int(f"{byte:08b}"[::-1], 2) for byte in data)) ^ 0xFFFFFFFF
-    return data + int(f"{mirrored:032b}"[::-1], 2).to_bytes(4, "big")
-
-
-def section(table, extension, version, number, last, body):
-    """A section with section_syntax_indicator 1."""
-    size = len(body) + 9
-    head = bytes([table, 0xB0 | size >> 8, size & 0xFF, extension >> 8, extension & 0xFF, 0xC1 | version << 1, number, last])
-    return with_crc(head + body)
+import pytest
+from dvbemu.psi import descriptors, letters, tables
+from packets import packet, section, with_crc
 
 
 def descriptor(tag, data):
@@ -108,8 +85,6 @@ TEXTS = [
     (b"\x05\xfe", "ş"), (b"\x0b\xa4", "€"), (b"a\x86b\x87c\x8ad", "abc d"), (b"\x01\x86\xbf\x87", "П"), (b"\x15a\xee\x82\x8ab\xee\x82\x86c", "a bc"),
     (b"\x1f\x01ab", "\ufffd" * 4), (b"\x08ab", "\ufffd" * 3), (b"\xa6", "\ufffd"),
 ]  # fmt: skip
-
-
 # Descriptors, and what is said of them: a bandwidth of 5 MHz and a reserved one, one that is too short, and one without a name.
 DESCRIBED = [
     (0x5A, HEX("02d34d60 7f81 00 ffffffff"), "terrestrial 474.023 MHz, 5 MHz wide"),
@@ -119,17 +94,24 @@ DESCRIBED = [
 ]
 
 
-def try_words(tally):
-    """What is said of tables, and that nothing is said of other sections."""
-    for _, data, wanted in SAID:
-        tally.count(tables.text_of(data) == wanted, f"tables: {tables.text_of(data)}, not {wanted}")
-    for data in NONE:
-        tally.count(tables.text_of(data) is None, f"tables: {data.hex()}: {tables.text_of(data)}")
-    for tag, data, wanted in DESCRIBED:
-        found = descriptors.texts_of([descriptors.Descriptor(tag, data)])
-        tally.count(found == [wanted], f"tables: descriptor 0x{tag:02X} {data.hex()}: {found}, not {wanted}")
-    for data, wanted in TEXTS:
-        tally.count(letters.text_of(data) == wanted, f"tables: {data.hex()}: {letters.text_of(data)!r}, not {wanted!r}")
+@pytest.mark.parametrize("pid, data, wanted", SAID, ids=[wanted.split(":")[0] for *_, wanted in SAID])
+def test_said(pid, data, wanted):
+    assert tables.text_of(data) == wanted
+
+
+@pytest.mark.parametrize("data", NONE)
+def test_no_table(data):
+    assert tables.text_of(data) is None
+
+
+@pytest.mark.parametrize("tag, data, wanted", DESCRIBED)
+def test_descriptor(tag, data, wanted):
+    assert descriptors.texts_of([descriptors.Descriptor(tag, data)]) == [wanted]
+
+
+@pytest.mark.parametrize("data, wanted", TEXTS)
+def test_letters(data, wanted):
+    assert letters.text_of(data) == wanted
 
 
 # ------ tshark
@@ -139,20 +121,20 @@ def stream():
     """The sections in packets, each PID's with its counter, three times."""
     packets, counters = [], {}
     for pid, data, _ in SAID * 3:
-        counter = counters[pid] = (counters.get(pid, -1) + 1) % 16
-        packets.append((bytes([0x47, 0x40 | pid >> 8, pid & 0xFF, 0x10 | counter, 0]) + data).ljust(188, b"\xff"))
+        counters[pid] = counters.get(pid, -1) + 1
+        packets.append(packet(pid, counters[pid], b"\0" + data, True))
     return b"".join(packets)
 
 
-def dissected():
-    """What tshark prints of each section, by its first lines; None where there is no tshark."""
-    with tempfile.NamedTemporaryFile(suffix=".ts") as file:
-        file.write(stream())
-        file.flush()
-        try:
-            ran = subprocess.run(["tshark", "-r", file.name, "-V"], capture_output=True, check=False, env={**os.environ, "HOME": "/nonexistent"})
-        except OSError:
-            return None
+@pytest.fixture(scope="module")
+def dissected(tmp_path_factory):
+    """What tshark prints of each section, by its first lines."""
+    path = tmp_path_factory.mktemp("tshark") / "sections.ts"
+    path.write_bytes(stream())
+    try:
+        ran = subprocess.run(["tshark", "-r", path, "-V"], capture_output=True, check=False, env={**os.environ, "HOME": "/nonexistent"})
+    except OSError:
+        pytest.skip("tshark is missing (Debian: apt-get install tshark)")
     blocks = re.split(r"^(?=\S)", ran.stdout.decode("utf-8", "replace"), flags=re.M)
     return [block for block in blocks if re.match("(MPEG2|DVB) .* Table\n", block)]
 
@@ -184,69 +166,59 @@ PRINTED = {
 }  # fmt: skip
 
 
-def agree(tally, table, data, block):
-    """Whether tshark has the same numbers, times and names in its block."""
+def test_tshark_has_all_sections(dissected):
+    assert len(dissected) == 3 * len(SAID)
+
+
+def both(table, block):
+    """What a table has, by name, and what tshark has in its block of as many."""
+    own, found = {}, {}
     for name, pattern in PRINTED.items():
-        own = [table.fields[name]] if name in table.fields else []
-        own += parts_of(table, name) if table.parts and name in table.parts[0].fields else []
-        if own:
-            found = numbers(pattern, block)[: len(own)]
-            tally.count(found == own, f"tables: {table.name}: {name} {own}, tshark has {found}")
-    own = [table.fields["time"]] if "time" in table.fields else parts_of(table, "start") if table.name.startswith("EIT") else []
-    tally.count(times(block) == own, f"tables: {table.name}: {own}, tshark has {times(block)}")
-    durations = re.findall(r"Duration: 0x(\w+)", block)
-    own = parts_of(table, "duration") if durations else []
-    tally.count(durations == own, f"tables: {table.name}: {own}, tshark has {durations}")
+        own[name] = [table.fields[name]] if name in table.fields else []
+        own[name] += parts_of(table, name) if table.parts and name in table.parts[0].fields else []
+        found[name] = numbers(pattern, block)[: len(own[name])]
+    own["times"] = [table.fields["time"]] if "time" in table.fields else parts_of(table, "start") if table.name.startswith("EIT") else []
+    found["times"] = times(block)
+    found["durations"] = re.findall(r"Duration: 0x(\w+)", block)
+    own["durations"] = parts_of(table, "duration") if found["durations"] else []
+    return own, found
+
+
+@pytest.mark.parametrize("place", range(len(SAID)))
+def test_section_by_tshark(dissected, place):
+    data, block = SAID[place][1], dissected[place]
+    own, found = both(tables.read(data), block)
+    assert own == found
     names = re.findall(r"(?:Network|Bouquet|Service|Provider|Event) (?:Name|Text): (.+)", block)
     said = tables.text_of(data)
-    for name in names:
-        tally.count("\ufffd" in name or f"'{name}'" in said, f"tables: {said}: tshark has the name {name}")
-
-
-def try_tshark(tally):
-    """The same sections by tshark."""
-    blocks = dissected()
-    if blocks is None:
-        print("tables: no tshark, its dissection skipped")
-        return
-    tally.count(len(blocks) == 3 * len(SAID), f"tables: tshark has {len(blocks)} sections")
-    for (_, data, _), block in zip(SAID, blocks):
-        agree(tally, tables.read(data), data, block)
+    assert [name for name in names if "\ufffd" not in name and f"'{name}'" not in said] == [], said
 
 
 # ------ iconv
 
-
-def iconv(data):
-    """The letters that iconv gives for bytes of ISO_6937; None where it knows none."""
-    ran = subprocess.run(["iconv", "-f", "ISO_6937", "-t", "UTF-8"], input=data, capture_output=True, check=False)
-    return ran.stdout.decode() if ran.returncode == 0 else None
+# The default table, but for 0xA4, which is EN 300 468's sign of the euro, and 0xE2, whose letter stands for two; and letters with each accent.
+LETTERS = {"alone": [bytes([byte]) for byte in letters.DEFAULT if byte not in (0xA4, 0xE2)]}
+LETTERS["accented"] = [bytes([accent, letter]) for accent in letters.ACCENTS for letter in b"aceinosuzAEGLNOSUZ"]
 
 
-def try_iconv(tally):
-    """The default table by iconv, but for 0xA4, which is EN 300 468's sign of the euro, and 0xE2, whose letter stands for two."""
+@pytest.fixture(scope="module")
+def by_iconv():
+    """What iconv makes of bytes of ISO_6937: nothing, where it knows none."""
+    given = [b"a", *(data for group in LETTERS.values() for data in group)]
     try:
-        if iconv(b"a") != "a":
-            raise OSError
+        ran = subprocess.run(["iconv", "-c", "-f", "ISO_6937", "-t", "UTF-8"], input=b"\n".join(given), capture_output=True, check=False)
     except OSError:
-        print("tables: no iconv that knows ISO_6937, skipped")
-        return
-    texts = [bytes([byte]) for byte in letters.DEFAULT if byte not in (0xA4, 0xE2)]
-    texts += [bytes([accent, letter]) for accent in letters.ACCENTS for letter in b"aceinosuzAEGLNOSUZ"]
-    for data in texts:
-        own, found = letters.text_of(data), iconv(data)
-        if found is not None:
-            tally.count(own in (found, found.replace("\u00a0", " ")), f"tables: {data.hex()}: {own!r}, iconv has {found!r}")
+        pytest.skip("iconv is missing")
+    found = ran.stdout.decode().split("\n")
+    if found[0] != "a":
+        pytest.skip("iconv doesn't know ISO_6937")
+    assert len(found) == len(given)
+    return dict(zip(given, found))
 
 
-def main():
-    """The status."""
-    tally = Tally()
-    try_words(tally)
-    try_tshark(tally)
-    try_iconv(tally)
-    return tally.end()
-
-
-if __name__ == "__main__":
-    sys.exit(main())
+@pytest.mark.parametrize("group", LETTERS)
+def test_letters_by_iconv(by_iconv, group):
+    known = {data: by_iconv[data] for data in LETTERS[group] if by_iconv[data]}
+    assert known
+    # (a space that can't be broken is told as a space)
+    assert {data: letters.text_of(data) for data in known} == {data: found.replace("\u00a0", " ") for data, found in known.items()}

@@ -1,22 +1,14 @@
-#!/usr/bin/env python3
-"""Tries the names that tools/explain gives to what stands in filters, sections and payloads, and its words --node and --client.
+"""The names that `dvbemu explain` gives to what stands in filters, sections and payloads, and its words --node and --client.
 
 What is expected was worked out by hand from ISO/IEC 13818-1, 2.4.4.11 and 2.4.3.7: filter place 0 stands against section byte 0
 and place i against byte i + 2; byte 5 has version_number in the bits 3e and current_next_indicator in the bit 01, the bytes 3 and
-4 are table_id_extension, 6 is section_number and 7 last_section_number. The last line is `N passed, M failed`.
+4 are table_id_extension, 6 is section_number and 7 last_section_number.
 """
-import os
-import subprocess
-import sys
-
-HERE = os.path.dirname(os.path.realpath(__file__))
-sys.path[1:1] = [os.path.join(HERE, "..", "lib"), os.path.join(HERE, "..", "..", "fuzz"), os.path.join(HERE, "..", "..", "python", "src")]
-sys.dont_write_bytecode = True
-
-from dvbemu.psi import fields
+import pytest
+from conftest import EXAMPLES
 from dvbemu import reports
-from dvbemu.oracle import second
-from checks import EXAMPLES, PROGRAM, Tally
+from dvbemu.psi import fields
+from packets import packet
 
 FILTERS = [
     ("0=00/ff/00", "table_id 0x00 (PAT)"),
@@ -63,14 +55,9 @@ STREAMS = [
 ]
 
 
-def packet(pid, counter, payload):
-    """A packet with unit start."""
-    return (bytes([0x47, 0x40 | pid >> 8, pid & 0xFF, 0x10 | counter]) + payload).ljust(188, b"\xff")
-
-
 def section(counter, version, extension=7):
     """A packet of PID 256 with a section of 12 bytes of table_id 0x02, this table_id_extension and this version_number."""
-    return packet(256, counter, bytes.fromhex("0002b00900") + bytes([extension, 0xC1 | version << 1]) + bytes(6))
+    return packet(256, counter, bytes.fromhex("0002b00900") + bytes([extension, 0xC1 | version << 1]) + bytes(6), True)
 
 
 PES = bytes.fromhex("000001e0000080")
@@ -93,7 +80,7 @@ PAGES = [
     ),
     (
         "c0 open n0|c0 pes n0 18 frontend tap 20 4|c0 open n1|feed 2|c0 read n0 2|c0 read n0 999|c1 open n1",
-        packet(18, 0, PES) + packet(18, 1, PES),
+        packet(18, 0, PES, True) + packet(18, 1, PES, True),
         [],
         [
             "PID 18 (0x12, EIT): 2 packets",
@@ -144,47 +131,29 @@ REFUSED = [
 ]
 
 
-def explain(words, report=b""):
-    """The tool that has run."""
-    return subprocess.run([PROGRAM, "explain", *words], input=report, capture_output=True, check=False)
+@pytest.mark.parametrize("words, wanted", FILTERS)
+def test_filter(words, wanted):
+    assert ", ".join(fields.filter_texts(reports.filter_bytes(words.split(" ")))) == wanted
 
 
-def try_names(tally):
-    """The tables above."""
-    for words, wanted in FILTERS:
-        found = ", ".join(fields.filter_texts(reports.filter_bytes(words.split(" "))))
-        tally.count(found == wanted, f"names: {words}: {found}, not {wanted}")
-    for digits, wanted in SECTIONS:
-        found = fields.head_text(fields.head_of(bytes.fromhex(digits)))
-        tally.count(found == wanted, f"names: {digits}: {found}, not {wanted}")
-    for digits, wanted in STREAMS:
-        found = fields.streams_in(bytes.fromhex(digits))
-        tally.count(found == wanted, f"names: {digits}: {found}, not {wanted}")
+@pytest.mark.parametrize("digits, wanted", SECTIONS)
+def test_section_head(digits, wanted):
+    assert fields.head_text(fields.head_of(bytes.fromhex(digits))) == wanted
 
 
-def try_pages(tally):
-    """Whole pages, of which some sentences are looked for."""
-    for script, stream, words, there, absent in PAGES:
-        session = script.replace("|", "\n").encode() + b"\nstream\n" + stream
-        ran = explain(words, second.report(session, 1).encode())
-        page = " ".join(ran.stdout.decode().split())
-        for text in there:
-            tally.count(text in page, f"names: {script}: without '{text}'")
-        for text in absent:
-            tally.count(text not in page, f"names: {script}: with '{text}'")
+@pytest.mark.parametrize("digits, wanted", STREAMS)
+def test_stream_ids(digits, wanted):
+    assert fields.streams_in(bytes.fromhex(digits)) == wanted
 
 
-def main():
-    """The status."""
-    tally = Tally()
-    try_names(tally)
-    try_pages(tally)
-    for words, told, status in REFUSED:
-        ran = explain([*words, os.path.join(EXAMPLES, "programs", "two-clients.report")])
-        right = (ran.returncode, ran.stdout) == (status, b"") and ran.stderr.decode().startswith(told)
-        tally.count(right, f"names: {words}: {ran.stderr.decode()}")
-    return tally.end()
+@pytest.mark.parametrize("script, stream, words, there, absent", PAGES)
+def test_page(tool, report_of, script, stream, words, there, absent):
+    page = " ".join(tool("explain", *words, stdin=report_of(script, stream)).out.split())
+    assert [text for text in there if text not in page] == []
+    assert [text for text in absent if text in page] == []
 
 
-if __name__ == "__main__":
-    sys.exit(main())
+@pytest.mark.parametrize("words, told, status", REFUSED)
+def test_refused(tool, words, told, status):
+    ran = tool("explain", *words, str(EXAMPLES / "programs" / "two-clients.report"))
+    assert (ran.status, ran.out) == (status, "") and ran.err.startswith(told)

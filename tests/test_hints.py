@@ -1,32 +1,19 @@
-#!/usr/bin/env python3
-"""Tries the hints of tools/explain: sessions that must give just the hints named here, and sessions that come near and mustn't.
+"""The hints of `dvbemu explain`: sessions that must give just the hints named here, and sessions that come near and mustn't.
 
-The reports are those of the plain second program, python/src/dvbemu/oracle/second.py. Each rule that a hint quotes must stand in docs/BEHAVIOUR.md.
-The last line is `N passed, M failed`.
+The reports are those of the plain second program. Each rule that a hint quotes must stand in docs/BEHAVIOUR.md.
 """
 import io
-import os
 import random
 import re
-import sys
 
-HERE = os.path.dirname(os.path.realpath(__file__))
-sys.path[1:1] = [os.path.join(HERE, "..", "lib"), os.path.join(HERE, "..", "..", "fuzz"), os.path.join(HERE, "..", "..", "python", "src")]
-sys.dont_write_bytecode = True
-
-from dvbemu.explain import hints
+import pytest
+from conftest import EXAMPLES, ROOT
 from dvbemu import reports
-from dvbemu.oracle import second
-from dvbemu.explain import told
-from checks import EXAMPLES, ROOT, Tally, bytes_of
+from dvbemu.explain import hints, told
 from dvbemu.explain.sentences import lost_text, many, reply_text, wrapped
 from dvbemu.explain.story import Story
-
-
-def packet(pid, counter, payload=b"", start=False):
-    """A packet with a payload, filled with 0xFF."""
-    head = bytes([0x47, (0x40 if start else 0) | pid >> 8, pid & 0xFF, 0x10 | counter])
-    return (head + payload).ljust(188, b"\xff")
+from dvbemu.oracle import second
+from packets import PES, PMT, PMTS, WRONG, packet, session_of
 
 
 def section(counter):
@@ -34,7 +21,7 @@ def section(counter):
     return packet(256, counter, bytes.fromhex("004200050102030405"), True)
 
 
-PLAIN = b"".join(packet(256, counter % 16) for counter in range(50))
+PLAIN = b"".join(packet(256, counter) for counter in range(50))
 # Packets with a payload of one byte, behind an adaptation field.
 SINGLE = b"".join(bytes([0x47, 1, 0, 0x30 | counter, 182, 0]).ljust(188, b"\xff") for counter in range(2))
 SECTIONS = b"".join(map(section, range(4)))
@@ -42,16 +29,8 @@ BREAK = section(0) + section(5)
 DUPLICATE = section(0) + section(0) + section(1)
 BREAKS = b"".join(map(section, (0, 5, 10, 0)))
 TAP, WHOLE, PLAYED = "frontend ts_tap 20", "frontend tsdemux_tap 20", "dvr tsdemux_tap 20"
-# Packets with a section of table_id 0x02, table_id_extension 2 and version 0, with a right CRC_32 (by zlib, of which it is the mirror image)
-# and with a wrong one.
-PMT = bytes.fromhex("0002b00d0002c10000e100f00089177a69")
-# Another one, of program 1 with MPEG-2 video on PID 256 (its CRC_32 by zlib too).
+# A PMT of program 1 with MPEG-2 video on PID 256 (its CRC_32 by zlib too).
 PROGRAM = bytes.fromhex("02b0120001c10000e100f00002e100f0009e8b23d1")
-PMTS = b"".join(packet(256, counter, PMT, True) for counter in range(4))
-WRONG = b"".join(packet(256, counter, PMT[:-1] + b"\0", True) for counter in range(4))
-# Packets that begin PES packets of video, of which a section filter makes sections of 483 bytes: 00 is their pointer_field, 00 their table_id
-# and 1e0 their section_length.
-PES = b"".join(packet(256, counter, bytes.fromhex("000001e0000080"), not counter % 4) for counter in range(8))
 
 # Every other packet has a section.
 MIXED = b"".join(section(counter % 16) + packet(300, counter % 16) for counter in range(24))
@@ -236,7 +215,7 @@ SESSIONS = [
     ("a break behind a timeout", "c0 open n0|c0 section n0 256 5 4|tick 5", BREAK, []),
     ("a break before a timeout", "c0 open n0|c0 section n0 256 5 4|tick 4", BREAK, [("break of sections", 0, 0, [2])]),
     ("a duplicate behind a Stop", "c0 open n0|c0 section n0 256 0 4|feed 1|c0 stop n0", DUPLICATE, []),
-    ("most bytes skipped", "c0 open n0", b"\0" * 189 + SECTIONS[:188], [("skipped", None, None, [None])]),
+    ("most bytes skipped", "c0 open n0", b"\0" * 189 + SECTIONS[:188], [("skipped", None, None, [])]),
     ("half of the bytes skipped", "c0 open n0", b"\0" * 188 + SECTIONS[:188], []),
     (
         "another table_id, over a part of the stream, told by polls",
@@ -268,21 +247,21 @@ SESSIONS = [
 
 # Streams of packets that take up 188 bytes or 204, what they are read as, and the hints.
 STAMPED = b"".join(bytes(4) + packet(256, counter % 16) for counter in range(50))
-RECORDING = second.read_script(bytes_of(os.path.join(EXAMPLES, "programs", "scan.session")))[1]
+RECORDING = second.read_script((EXAMPLES / "programs" / "scan.session").read_bytes())[1]
 SPACED = b"".join(packet(256, counter % 16) + 16 * b"\1" for counter in range(50))
 NOISE = random.Random(1).randbytes(20000)
 READ_AS = [
-    ("192 bytes read as 188", STAMPED, 188, [("other size", None, None, [None])]),
+    ("192 bytes read as 188", STAMPED, 188, [("other size", None, None, [])]),
     ("8 bytes in front of each packet", b"".join(8 * b"\1" + packet(256, counter % 16) for counter in range(50)), 188, []),
-    ("a recording of 188 bytes read as 204", RECORDING, 204, [("other size", None, None, [None])]),
+    ("a recording of 188 bytes read as 204", RECORDING, 204, [("other size", None, None, [])]),
     ("a recording of 188 bytes read as 188", RECORDING, 188, []),
-    ("a PNG", b"\x89PNG\r\n\x1a\n\0\0\0\rIHDR" + NOISE, 188, [("skipped", None, None, [None])]),
-    ("a small PNG", b"\x89PNG\r\n\x1a\n\0\0\0\rIHDR" + NOISE[:90], 188, [("skipped", None, None, [None])]),
-    ("an MP4", b"\0\0\0 ftypisom\0\0\2\0isomiso2avc1mp41" + NOISE[1000:], 188, [("skipped", None, None, [None])]),
+    ("a PNG", b"\x89PNG\r\n\x1a\n\0\0\0\rIHDR" + NOISE, 188, [("skipped", None, None, [])]),
+    ("a small PNG", b"\x89PNG\r\n\x1a\n\0\0\0\rIHDR" + NOISE[:90], 188, [("skipped", None, None, [])]),
+    ("an MP4", b"\0\0\0 ftypisom\0\0\2\0isomiso2avc1mp41" + NOISE[1000:], 188, [("skipped", None, None, [])]),
     ("a recording with noise in front", NOISE[:3500] + RECORDING, 188, []),
-    ("204 bytes read as 188", SPACED, 188, [("other size", None, None, [None])]),
+    ("204 bytes read as 188", SPACED, 188, [("other size", None, None, [])]),
     ("204 bytes read as 204", SPACED, 204, []),
-    ("188 bytes read as 204", PLAIN, 204, [("other size", None, None, [None])]),
+    ("188 bytes read as 204", PLAIN, 204, [("other size", None, None, [])]),
     ("three packets of 204 bytes read as 188", SPACED[: 3 * 204], 188, []),
     ("a few bytes between packets", PLAIN + b"\0" * 600, 188, []),
 ]
@@ -373,8 +352,6 @@ PACED = [
      "in between: set that size, or try `--batch 1`", "none is told"),
     (HELD[5][0].replace("c0 drain", "feed 4|c0 drain"), 4, "one of 753 would have held all that came, at 2 Overflows; `dvbemu hint", "at once"),
 ]  # fmt: skip
-# How many drawn sessions are tried.
-DRAWN = 150
 # A report of `serve` of a recording that has begun again twice: breaks in place of @, of the third PID; and whether these are all the loop's.
 LOOPED = """dvbemu 1
 packets=9 skipped=0 rest=0
@@ -408,41 +385,61 @@ SEARCHES = [
 ]
 
 
-def session_of(script, stream):
-    """A session of these lines and this stream."""
-    return script.replace("|", "\n").encode() + b"\nstream\n" + stream
+def story_of(report):
+    """A report gone through."""
+    return Story(reports.read(io.StringIO(report.decode())))
 
 
-def story_of(script, stream, size=188):
-    """A session's report gone through."""
-    return Story(reports.read(io.StringIO(second.report(session_of(script, stream), 1, size))))
+def hints_of(report):
+    """The hints of a report."""
+    return [(found.kind, found.client, found.node, found.lines) for found in story_of(report).stumbles.values()]
 
 
-def hints_of(script, stream, size=188):
-    """The hints of a session's report."""
-    return [(found.kind, found.client, found.node, found.lines) for found in story_of(script, stream, size).stumbles.values()]
+def said_of(report):
+    """The words of a report's hints."""
+    return " ".join(map(hints.hint_text, story_of(report).stumbles.values()))
 
 
-def try_words(tally):
-    """What hints say, and what is said of what was lost."""
-    for script, stream, there, absent in SAID:
-        said = " ".join(map(hints.hint_text, story_of(script, stream).stumbles.values()))
-        for words in there:
-            tally.count(words in said, f"hints: {script}: without '{words}': {said}")
-        for words in absent:
-            tally.count(words not in said, f"hints: {script}: with '{words}': {said}")
-    for script, stream, words in LOST:
-        line, call, span = story_of(script, stream).clients[0].lost[0]
-        said, reply = lost_text(line, call, span), f"Overflow, {many(span[1] - span[0], 'byte is', 'bytes are')} lost"
-        tally.count(words in said, f"hints: {script}: without '{words}': {said}")
-        tally.count(reply_text(call) == reply, f"hints: {script}: {reply_text(call)}, not {reply}")
+def plain(text):
+    """A text without marks and with single spaces."""
+    return " ".join(text.replace("*", "").replace("|", " ").split())
 
 
-def held(script, stream, batch):
+@pytest.mark.parametrize("kind", hints.RULES)
+def test_rule_stands_in_the_document(kind):
+    text = (ROOT / "docs" / "BEHAVIOUR.md").read_text(encoding="utf-8")
+    heading, quoted = hints.RULES[kind]
+    assert plain(quoted) in plain(text)
+    assert heading in plain("\n".join(line for line in text.split("\n") if line[:1] in ("#", "*")))
+
+
+@pytest.mark.parametrize("name, script, stream, wanted", SESSIONS, ids=[name for name, *_ in SESSIONS])
+def test_hints(report_of, name, script, stream, wanted):
+    assert hints_of(report_of(script, stream)) == wanted
+
+
+@pytest.mark.parametrize("name, stream, size, wanted", READ_AS, ids=[name for name, *_ in READ_AS])
+def test_size_of_packets(report_of, name, stream, size, wanted):
+    assert hints_of(report_of("", stream, 1, size)) == wanted
+
+
+@pytest.mark.parametrize("script, stream, there, absent", SAID)
+def test_said(report_of, script, stream, there, absent):
+    said = said_of(report_of(script, stream))
+    assert [words for words in there if words not in said] == [], said
+    assert [words for words in absent if words in said] == [], said
+
+
+@pytest.mark.parametrize("script, stream, words", LOST)
+def test_lost(report_of, script, stream, words):
+    line, call, span = story_of(report_of(script, stream)).clients[0].lost[0]
+    assert words in lost_text(line, call, span)
+    assert reply_text(call) == f"Overflow, {many(span[1] - span[0], 'byte is', 'bytes are')} lost"
+
+
+def held(report):
     """The size that a hint tells would have held what came; None where it tells none."""
-    report = second.report(session_of(script, stream), batch)
-    said = " ".join(map(hints.hint_text, Story(reports.read(io.StringIO(report))).stumbles.values()))
-    found = re.findall(r"one of (\d+) would have held (?:what|all that) came", said)
+    found = re.findall(r"one of (\d+) would have held (?:what|all that) came", said_of(report))
     return max(map(int, found), default=None)
 
 
@@ -451,86 +448,61 @@ def overflows(script, stream, batch, size):
     return "= overflow" in second.report(session_of(re.sub(r"size n0 \d+", f"size n0 {size}", script), stream), batch)
 
 
-def try_held(tally):
-    """The size that a hint tells would have held what came, and no smaller one."""
-    for script, stream, batch in HELD:
-        size_told = held(script, stream, batch)
-        for size, expected in (size_told, False), (size_told - 1, True):
-            tally.count(overflows(script, stream, batch, size) == expected, f"hints: {script}: a size of {size}")
-    for script, batch, there, absent in PACED:
-        report = second.report(session_of(script, BLOCKS if batch > 1 else PLAIN), batch)
-        said = " ".join(map(hints.hint_text, Story(reports.read(io.StringIO(report))).stumbles.values()))
-        tally.count(there in said and absent not in said, f"hints: {script}: without '{there}' or with '{absent}': {said}")
+@pytest.mark.parametrize("script, stream, batch", HELD)
+def test_least_size_that_holds(report_of, script, stream, batch):
+    size = held(report_of(script, stream, batch))
+    assert not overflows(script, stream, batch, size)
+    assert overflows(script, stream, batch, size - 1)
 
 
-def try_drawn(tally):
-    """In drawn sessions too the size that a hint tells holds what came."""
-    chosen, tried = random.Random(2), 0
-    stream = b"".join(section(counter % 16) if counter % 3 else packet(256, counter % 16, PMT, True) for counter in range(60))
-    for _ in range(DRAWN):
-        kind = chosen.choice(("section n0 256 0", f"pes n0 256 {WHOLE}", "pes n0 256 frontend tap 20"))
-        few = kind.startswith("section")
-        calls = [f"c0 open n0|c0 size n0 {chosen.randrange(2, 60) if few else chosen.randrange(189, 900)}|c0 {kind} 4"]
-        for _ in range(chosen.randrange(2, 12)):
-            count = chosen.randrange(1, 50) if few else chosen.randrange(1, 900)
-            words = chosen.choice(("read", "read", "readw", "drain" if chosen.random() < 0.1 else "read"))
-            calls.append(chosen.choice((f"feed {chosen.randrange(1, 6)}", f"feed {chosen.randrange(1, 6)}", f"c0 {words} n0 {count}", "c0 poll n0")))
-        script, batch = "|".join(calls), chosen.randrange(1, 5)
-        size_told = held(script, stream, batch)
-        if size_told is not None:
+@pytest.mark.parametrize("script, batch, there, absent", PACED)
+def test_pace(report_of, script, batch, there, absent):
+    said = said_of(report_of(script, BLOCKS if batch > 1 else PLAIN, batch))
+    assert there in said and absent not in said
+
+
+def drawn(chosen):
+    """A script and a batch."""
+    kind = chosen.choice(("section n0 256 0", f"pes n0 256 {WHOLE}", "pes n0 256 frontend tap 20"))
+    few = kind.startswith("section")
+    calls = [f"c0 open n0|c0 size n0 {chosen.randrange(2, 60) if few else chosen.randrange(189, 900)}|c0 {kind} 4"]
+    for _ in range(chosen.randrange(2, 12)):
+        count = chosen.randrange(1, 50) if few else chosen.randrange(1, 900)
+        words = chosen.choice(("read", "read", "readw", "drain" if chosen.random() < 0.1 else "read"))
+        calls.append(chosen.choice((f"feed {chosen.randrange(1, 6)}", f"feed {chosen.randrange(1, 6)}", f"c0 {words} n0 {count}", "c0 poll n0")))
+    return "|".join(calls), chosen.randrange(1, 5)
+
+
+def test_size_that_holds_in_drawn_sessions(report_of):
+    chosen, tried, count = random.Random(2), 0, 150
+    stream = b"".join(section(counter) if counter % 3 else packet(256, counter, b"\0" + PMT, True) for counter in range(60))
+    for _ in range(count):
+        script, batch = drawn(chosen)
+        size = held(report_of(script, stream, batch))
+        if size is not None:
             tried += 1
-            tally.count(not overflows(script, stream, batch, size_told), f"hints: {script}, in batches of {batch}: a size of {size_told}")
-    tally.count(tried > DRAWN // 4, f"hints: {tried} drawn sessions have an Overflow")
+            assert not overflows(script, stream, batch, size), f"{script}, in batches of {batch}: a size of {size}"
+    assert tried > count // 4
 
 
-def try_served(tally):
-    """What is said of reports of `serve`: of a recording in a loop, of nobody, and of clients that look for a free node."""
-    for text, is_loop in LOOPS:
-        report = reports.read(io.StringIO(text))
-        rows = [row.text for row in told.stream_lines(report)[3:]]
-        tally.count(("breaks where the loop begins again" in rows[2]) == is_loop, f"hints: {rows} of {text}")
-        kinds = [found.kind for found in Story(report).stumbles.values()]
-        tally.count(kinds == ([] if is_loop else ["break of sections"]), f"hints: {kinds} of {text}")
-    kinds = {key[0]: hints.hint_text(found) for key, found in Story(reports.read(io.StringIO(NOBODY))).stumbles.items()}
-    tally.count(list(kinds) == ["nobody"] and kinds["nobody"].startswith("No program opened a device."), f"hints: nobody: {kinds}")
-    for script, wanted in SEARCHES:
-        clients = story_of(script, b"").clients
-        found = {number: [line for line, _ in client.refused] for number, client in clients.items() if client.refused}
-        tally.count(found == wanted, f"hints: {script}: refused {found}")
+@pytest.mark.parametrize("text, is_loop", LOOPS)
+def test_breaks_of_a_loop(text, is_loop):
+    report = reports.read(io.StringIO(text))
+    rows = [row.text for row in told.stream_lines(report)[3:]]
+    assert ("breaks where the loop begins again" in rows[2]) == is_loop
+    assert [found.kind for found in Story(report).stumbles.values()] == ([] if is_loop else ["break of sections"])
 
 
-def plain(text):
-    """A text without marks and with single spaces."""
-    return " ".join(text.replace("*", "").replace("|", " ").split())
+def test_nobody_opened_a_device():
+    kinds = {key[0]: hints.hint_text(found) for key, found in story_of(NOBODY.encode()).stumbles.items()}
+    assert list(kinds) == ["nobody"] and kinds["nobody"].startswith("No program opened a device.")
 
 
-def look_up_rules(tally):
-    """Each hint's rule, and its heading, stands in docs/BEHAVIOUR.md."""
-    with open(os.path.join(ROOT, "docs", "BEHAVIOUR.md"), encoding="utf-8") as file:
-        text = file.read()
-    whole, heads = plain(text), plain("\n".join(line for line in text.split("\n") if line[:1] in ("#", "*")))
-    for kind, (heading, quoted) in hints.RULES.items():
-        stands = plain(quoted) in whole and heading in heads
-        tally.count(stands, f"hints: the rule of '{kind}' isn't in docs/BEHAVIOUR.md")
+@pytest.mark.parametrize("script, wanted", SEARCHES)
+def test_searches_for_a_node(report_of, script, wanted):
+    clients = story_of(report_of(script)).clients
+    assert {number: [line for line, _ in client.refused] for number, client in clients.items() if client.refused} == wanted
 
 
-def main():
-    """The status."""
-    tally = Tally()
-    look_up_rules(tally)
-    for name, script, stream, wanted in SESSIONS:
-        found = hints_of(script, stream)
-        tally.count(found == wanted, f"hints: {name}: {found}, not {wanted}")
-    for name, stream, size, wanted in READ_AS:
-        found = hints_of("", stream, size)
-        tally.count(found == wanted, f"hints: {name}: {found}, not {wanted}")
-    try_words(tally)
-    try_held(tally)
-    try_drawn(tally)
-    try_served(tally)
-    tally.count(max(map(len, wrapped("a word " * 99, 4))) <= 100, "hints: lines are longer than 100 columns")
-    return tally.end()
-
-
-if __name__ == "__main__":
-    sys.exit(main())
+def test_width_of_lines():
+    assert max(map(len, wrapped("a word " * 99, 4))) <= 100

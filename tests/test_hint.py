@@ -1,28 +1,15 @@
-#!/usr/bin/env python3
-"""Tries tools/hint: what it says of filters that got nothing and of overflows, over sessions of which each number was counted by hand.
+"""`dvbemu hint`: what it says of filters that got nothing and of overflows, over sessions of which each number was counted by hand.
 
-The reports are those of the plain second program, python/src/dvbemu/oracle/second.py. The last line is `N passed, M failed`.
+The reports are those of the plain second program.
 """
-import os
 import random
-import resource
-import subprocess
-import sys
-import tempfile
+import time
 
-HERE = os.path.dirname(os.path.realpath(__file__))
-sys.path[1:1] = [os.path.join(HERE, "..", "lib"), os.path.join(HERE, "..", "..", "fuzz"), os.path.join(HERE, "..", "..", "python", "src")]
-sys.dont_write_bytecode = True
-
+import pytest
+from conftest import EXAMPLES
 from dvbemu.explain import offered
 from dvbemu.oracle import second
-from checks import EXAMPLES, PROGRAM, Tally, bytes_of
-
-
-def packet(pid, counter, payload=b"", start=True):
-    """A packet with a payload, filled with 0xFF."""
-    head = bytes([0x47, (0x40 if start else 0) | pid >> 8, pid & 0xFF, 0x10 | counter % 16])
-    return (head + payload).ljust(188, b"\xff")
+from packets import PES, PMT, PMTS, WRONG, in_packets, packet, session_of
 
 
 def clocked(pid, counter):
@@ -32,21 +19,16 @@ def clocked(pid, counter):
     return (bytes([0x47, pid >> 8, pid & 0xFF, 0x30 | counter % 16, 7, 0x10]) + pcr).ljust(188, b"\0")
 
 
-# A section of table_id 0x02, table_id_extension 2, version 0, with a right CRC_32 (tools/checks/hints) and a wrong one.
-PMT = bytes.fromhex("02b00d0002c10000e100f00089177a69")
-PMTS = b"".join(packet(256, counter, b"\0" + PMT) for counter in range(4))
-WRONG = b"".join(packet(256, counter, b"\0" + PMT[:-1] + b"\0") for counter in range(4))
-PES = b"".join(packet(256, counter, bytes.fromhex("000001e0000080"), not counter % 4) for counter in range(8))
-SHORT = b"".join(packet(256, counter, bytes.fromhex("00420002aabb")) for counter in range(4))
+SHORT = in_packets(256, bytes.fromhex("420002aabb"), 4)
 # A section of 284 bytes in two packets.
 LONG = bytes.fromhex("004271190005").ljust(184, b"\1"), bytes(101)
-HALVES = packet(256, 0, LONG[0]) + packet(256, 1, LONG[1], False)
+HALVES = packet(256, 0, LONG[0], True) + packet(256, 1, LONG[1])
 WHOLE = b"".join(clocked(256, counter) for counter in range(9))
 OPEN = "c0 open n0|"
 NOTHING = "Nothing to tell: packets of its PID passed each filter that ran, each section filter gave something, and no read was answered Overflow."
 # A PAT of program 1, with a right CRC_32 (by zlib, of which it is the mirror image).
 PAT = bytes.fromhex("00b00d0001c100000001e100e8f95e7d")
-PATS = b"".join(packet(0, counter, b"\0" + PAT) for counter in range(4))
+PATS = in_packets(0, PAT, 4)
 # A script, the stream, and what must stand in the page, in words with single spaces.
 SAID = [
     (OPEN + "c0 section n0 256 0 5 0=43/ff/00|feed 9|c0 read n0 99", PMTS, [
@@ -118,49 +100,37 @@ SERVED = (
 MANY, SECONDS = 10000, 10
 
 
-class Files:
-    """A folder with a report and its session."""
+@pytest.fixture
+def hint(tool, tmp_path):
+    """The word over a report and a session."""
 
-    def __init__(self, folder):
-        self.report, self.session = os.path.join(folder, "report"), os.path.join(folder, "session")
+    def over(report, session):
+        (tmp_path / "report").write_bytes(report)
+        (tmp_path / "session").write_bytes(session)
+        return tool("hint", str(tmp_path / "report"), str(tmp_path / "session"))
 
-    def write(self, report, session):
-        """Writes both."""
-        for path, data in ((self.report, report), (self.session, session)):
-            with open(path, "wb") as file:
-                file.write(data)
-
-    def hint(self, **ends):
-        """The tool that has run over both."""
-        return subprocess.run([PROGRAM, "hint", self.report, self.session], capture_output=True, check=False, **ends)
+    return over
 
 
-def try_said(tally, files):
-    """The pages above."""
-    for script, stream, wanted in SAID:
-        session = script.replace("|", "\n").encode() + b"\nstream\n" + stream
-        files.write(second.report(session, 1).encode(), session)
-        ran = files.hint()
-        page = " ".join(ran.stdout.decode().split())
-        for words in wanted:
-            tally.count(words in page, f"hint: {script}: without '{words}': {page}{ran.stderr.decode()}")
+@pytest.mark.parametrize("script, stream, wanted", SAID)
+def test_said(hint, report_of, script, stream, wanted):
+    ran = hint(report_of(script, stream), session_of(script, stream))
+    page = " ".join(ran.out.split())
+    assert [words for words in wanted if words not in page] == [], page + ran.err
 
 
-def try_unsaid(tally, files):
-    """The pages above, and that of a client that isn't the first."""
-    for script, stream, wanted, unwanted in UNSAID:
-        session = script.replace("|", "\n").encode() + b"\nstream\n" + stream
-        files.write(second.report(session, 1).encode(), session)
-        page = " ".join(files.hint().stdout.decode().split())
-        told = page.partition("This would")[2]
-        tally.count(wanted in page and unwanted not in told, f"hint: {script}: without '{wanted}' or with '{unwanted}': {page}")
-    files.write(SERVED.encode(), PMTS)
-    page = files.hint().stdout.decode()
-    tally.count(page.startswith("Client 1, line 2, n0: "), f"hint: the filter isn't that of client 1: {page}")
+@pytest.mark.parametrize("script, stream, wanted, unwanted", UNSAID)
+def test_unsaid(hint, report_of, script, stream, wanted, unwanted):
+    page = " ".join(hint(report_of(script, stream), session_of(script, stream)).out.split())
+    assert wanted in page and unwanted not in page.partition("This would")[2]
 
 
-def try_sections(tally):
-    """Sections that are taken packet by packet are those of the plain second program, each with the packet that completes it."""
+def test_filter_of_a_served_client(hint):
+    assert hint(SERVED.encode(), PMTS).out.startswith("Client 1, line 2, n0: ")
+
+
+def test_sections_come_packet_by_packet():
+    """They are those of the plain second program, each with the packet that completes it."""
     chosen, tried = random.Random(1), 0
     for _ in range(200):
         packets, counter = [], 0
@@ -174,16 +144,13 @@ def try_sections(tally):
         reader, found = offered.Sections(), []
         for number, one in enumerate(packets):
             found += reader.take(one)
-            if found != second.sections(packets[: number + 1], 256):
-                tally.count(False, f"hint: other sections of {number + 1} of {packets}")
-                return
+            assert found == second.sections(packets[: number + 1], 256)
         tried += len(found)
-    tally.count(tried > 1000, f"hint: {tried} sections were tried")
+    assert tried > 1000
 
 
-def try_time(tally, files):
-    """An Overflow over many packets is told within a bound of time."""
-    stream = b"".join(packet(256, counter, b"\0" + PMT) for counter in range(MANY))
+def test_time_of_a_long_overflow(hint):
+    stream = in_packets(256, PMT, MANY)
     head = f"dvbemu 1\npackets={MANY} skipped=0 rest=0\npid 256 packets={MANY} breaks=0 duplicates=0 errors=0\n"
     text = (
         head + "client 0\nline 1 steps 0..1 done\nline 2 steps 1..2 done\nline 3 steps 2..3 done\nline 5 steps 3..4 done\nnode 0\n"
@@ -191,48 +158,34 @@ def try_time(tally, files):
         "3 feed 0 pass input=frontend first=0 count={1} at=0 = passed\n4 c0 3 read 99 at=0 = overflow 0..{2} item=6 need=16 room=2\n"
         "5 feed 1 end = passed\nend\n"
     ).format("done drop=0..0 tap=keep", MANY, 16 * MANY)  # fmt: skip
-    files.write(text.encode(), stream)
-    before = resource.getrusage(resource.RUSAGE_CHILDREN)
-    told = files.hint(timeout=60).stdout.decode()
-    after = resource.getrusage(resource.RUSAGE_CHILDREN)
-    took = after.ru_utime + after.ru_stime - before.ru_utime - before.ru_stime
-    tally.count(f"lost {MANY:,} sections" in told and took < SECONDS, f"hint: {took:.1f} s over {MANY} packets: {told}")
+    before = time.process_time()
+    told = hint(text.encode(), stream).out
+    assert f"lost {MANY:,} sections" in told
+    assert time.process_time() - before < SECONDS
 
 
-def try_files(tally, files):
-    """A recording in place of a session, also one that was played twice, packets of 192 and 204 bytes, and files that are none of a report's."""
-    script = b"c0 open n0\nc0 section n0 256 0 4 0=43/ff/00\nfeed 9\nc0 read n0 99\nstream\n"
-    report = second.report(script + PMTS + PMTS, 1).encode()
-    spaced = b"".join(PMTS[first : first + 188] + bytes(16) for first in range(0, len(PMTS), 188))
-    stamped = b"".join(bytes(4) + PMTS[first : first + 188] for first in range(0, len(PMTS), 188))
-    for given, of in ((PMTS + PMTS, report), (PMTS, report), (spaced, report), (stamped, report), (script + spaced, second.report(script + spaced, 1, 204).encode())):
-        files.write(of, given)
-        tally.count(b"section byte 0 (table_id), and it is 0x02" in files.hint().stdout, "hint: a recording or packets of 204 bytes")
-    other = bytes_of(os.path.join(EXAMPLES, "rules", "overflow.session"))
-    for given, of, told in [
-        (other, report, "no session of this report: it has 4 packets, the report 8"),
-        (script + PMTS + PATS, report, "no session of this report: it has 4 packets of PID 0 (PAT) in 8, the report 0"),
-        (PMTS + PATS, report, "no recording of this report: it has 4 packets of PID 0 (PAT) in 8, the report 0"),
-        (PMTS * 2 + PATS, second.report(script + PMTS + PATS, 1).encode(), "it has 0 packets of PID 0 (PAT) in 8, the report 4"),
-        (b"c0 opne n0\nstream\n", report, "script line 1: command"),
-        (script, b"no report\n", "line 1: expected `dvbemu 1`"),
-    ]:
-        files.write(of, given)
-        ran = files.hint()
-        tally.count(ran.returncode == 1 and told in ran.stderr.decode() and not ran.stdout, f"hint: {told}: {ran.stderr.decode()}")
+# A script, its report over a stream that was played twice, and the packets with 16 bytes behind each, or 4 in front.
+SCRIPT = b"c0 open n0\nc0 section n0 256 0 4 0=43/ff/00\nfeed 9\nc0 read n0 99\nstream\n"
+REPORT = second.report(SCRIPT + PMTS + PMTS, 1).encode()
+SPACED = b"".join(PMTS[first : first + 188] + bytes(16) for first in range(0, len(PMTS), 188))
+STAMPED = b"".join(bytes(4) + PMTS[first : first + 188] for first in range(0, len(PMTS), 188))
 
 
-def main():
-    """The status."""
-    tally = Tally()
-    with tempfile.TemporaryDirectory() as folder:
-        try_said(tally, Files(folder))
-        try_unsaid(tally, Files(folder))
-        try_files(tally, Files(folder))
-        try_time(tally, Files(folder))
-    try_sections(tally)
-    return tally.end()
+@pytest.mark.parametrize("given, report", [
+    (PMTS + PMTS, REPORT), (PMTS, REPORT), (SPACED, REPORT), (STAMPED, REPORT), (SCRIPT + SPACED, second.report(SCRIPT + SPACED, 1, 204).encode()),
+])  # fmt: skip
+def test_recordings(hint, given, report):
+    assert "section byte 0 (table_id), and it is 0x02" in hint(report, given).out
 
 
-if __name__ == "__main__":
-    sys.exit(main())
+@pytest.mark.parametrize("given, report, told", [
+    ((EXAMPLES / "rules" / "overflow.session").read_bytes(), REPORT, "no session of this report: it has 4 packets, the report 8"),
+    (SCRIPT + PMTS + PATS, REPORT, "no session of this report: it has 4 packets of PID 0 (PAT) in 8, the report 0"),
+    (PMTS + PATS, REPORT, "no recording of this report: it has 4 packets of PID 0 (PAT) in 8, the report 0"),
+    (PMTS * 2 + PATS, second.report(SCRIPT + PMTS + PATS, 1).encode(), "it has 0 packets of PID 0 (PAT) in 8, the report 4"),
+    (b"c0 opne n0\nstream\n", REPORT, "script line 1: command"),
+    (SCRIPT, b"no report\n", "line 1: expected `dvbemu 1`"),
+])  # fmt: skip
+def test_refused(hint, given, report, told):
+    ran = hint(report, given)
+    assert (ran.status, ran.out) == (1, "") and told in ran.err
