@@ -5,10 +5,13 @@ The wrapper `dvbemu` starts this where its words aren't just those of the proved
 that `check` with files has the status 1 where the answer is no, and that a file that can't be read to its end is told by its name, with
 the status 1; where a signal has ended it that is told, with 128 and its number. The other words are the tools beside this.
 """
+from __future__ import annotations
+
 import importlib
 import os
 import signal
 import sys
+from typing import TYPE_CHECKING
 
 from . import tool
 from . import inputs
@@ -16,8 +19,13 @@ from . import progress
 from . import spawned
 from . import standard
 
+if TYPE_CHECKING:
+    from argparse import Namespace
+    from types import FrameType
+    from typing import Iterable, Iterator, NoReturn, Sequence
+
 # The program's path, where the wrapper has seen that it is built.
-built = []
+built: list[str] = []
 BATCH, PACKET = "[--batch B]", "[--packet P]"
 # The signals that may end this before the program has.
 ENDS = {signal.SIGHUP, signal.SIGINT, signal.SIGQUIT, signal.SIGTERM, signal.SIGUSR1, signal.SIGUSR2, signal.SIGALRM, signal.SIGVTALRM,
@@ -56,7 +64,7 @@ ALONE = "Without a file standard input is the session"
 ASKED = "Without a file standard input is the line `report N`, a report of N bytes, and its session, and the status is 0 for `no` too"
 
 
-def whole_help():
+def whole_help() -> str:
     """The help of all words."""
     lines = ["usage: dvbemu WORD ..", "", "/dev/dvb/adapter0 without a card: DVB programs, or their calls as lines, on a recording.", ""]
     lines += ["Proved, by the toolchain that --version names (docs/PROVED.md):"]
@@ -67,7 +75,7 @@ def whole_help():
     return "\n".join(lines) + "\n"
 
 
-def command(word):
+def command(word: str) -> tool.Command:
     """A word of the proved program, with the words that may stand behind it."""
     usage, what = PROVED[word]
     told = {"reads": "nothing", "writes": "the session" if word == "make" else "one line", "status": "0; 2 for wrong words; 6, 7",
@@ -88,7 +96,7 @@ def command(word):
     return words
 
 
-def plain(word, given):
+def plain(word: str, given: Namespace) -> list[str]:
     """The words that the program takes."""
     words = [word] if "files" in given else [word, str(given.number)]
     for name in "batch", "packet":
@@ -97,7 +105,7 @@ def plain(word, given):
     return words
 
 
-def program_for(word):
+def program_for(word: str) -> str | None:
     """The program, which is proved or compiled where there is none; the wrapper where it can't be kept. None where that fails. Ends with
     the status 7 where it would have too little stack."""
     if (stack := spawned.stack()) < spawned.LEAST_STACK:
@@ -114,7 +122,7 @@ def program_for(word):
     return spawned.DVBEMU
 
 
-def built_program():
+def built_program() -> str | None:
     """The program, where it is built, proved or in haste; else None."""
     return built[0] if built else spawned.told_by_wrapper("steps", "built") or None
 
@@ -123,7 +131,7 @@ class Run:
     """The program over what is written to it: what it tells on standard error, on standard output where that is wanted, and its status.
     A signal that ends this ends the program first: it never takes what came till then for the whole."""
 
-    def __init__(self, program, words, takes_output=False):
+    def __init__(self, program: str, words: Sequence[str], takes_output: bool = False) -> None:
         reader, self.input = os.pipe()
         self.ends = {end: spawned.memory() for end in ((1, 2) if takes_output else (2,))}
         # (one that comes while the program starts waits; what the caller passes over stays so)
@@ -136,17 +144,17 @@ class Run:
         signal.pthread_sigmask(signal.SIG_SETMASK, mask)
         self.output, self.told = b"", b""
 
-    def kill(self):
+    def kill(self) -> None:
         """Ends the program, where that runs."""
         if self.child:
             os.kill(self.child, signal.SIGKILL)
 
-    def end(self, number, _frame):
+    def end(self, number: int, _frame: FrameType | None) -> NoReturn:
         """Ends the program, and then this."""
         self.kill()
         os._exit(standard.end_by(number))
 
-    def feed(self, pieces):
+    def feed(self, pieces: Iterable[bytes]) -> int:
         """Gives the program all pieces, and waits until it has ended. Where a piece can't be read it is ended."""
         signal.signal(signal.SIGPIPE, signal.SIG_IGN)
         try:
@@ -161,14 +169,14 @@ class Run:
         finally:
             os.close(self.input)
             spawned.wait(self.child)
-            child, self.child = self.child, None
+            child, self.child = self.child, 0
             status = spawned.ended(child)
             signal.signal(signal.SIGPIPE, signal.SIG_DFL)
         self.told, self.output = (spawned.bytes_of(self.ends[end]) if end in self.ends else b"" for end in (2, 1))
         return status
 
 
-def started(words, takes_output=False):
+def started(words: Sequence[str], takes_output: bool = False) -> Run:
     """The program, started with these words."""
     program = program_for(words[0])
     if program is None:
@@ -176,7 +184,7 @@ def started(words, takes_output=False):
     return Run(program, words, takes_output)
 
 
-def ended(status):
+def ended(status: int) -> int:
     """The status of a program; 128 and the number of the signal that has ended it, which is told, but for Ctrl-C and a reader that has
     gone."""
     if status >= 0:
@@ -187,9 +195,9 @@ def ended(status):
     return 128 - status
 
 
-def over_files(words, given, word):
+def over_files(words: tool.Command, given: Namespace, word: str) -> int:
     """`steps` and `run` over files."""
-    kept = []
+    kept: list[bytes] = []
     try:
         files = inputs.opened(given.files)
         if any(file.is_terminal for file in files):
@@ -208,7 +216,7 @@ def over_files(words, given, word):
     return ended(status)
 
 
-def tell_more(status, run, script, files, word):
+def tell_more(status: int, run: Run, script: bytes, files: Sequence[inputs.Input], word: str) -> None:
     """What a script's fault may be about, behind the program's lines; or that what was taken for a stream is likely none."""
     from . import faulty  # pylint: disable=import-outside-toplevel
     names = ["-" if file.is_standard else file.name for file in files]
@@ -216,7 +224,7 @@ def tell_more(status, run, script, files, word):
     sys.stderr.write(told)
 
 
-def kept_head(pieces, kept, work):
+def kept_head(pieces: Iterable[bytes], kept: list[bytes], work: progress.Work) -> Iterator[bytes]:
     """The pieces; the first of them is kept, and behind the last one the report is written."""
     for piece in pieces:
         if not kept:
@@ -225,7 +233,7 @@ def kept_head(pieces, kept, work):
     work.begin("writing the report")
 
 
-def check_files(words, given):
+def check_files(words: tool.Command, given: Namespace) -> int:
     """`check` over files."""
     if len(given.files) == 1:
         words.error("the following arguments are required: SCRIPT")
@@ -263,7 +271,7 @@ def check_files(words, given):
     return 1
 
 
-def done(word, behind):
+def done(word: str, behind: Sequence[str]) -> int:
     """A word of the proved program: with files, with wrong words, or with a word that asks for its help."""
     words = command(word)
     given = words.parse_args(behind)
@@ -272,7 +280,7 @@ def done(word, behind):
     return check_files(words, given) if word == "check" else over_files(words, given, word)
 
 
-def refuse(word):
+def refuse(word: str | None) -> int:
     """Names a word that is none, and the nearest one; the status is 2."""
     known = [*PROVED, *TOOLS, "--help", "--version"]
     if word is None:
@@ -288,13 +296,14 @@ def refuse(word):
     return 2
 
 
-def run_tool(word, behind):
+def run_tool(word: str, behind: Sequence[str]) -> int | None:
     """Runs a tool."""
     sys.argv = [word, *behind]
-    return importlib.import_module(f"dvbemu.commands.{TOOLS[word][0]}").main()
+    status: int | None = importlib.import_module(f"dvbemu.commands.{TOOLS[word][0]}").main()
+    return status
 
 
-def main(program, *words):
+def main(program: str, *words: str) -> int | None:
     """Does what the words ask for. The wrapper names the program in front of them, where it has seen that this is built."""
     built[:] = [program] if program else []
     word = words[0] if words else None
@@ -315,11 +324,11 @@ def main(program, *words):
     return 0
 
 
-def teller_of(words):
+def teller_of(words: Sequence[str]) -> str:
     """Who tells what a command can't go on behind."""
     return " ".join(["dvbemu", *(word for word in words[:1] if word in TOOLS)])
 
 
-def begin(program, *words):
+def begin(program: str, *words: str) -> NoReturn:
     """Does what the words ask for, and ends with its status."""
     standard.run(teller_of(words), main, program, *words)

@@ -1,9 +1,17 @@
 """What a script's fault may be about, for those who have written it: behind the two lines of the program a third one. And what is likely a
 mistake, though it is none by the rules: what stands behind the line `stream` where packets should."""
+from __future__ import annotations
+
 import codecs
 import re
+from typing import TYPE_CHECKING
 
 from . import tool
+
+if TYPE_CHECKING:
+    from typing import Iterable, Sequence
+
+    from .inputs import Input
 
 PACKET = "a packet begins with G, 0x47: is the line `stream` missing in front of it?"
 REPORT = b"dvbemu 1\n"
@@ -11,18 +19,18 @@ WITH_REPORT = "check", "why"
 LINE = re.compile(rb"(c[0-7] [a-z]+ \w+|(feed|tick) \d+)[^\n]*(?=\n)")
 
 
-def usage(word, names):
+def usage(word: str, names: Iterable[str]) -> str:
     """How a word is called with these files behind its script; `check` and `why` have the report in front."""
     return " ".join(["dvbemu", word, *(["REPORT"] if word in WITH_REPORT else []), "SCRIPT", *names])
 
 
-def words_of(names, plain):
+def words_of(names: Sequence[str], plain: str) -> str:
     """The line that names the translator."""
     script = names[0] if names[0] != "-" else "SCRIPT"
     return f"`dvbemu words {script}` takes it, and writes '{plain}'"
 
 
-def of_file(script, names, word):
+def of_file(script: bytes, names: Sequence[str], word: str) -> str:
     """What is told of a file that is no script."""
     if script.startswith(b"G"):
         return f"{names[0]}: a script comes first, and then the streams: {usage(word, names[:1])}"
@@ -33,7 +41,7 @@ def of_file(script, names, word):
     return ""
 
 
-def no_stream(names, word):
+def no_stream(names: Sequence[str], word: str) -> str:
     """What is told of a script without the line `stream`, behind which no stream is named."""
     if len(names) > 1 or names[0] == "-":
         return ""
@@ -41,7 +49,7 @@ def no_stream(names, word):
     return f"for a stream from a file: {script} STREAM; for one from standard input: {script} -"
 
 
-def pause(words):
+def pause(words: list[str]) -> str:
     """What is told of a word that waits in a shell."""
     if words[0] not in ("sleep", "usleep", "wait", "delay"):
         return ""
@@ -49,7 +57,7 @@ def pause(words):
     return f"time passes by `tick {round(float(found[1]) * 1000)}`, in milliseconds" if found else "time passes by `tick N`, in milliseconds"
 
 
-def short_section(words):
+def short_section(words: list[str]) -> str:
     """What is told of a line `section` whose first byte stands where a number should."""
     byte = next((place for place, word in enumerate(words[3:6]) if "=" in word), None)  # that stands for PID, TIMEOUT or FLAGS
     if words[1:2] != ["section"] or byte is None:
@@ -58,13 +66,13 @@ def short_section(words):
     return f"the line is cK section T PID TIMEOUT FLAGS BYTE..; it seems that {missing} missing"
 
 
-def nearest(kind, words, commands):
+def nearest(kind: str, words: list[str], commands: Iterable[str]) -> str:
     """The word that is like the wrong one, where one is."""
     known, word = {"client": (["feed", "tick", "stream"], words[0]), "command": (commands, "".join(words[1:2]))}.get(kind, ((), ""))
     return tool.nearest(word, known).removeprefix("; ")
 
 
-def of_line(kind, line, number, names):
+def of_line(kind: str, line: bytes, number: int, names: Sequence[str]) -> str:
     """What is told of a line."""
     from . import naming  # pylint: disable=import-outside-toplevel
     if line.startswith(b"G") and len(line) > 1:
@@ -80,24 +88,24 @@ def of_line(kind, line, number, names):
     return short_section(words) or pause(words) or nearest(kind, words, naming.COMMANDS)
 
 
-def hint(told, script, names, word):
+def hint(told: str, script: bytes, names: Sequence[str], word: str) -> str:
     """What is told behind a fault of a script in one of these files, of which this is the beginning, to this word; nothing where no more is
     known."""
     found = re.match(r"dvbemu: script line (\d+): (\w+)\n", told)
     more, number, lines = of_file(script, names, word), int(found[1]) if found else 0, script.split(b"\n")
     if found and not more and found[2] == "nostream":
         more = no_stream(names, word)
-    elif not more and 0 < number <= len(lines):
+    elif found and not more and 0 < number <= len(lines):
         more = of_line(found[2], lines[number - 1], number, names)
     return f"  {more}\n" if more else ""
 
 
-def is_plain(line):
+def is_plain(line: str) -> bool:
     """Whether a line looks like one that the program reads: whole ones of a client or of the order."""
     return re.fullmatch(r"stream|(feed|tick) \d+|c[0-7] [a-z]+ (n\d+|h\d+|dvr)( [\x21-\x7e]+)*", line) is not None
 
 
-def is_text(beginning):
+def is_text(beginning: bytes) -> bool:
     """Whether a file that begins so is a text, of lines."""
     try:
         text = codecs.utf_8_decode(beginning, "strict", False)[0]
@@ -106,7 +114,7 @@ def is_text(beginning):
     return "\n" in text and not re.search("[^\t\n\f\r\x20-\x7e\xa0-\U0010ffff]", text)
 
 
-def warnings(head, files):
+def warnings(head: bytes, files: Sequence[Input]) -> str:
     """The lines on what is likely a mistake: a line of a script behind the line `stream`, and a text that is taken for a stream. The files
     are those of `inputs.opened`, of which the first has this beginning."""
     place, told = 0 if head.startswith(b"stream\n") else head.find(b"\nstream\n") + 1, []

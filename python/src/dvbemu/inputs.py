@@ -4,6 +4,10 @@ from __future__ import annotations
 import os
 import stat
 import sys
+from typing import TYPE_CHECKING
+
+if TYPE_CHECKING:
+    from typing import Iterator, Sequence
 
 PIECE, SCRIPT, BEGINNING = 1 << 20, 1 << 20, 4096
 LINE = b"stream\n"
@@ -17,14 +21,14 @@ def many(count: int, one: str, more: str | None = None) -> str:
 class Broken(Exception):
     """A file that can't be read to its end: its name, and why."""
 
-    def __init__(self, name, why):
+    def __init__(self, name: str, why: str) -> None:
         super().__init__(f"{name}: {why}")
 
 
 class Input:
     """A file that is open, or standard input for `-`."""
 
-    def __init__(self, name):
+    def __init__(self, name: str) -> None:
         self.name = "standard input" if name == "-" else name
         try:
             self.file = sys.stdin.fileno() if name == "-" else os.open(name, os.O_RDONLY)
@@ -39,7 +43,7 @@ class Input:
         self.size = status.st_size - os.lseek(self.file, 0, os.SEEK_CUR) if stat.S_ISREG(status.st_mode) and status.st_size else None
         self.taken, self.beginning = 0, b""
 
-    def read(self, most=PIECE):
+    def read(self, most: int = PIECE) -> bytes:
         """The next bytes, as they come; none at the end. A file that has become shorter is broken."""
         try:
             piece = os.read(self.file, most)
@@ -51,29 +55,29 @@ class Input:
             raise Broken(self.name, f"it ended behind {self.taken:,} of its {many(self.size, 'byte')}")
         return piece
 
-    def pieces(self):
+    def pieces(self) -> Iterator[bytes]:
         """All that is left, as it comes."""
         while piece := self.read():
             yield piece
 
-    def whole(self):
+    def whole(self) -> bytes:
         """All that is left."""
         return b"".join(self.pieces())
 
 
-def opened(names):
+def opened(names: list[str]) -> list[Input]:
     """These files, each of them open; none is named twice as standard input."""
     if names.count("-") > 1:
         raise Broken("-", "standard input can be named once")
     return [Input(name) for name in names]
 
 
-def ends_script(text):
+def ends_script(text: bytes) -> bool:
     """Whether a line of a text is `stream`."""
     return text.startswith(LINE) or b"\n" + LINE in text
 
 
-def head_of(script):
+def head_of(script: Input) -> bytes:
     """The beginning of a script or session, with the line `stream`, if one comes in time."""
     head = b""
     while len(head) < SCRIPT and not ends_script(head) and (piece := script.read()):
@@ -81,7 +85,7 @@ def head_of(script):
     return head
 
 
-def with_line(head):
+def with_line(head: bytes) -> bytes:
     """The beginning of a script, with the line `stream` behind it where it has none. Without its line feed that gets one."""
     if ends_script(head) or len(head) >= SCRIPT:
         return head
@@ -90,7 +94,7 @@ def with_line(head):
     return head + b"\n" * (head[-1:] not in (b"", b"\n")) + LINE
 
 
-def session_pieces(files):
+def session_pieces(files: Sequence[Input]) -> Iterator[bytes]:
     """The pieces of the session of a script and of the streams behind it. A script without the line `stream` gets it where a stream
     follows."""
     script, *streams = files

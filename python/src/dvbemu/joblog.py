@@ -1,4 +1,6 @@
 """Reads what GNU parallel has written of its jobs (--joblog): a line a job with its number, host, status, signal and command."""
+from __future__ import annotations
+
 from typing import NamedTuple
 
 HEAD = "Seq\tHost\tStarttime\tJobRuntime\tSend\tReceive\tExitval\tSignal\tCommand"
@@ -17,13 +19,13 @@ class Job(NamedTuple):
     signal: int
     command: str
 
-    def fault(self):
+    def fault(self) -> str:
         """How it failed; nothing where it didn't."""
         how = f"ended by the signal {self.signal}" if self.signal else f"ended with the status {self.status}" if self.status else ""
         return f"{how}, on {self.host}" if how else ""
 
 
-def job_in(line, number):
+def job_in(line: str, number: int) -> Job:
     """The job that a line tells."""
     parts = line.split("\t", 8)
     if len(parts) != 9 or not all(part.lstrip("-").isdecimal() for part in (parts[0], parts[6], parts[7])):
@@ -31,7 +33,7 @@ def job_in(line, number):
     return Job(int(parts[0]), parts[1], int(parts[6]), int(parts[7]), parts[8])
 
 
-def read(text):
+def read(text: str) -> list[Job]:
     """The jobs of a log by their numbers. Of a job that was done again (--resume-failed, --retry-failed) the last line counts. A last line
     without its end is that of a job whose line is still written, and no job."""
     lines = text.split("\n")[:-1]

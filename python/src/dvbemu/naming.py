@@ -4,8 +4,13 @@ Taken are numbers as 0x1000, flags and what a header calls them, as CHECK_CRC+IM
 devices as demux0; and tabs, several blanks, a comment at a line's end, capital letters in words that have none, `\\r\\n` and a byte order
 mark. A word whose place is known and that is neither is a fault; all else is left to the program, which tells what is wrong with it.
 """
+from __future__ import annotations
+
 import re
-from typing import NamedTuple
+from typing import TYPE_CHECKING, NamedTuple
+
+if TYPE_CHECKING:
+    from typing import Callable, Mapping, Sequence
 
 MARK = "\ufeff"
 FLAGS = {"CHECK_CRC": 1, "ONESHOT": 2, "IMMEDIATE_START": 4, "KEEP": 256}
@@ -15,7 +20,7 @@ OUTPUTS = {name: name.removeprefix("out_") for name in ("decoder", "tap", "ts_ta
 TYPES = {f"{name}{unit}": 5 * unit + place for unit in range(4) for place, name in enumerate(("AUDIO", "VIDEO", "TELETEXT", "SUBTITLE", "PCR"))}
 TYPES |= {name[:-1]: number for name, number in TYPES.items() if name.endswith("0")} | {"OTHER": 20}
 # The fields of a section: at which bytes of the filter they stand, and their bits there, the first byte first.
-FIELDS = {"table_id": ((0, 0xFF),), "version_number": ((3, 0x3E),), "current_next_indicator": ((3, 0x01),), "section_number": ((4, 0xFF),),
+FIELDS: dict[str, tuple[tuple[int, int], ...]] = {"table_id": ((0, 0xFF),), "version_number": ((3, 0x3E),), "current_next_indicator": ((3, 0x01),), "section_number": ((4, 0xFF),),
           "last_section_number": ((5, 0xFF),)}  # fmt: skip
 FIELDS |= dict.fromkeys(("table_id_extension", "transport_stream_id", "program_number", "service_id", "network_id", "bouquet_id"),
                         ((1, 0xFF), (2, 0xFF)))  # fmt: skip
@@ -31,11 +36,11 @@ HEXADECIMAL = "0123456789abcdef"
 class Fault(Exception):
     """A word that can't be read: its line, its place in the line, the word, the kind of the fault, and what was expected."""
 
-    def __init__(self, kind, word, expected):
+    def __init__(self, kind: str, word: str, expected: str) -> None:
         super().__init__(kind)
         self.kind, self.word, self.expected, self.place, self.line = kind, word, expected, 0, 0
 
-    def text(self):
+    def text(self) -> str:
         """What is told, as the program does it."""
         return f"script line {self.line}: {self.kind}\n  word {self.place} is '{self.word}'; expected {self.expected}"
 
@@ -47,19 +52,19 @@ class Byte(NamedTuple):
     mask: int = 0
     mode: int = 0
 
-    def join(self, other):
+    def join(self, other: Byte) -> Byte:
         """Both together."""
         return Byte(*(one | two for one, two in zip(self, other)))
 
 
-def number_in(word):
+def number_in(word: str) -> int | None:
     """A number in decimal digits or, behind 0x, in hexadecimal ones; None where it is none."""
     if re.fullmatch(r"0[xX][0-9a-fA-F]+", word):
         return int(word, 16)
     return int(word) if re.fullmatch(r"[0-9]+", word) else None
 
 
-def plain_number(kind, word):
+def plain_number(kind: str, word: str) -> str:
     """A number as the program reads it."""
     number, most = number_in(word), LIMITS.get(kind, MOST)
     if number is None or number > most:
@@ -67,12 +72,12 @@ def plain_number(kind, word):
     return str(number)
 
 
-def bare(word):
+def bare(word: str) -> str:
     """A name as a header has it, without DMX_ in front."""
     return re.sub(r"^DMX_(PES_)?", "", word.upper())
 
 
-def plain_flags(word):
+def plain_flags(word: str) -> str:
     """Flags by their names, or as numbers, with + or | between them."""
     parts = re.split(r"[+|]", word)
     values = [FLAGS.get(bare(part), number_in(part)) for part in parts]
@@ -84,14 +89,14 @@ def plain_flags(word):
     return str(total)
 
 
-def plain_type(word):
+def plain_type(word: str) -> str:
     """The type of a PES filter."""
     if bare(word) in TYPES:
         return str(TYPES[bare(word)])
     return plain_number("TYPE", word)
 
 
-def plain_name(names, kind, word):
+def plain_name(names: Mapping[str, str], kind: str, word: str) -> str:
     """An input or an output."""
     found = names.get(word.lower().removeprefix("dmx_"))
     if found is None:
@@ -99,7 +104,7 @@ def plain_name(names, kind, word):
     return found
 
 
-def field_bytes(name, sign, value, mask):
+def field_bytes(name: str, sign: str, value: str, mask: str | None) -> dict[int, Byte]:
     """The bytes of a filter for a field: that it has this value, under this mask if there is one, or, for !=, another."""
     rows = FIELDS[name]
     width = sum(bits.bit_count() for _, bits in rows)
@@ -115,7 +120,7 @@ def field_bytes(name, sign, value, mask):
     return found
 
 
-def filter_word(word):
+def filter_word(word: str) -> dict[int, Byte]:
     """What a word of a section filter asks for, by byte: a field by its name, or a byte by its place."""
     if (field := re.fullmatch(r"(\w+?)(!?=)(\w+)(?:/(\w+))?", word)) and field[1].lower() in FIELDS:
         return field_bytes(field[1].lower(), *field.groups()[1:])
@@ -126,9 +131,10 @@ def filter_word(word):
     return {int(byte[1]): Byte(*(int(part, 16) for part in byte.groups()[1:]))}
 
 
-def plain_filter(words):
+def plain_filter(words: Sequence[str]) -> list[str]:
     """The bytes of a filter, by their places."""
-    whole, differs = {}, None
+    whole: dict[int, Byte] = {}
+    differs = None
     for word in words:
         found = filter_word(word)
         if any(byte.mode & byte.mask for byte in found.values()):
@@ -142,7 +148,7 @@ def plain_filter(words):
     return [f"{place}={byte.bits:02x}/{byte.mask:02x}/{byte.mode:02x}" for place, byte in sorted(whole.items())]
 
 
-def plain_target(word):
+def plain_target(word: str) -> str:
     """A node, a slot or the dvr device."""
     name = word.lower().rpartition("/")[2] if word.startswith("/dev/dvb/") else word.lower()
     if found := re.fullmatch(r"demux([0-9]+)", name):
@@ -152,21 +158,21 @@ def plain_target(word):
     return "dvr" if name == "dvr0" else name
 
 
-def plain_hex(word):
+def plain_hex(word: str) -> str:
     """Bytes: digits of any case, with or without 0x."""
     return word[2:].lower() if word[:2] in ("0x", "0X") else word.lower()
 
 
-READERS = {"FLAGS": plain_flags, "TYPE": plain_type, "HEX": plain_hex, "REQ": lambda word: plain_hex(word).rjust(8, "0")}
+READERS: dict[str, Callable[[str], str]] = {"FLAGS": plain_flags, "TYPE": plain_type, "HEX": plain_hex, "REQ": lambda word: plain_hex(word).rjust(8, "0")}
 READERS |= {"INPUT": lambda word: plain_name(INPUTS, "INPUT", word), "OUTPUT": lambda word: plain_name(OUTPUTS, "OUTPUT", word)}
 
 
-def plain_word(kind, word):
+def plain_word(kind: str, word: str) -> str:
     """A word whose place asks for this."""
     return READERS[kind](word) if kind in READERS else plain_number(kind, word)
 
 
-def plain_words(words):
+def plain_words(words: list[str]) -> list[str]:
     """The words of a line as the program reads them; a fault has the place of its word."""
     place, told = 0, list(words)
     try:
@@ -191,7 +197,7 @@ def plain_words(words):
         raise
 
 
-def filter_words(words):
+def filter_words(words: Sequence[str]) -> list[str]:
     """The words of a line's filter."""
     try:
         return plain_filter(words[6:])
@@ -200,7 +206,7 @@ def filter_words(words):
         raise
 
 
-def plain_line(text):
+def plain_line(text: str) -> str:
     """A line of a script as the program reads it. An empty line and a comment stay; so does what stands behind #."""
     if not text.strip() or text.startswith("#"):
         return text.rstrip("\r")
@@ -212,7 +218,7 @@ def plain_line(text):
     return " ".join(plain_words(words))
 
 
-def plain_script(script):
+def plain_script(script: bytes) -> bytes:
     """The script of these bytes, and whether its line `stream` was among them: all that stands behind that is none of the script."""
     text = script.decode("utf-8", "surrogateescape").removeprefix(MARK)
     lines = []

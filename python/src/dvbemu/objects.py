@@ -1,8 +1,16 @@
 """A report as objects of JSON, one for each of its lines behind the first, and back: docs/JSON.md has their form."""
+from __future__ import annotations
+
 import json
 from functools import lru_cache
+from typing import TYPE_CHECKING
 
 from . import reports
+
+if TYPE_CHECKING:
+    from typing import Any, Callable, Iterable, Iterator, Mapping
+
+    from .reports import Outcome, Report
 
 TAPS = ("keep", "detach")
 
@@ -10,14 +18,14 @@ TAPS = ("keep", "detach")
 class NoObjects(Exception):
     """A text that is no report as JSON Lines: the number of the line and what is wrong there."""
 
-    def __init__(self, line, what):
+    def __init__(self, line: int, what: str) -> None:
         super().__init__(f"line {line}: {what}")
 
 
 # ------ from a report
 
 
-def plain(name, value):
+def plain(name: str, value: Any) -> object:
     """What stands at a place of an act or a reply, as JSON has it."""
     if name == "bytes":
         return [{"place": place, "filter": three[0], "mask": three[1], "mode": three[2]} for place, three in value.items()]
@@ -27,12 +35,12 @@ def plain(name, value):
 
 
 @lru_cache(65536)
-def act_text(act):
+def act_text(act: str) -> str:
     """An act, as the text of an object."""
     return json.dumps({name: plain(name, value) for name, value in reports.read_act(act).items()})
 
 
-def reply_text(reply):
+def reply_text(reply: str) -> str:
     """A reply, as the text of an object."""
     if reply.startswith("data "):
         return f'{{"name": "data", "data": "{"" if reply == "data -" else reply[5:]}"}}'
@@ -40,12 +48,12 @@ def reply_text(reply):
 
 
 @lru_cache(65536)
-def other_text(reply):
+def other_text(reply: str) -> str:
     """Every other reply, as the text of an object."""
     return json.dumps({name: plain(name, value) for name, value in reports.read_reply(reply).items()})
 
 
-def command_text(client, outcome):
+def command_text(client: int, outcome: Outcome) -> str:
     """A command, as the text of an object."""
     found = {"kind": "command", "client": f"c{client}", "line": outcome.line, "steps": [outcome.first, outcome.after]}
     name, *words = outcome.kind.split(" ")
@@ -53,7 +61,7 @@ def command_text(client, outcome):
     return json.dumps({**found, "outcome": name, **{place: int(number) for place, number in numbers}})
 
 
-def texts_of(report):
+def texts_of(report: Report) -> Iterator[str]:
     """The lines of JSON that a report is."""
     yield json.dumps({"kind": "stream", "format": reports.FORMAT, "packets": report.packets, "skipped": report.skipped, "rest": report.rest})
     for row in report.pids:
@@ -77,7 +85,7 @@ def texts_of(report):
 UNDER = {"command": "client", "entry": "node"}
 
 
-def word_of(name, value):
+def word_of(name: str, value: Any) -> str:
     """What JSON has at a place, as a report writes it."""
     if name == "node":
         return node_text(value)
@@ -86,12 +94,12 @@ def word_of(name, value):
     return f"{value[0]}..{value[1]}" if name in ("drop", "span") else str(value)
 
 
-def node_text(name):
+def node_text(name: str) -> str:
     """A node as a report names it."""
     return name if name == "dvr" else name.removeprefix("n")
 
 
-def words_of(found, forms):
+def words_of(found: Mapping[str, Any], forms: Mapping[str, Iterable[str]]) -> str:
     """An act or a reply as a report writes it."""
     name = found["name"]
     words = [name]
@@ -103,17 +111,18 @@ def words_of(found, forms):
     return " ".join(words)
 
 
-def reply_words(reply):
+def reply_words(reply: Mapping[str, Any]) -> str:
     """A reply as a report writes it."""
     return f"data {reply['data'] or '-'}" if reply["name"] == "data" else words_of(reply, reports.REPLIES)
 
 
-def outcome_words(found):
+def outcome_words(found: Mapping[str, Any]) -> str:
     """What became of a command, as a report writes it."""
-    return f"stc base={found['base']} value={found['value']}" if found["outcome"] == "stc" else found["outcome"]
+    outcome: str = found["outcome"]
+    return f"stc base={found['base']} value={found['value']}" if outcome == "stc" else outcome
 
 
-WRITE = {
+WRITE: dict[str, Callable[[Mapping[str, Any]], str]] = {
     "stream": lambda found: f"{found['format']}\npackets={found['packets']} skipped={found['skipped']} rest={found['rest']}",
     "pid": lambda found: f"pid {found['pid']} packets={found['packets']} breaks={found['breaks']} duplicates={found['duplicates']} "
     f"errors={found['errors']}",
@@ -126,7 +135,7 @@ WRITE = {
 }
 
 
-def back(lines):
+def back(lines: Iterable[str]) -> Iterator[str]:
     """The lines of the report that lines of JSON are, without their line feeds."""
     under = {}
     for line, text in enumerate(lines, 1):

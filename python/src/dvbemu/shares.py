@@ -1,9 +1,18 @@
 """Work that as many processes as there are processors share."""
+from __future__ import annotations
+
 import os
 import struct
 import sys
+from typing import TYPE_CHECKING
 
 from . import standard
+
+if TYPE_CHECKING:
+    from io import FileIO
+    from typing import Callable, Iterator, Sequence, TypeVar
+
+    T = TypeVar("T")
 
 # What a process is given: the number of a piece of work. And what it tells of it: that number, and how many bytes of text come behind. Both
 # fit into what a pipe takes whole.
@@ -12,7 +21,7 @@ NUMBER, HEAD, MOST = struct.Struct("=I"), struct.Struct("=II"), 4096
 AHEAD = 2
 
 
-def share(items, function, given, told):
+def share(items: Sequence[T], function: Callable[[T], str], given: int, told: int) -> None:
     """Does pieces of the work, until none is given."""
     while piece := os.read(given, NUMBER.size):
         (number,) = NUMBER.unpack(piece)
@@ -20,7 +29,7 @@ def share(items, function, given, told):
         os.write(told, HEAD.pack(number, len(text)) + text)
 
 
-def started(work, ends, others):
+def started(work: tuple[Sequence[T], Callable[[T], str]], ends: tuple[int, int], others: tuple[int, int]) -> int:
     """The number of a process that does its share, with the ends of pipes that are its own."""
     pid = os.fork()
     if pid:
@@ -37,7 +46,7 @@ def started(work, ends, others):
         os._exit(status)
 
 
-def give_next(left, giver):
+def give_next(left: Iterator[int], giver: FileIO) -> None:
     """Gives the next piece of work to whoever is free; behind the last one the pipe is closed, so that all end."""
     number = next(left, None)
     if number is None:
@@ -46,13 +55,14 @@ def give_next(left, giver):
         giver.write(NUMBER.pack(number))
 
 
-def done(items, function):
+def done(items: Sequence[T], function: Callable[[T], str]) -> Iterator[str | None]:
     """The texts that the function gives for these, in their order; of a long one some 4,000 bytes. In the place of one there is None where
     its process has ended before it had told of it."""
     (given, give), (tells, told) = os.pipe(), os.pipe()
     pids = [started((items, function), (given, told), (give, tells)) for _ in range(min(len(os.sched_getaffinity(0)), len(items)))]
     os.close(told)
-    left, texts, next_one = iter(range(len(items))), {}, 0
+    texts: dict[int, str] = {}
+    left, next_one = iter(range(len(items))), 0
     with open(given, "rb"), open(give, "wb", buffering=0) as giver, open(tells, "rb") as pipe:
         for _ in range(AHEAD * len(pids)):
             give_next(left, giver)

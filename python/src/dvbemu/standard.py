@@ -2,14 +2,23 @@
 line that names that, and a status of its own, never by a look at its code. docs/BEHAVIOUR.md has the statuses of the program, which are
 these too.
 """
+from __future__ import annotations
+
 import io
 import os
 import select
 import signal
 import stat
 import sys
+from typing import TYPE_CHECKING
 
 from . import progress
+
+if TYPE_CHECKING:
+    from typing import Callable, NoReturn
+
+    from _typeshed import ReadableBuffer
+
 
 READ_WRONG, WRITE_FAULT, NO_MEMORY, INTERNAL = 1, 6, 7, 70
 # Where the wrapper keeps a folder that is standard input, with which Python doesn't begin, and the setting that says so.
@@ -19,7 +28,7 @@ FOLDER, FOLDER_SET = 9, "DVBEMU_FOLDER"
 class NoOutput(SystemExit):
     """Standard output takes no more, and why. No handler of errors takes it for one of a file."""
 
-    def __init__(self, why):
+    def __init__(self, why: str | None) -> None:
         super().__init__(WRITE_FAULT)
         self.why = why
 
@@ -27,23 +36,24 @@ class NoOutput(SystemExit):
 class Output(io.FileIO):
     """Standard output. Where a write fails it ends the command; what is written behind that is dropped."""
 
-    def __init__(self, end):
+    def __init__(self, end: int) -> None:
         super().__init__(end, "w", closefd=False)
         self.has_failed = False
 
-    def write(self, data):
+    def write(self, data: ReadableBuffer) -> int:
         """Writes some of it. An end that doesn't wait is waited for."""
+        size = memoryview(data).nbytes
         if self.has_failed:
-            return len(data)
+            return size
         try:
             while (count := super().write(data)) is None:
                 select.select([], [self], [])
             return count
         except OSError as fault:
             self.has_failed = True
-            return self.fail(fault, len(data))
+            return self.fail(fault, size)
 
-    def fail(self, fault, _):
+    def fail(self, fault: OSError, _: int) -> int:
         """A write has failed."""
         raise NoOutput(fault.strerror)
 
@@ -51,16 +61,16 @@ class Output(io.FileIO):
 class Errors(Output):
     """Standard error. What it doesn't take can be told nowhere."""
 
-    def fail(self, fault, count):
+    def fail(self, fault: OSError, count: int) -> int:
         return count
 
 
-def text_of(raw, old, errors):
+def text_of(raw: Output, old: object, errors: str) -> io.TextIOWrapper:
     """Text over one of these."""
     return io.TextIOWrapper(io.BufferedWriter(raw), getattr(old, "encoding", "utf-8"), errors, line_buffering=raw.isatty() or isinstance(raw, Errors))
 
 
-def hold():
+def hold() -> None:
     """Keeps the place of each end that is closed, so that no other file comes there: what is read or written there fails as it would.
     Programs that are started find it closed."""
     if FOLDER_SET in os.environ:
@@ -76,7 +86,7 @@ def hold():
     sys.stderr = text_of(Errors(2), sys.stderr, "backslashreplace")
 
 
-def hide_folder():
+def hide_folder() -> None:
     """Keeps a folder that is standard input for another Python, as which this process goes on."""
     if stat.S_ISDIR(os.fstat(0).st_mode):
         os.dup2(0, FOLDER)
@@ -84,14 +94,14 @@ def hide_folder():
         os.environ[FOLDER_SET] = str(FOLDER)
 
 
-def reader_is_gone():
+def reader_is_gone() -> bool:
     """Whether standard output is a pipe that nobody reads any more."""
     look = select.poll()
     look.register(1, 0)
     return any(event & (select.POLLERR | select.POLLHUP) for _, event in look.poll(0))
 
 
-def end_by(number):
+def end_by(number: int) -> int:
     """Ends by a signal, quietly."""
     signal.signal(number, signal.SIG_DFL)
     signal.pthread_sigmask(signal.SIG_UNBLOCK, {number})
@@ -99,15 +109,15 @@ def end_by(number):
     return 128 + number
 
 
-def place_of(fault):
+def place_of(fault: BaseException) -> str:
     """Where in the code a fault was last."""
-    last = fault.__traceback__
-    while last.tb_next:
-        last = last.tb_next
-    return f"{os.path.basename(last.tb_frame.f_code.co_filename)}:{last.tb_lineno}"
+    step, place = fault.__traceback__, "an unknown place"
+    while step:
+        place, step = f"{os.path.basename(step.tb_frame.f_code.co_filename)}:{step.tb_lineno}", step.tb_next
+    return place
 
 
-def told_of(fault):
+def told_of(fault: BaseException) -> tuple[str, int]:
     """What is told of what a command can't go on behind, and its status."""
     if isinstance(fault, NoOutput):
         return f"standard output: {fault.why}", WRITE_FAULT
@@ -118,8 +128,9 @@ def told_of(fault):
     return f"a fault of this program, at {place_of(fault)}: {type(fault).__name__}: {fault}".replace("\n", " "), INTERNAL
 
 
-def status_of(teller, main, *words):
+def status_of(teller: str, main: Callable[..., int | None], *words: str) -> int | str | None:
     """Runs a command over the ends as they stand, and gives its status."""
+    status: int | str | None
     try:
         try:
             status = main(*words)
@@ -136,7 +147,7 @@ def status_of(teller, main, *words):
     return status
 
 
-def run(teller, main, *words):
+def run(teller: str, main: Callable[..., int | None], *words: str) -> NoReturn:
     """Runs a command, and ends with the status that it gives."""
     hold()
     # (where the caller waits for no child, neither would this)

@@ -6,13 +6,21 @@ error, `dvbemu WORD: ..`; standard.py does so of all that no command looks after
 memory is missing, 70 for a fault of its own. A reader that has seen enough ends it quietly, and so does Ctrl-C, which a shell sees as the
 status 130.
 """
+from __future__ import annotations
+
 import argparse
 import os
 import re
 import signal
 import sys
+from typing import TYPE_CHECKING
 
 from . import progress
+
+if TYPE_CHECKING:
+    from typing import BinaryIO, Callable, Iterable, NoReturn, Sequence, TypeVar
+
+    T = TypeVar("T")
 
 ROOT = os.path.normpath(os.path.join(os.path.dirname(os.path.realpath(__file__)), "..", "..", ".."))
 PARTS = ("reads", "writes", "status", "example")
@@ -28,14 +36,14 @@ if signal.getsignal(signal.SIGINT) is signal.default_int_handler:
 signal.pthread_sigmask(signal.SIG_UNBLOCK, {signal.SIGINT})
 
 
-def nearest(word, known):
+def nearest(word: str, known: Iterable[str]) -> str:
     """Of the words that are known the one that a wrong word is like, as the end of a message; nothing where none is."""
     import difflib  # pylint: disable=import-outside-toplevel
     found = difflib.get_close_matches(word, known, 1, 0.6)
     return f"; did you mean {found[0]}?" if found else ""
 
 
-def is_hasty():
+def is_hasty() -> bool:
     """Whether the program that runs is one that was compiled in haste, or will be."""
     if os.environ.get("DVBEMU_UNPROVED", "0") in ("", "0"):
         return False
@@ -43,7 +51,7 @@ def is_hasty():
     return (spawned.told_by_wrapper("steps", "built") or "haste/dvbemu").endswith("haste/dvbemu")
 
 
-def version():
+def version() -> str:
     """The version of the file VERSION, the commit where there is one, and the toolchain that proved the program that runs."""
     with open(os.path.join(ROOT, "VERSION"), encoding="utf-8") as file:
         number, proved = file.read().splitlines()[:2]
@@ -61,7 +69,7 @@ def version():
 class Version(argparse.Action):
     """The option --version."""
 
-    def __call__(self, parser, namespace, values, option_string=None):
+    def __call__(self, parser: argparse.ArgumentParser, namespace: argparse.Namespace, values: object, option_string: str | None = None) -> NoReturn:
         print(version())
         parser.exit()
 
@@ -69,7 +77,7 @@ class Version(argparse.Action):
 class Page(argparse.RawDescriptionHelpFormatter):
     """A help whose lines aren't those of the terminal, so that it is the same everywhere."""
 
-    def __init__(self, prog):
+    def __init__(self, prog: str) -> None:
         super().__init__(prog, width=WIDTH)
 
 
@@ -79,7 +87,7 @@ class Command(argparse.ArgumentParser):
     # The statuses of all tools, behind their own.
     others = "; 6 where standard output can't be written, 7 where memory is missing, 70 for a fault of the tool itself"
 
-    def __init__(self, word, usage, about, teller=None, **told):
+    def __init__(self, word: str, usage: str, about: str, teller: str | None = None, **told: str) -> None:
         self.teller = teller or f"dvbemu {word}"
         self.told = told
         super().__init__(prog=f"dvbemu {word}", usage=f"dvbemu {word} {usage}", description=about, add_help=False, formatter_class=Page,
@@ -87,7 +95,7 @@ class Command(argparse.ArgumentParser):
         self.add_argument("-h", "--help", action="help", help="this text")
         self.add_argument("--version", action=Version, nargs=0, help="the version, its commit, and the toolchain that proved it")
 
-    def format_help(self):
+    def format_help(self) -> str:
         """The help, with what is told at its end."""
         import textwrap  # pylint: disable=import-outside-toplevel
         told = {**self.told, "status": self.told["status"] + ("" if self.teller == "dvbemu" else self.others)}
@@ -95,17 +103,17 @@ class Command(argparse.ArgumentParser):
         self.epilog = "\n".join(f"{part:8} " + "\n         ".join(row) for part, row in zip(PARTS, rows))
         return super().format_help()
 
-    def options(self):
+    def options(self) -> list[str]:
         """The options that the command knows."""
         return [name for action in self._actions for name in action.option_strings]
 
-    def parse_args(self, words=None):
+    def parse_args(self, words: Sequence[str] | None = None) -> argparse.Namespace:  # type: ignore[override]  # (nobody gives a namespace)
         """The words of the command line. An option that isn't known is told before a word that is missing."""
         words = sys.argv[1:] if words is None else words
         takes = {name for action in self._actions if action.nargs is None for name in action.option_strings}
         gathers = {name for action in self._actions if isinstance(action.default, list) for name in action.option_strings}
         runs = any(action.nargs == argparse.REMAINDER for action in self._actions)
-        place, seen = 0, set()
+        place, seen = 0, set[str]()
         while place < len(words) and words[place] != "--" and not (runs and words[place][:1] != "-"):
             word, _, value = words[place].partition("=")
             if re.match("-[^0-9]", word) and word not in self.options():
@@ -116,7 +124,7 @@ class Command(argparse.ArgumentParser):
             place += 2 if word in takes and not value else 1
         return super().parse_args(words)
 
-    def message(self, text):
+    def message(self, text: str) -> str:
         """What argparse says of a wrong word, in the form of this project."""
         if found := re.match(r"unrecognized arguments: (\S+)", text):
             word = found[1].partition("=")[0]
@@ -133,27 +141,27 @@ class Command(argparse.ArgumentParser):
             return f"{found[1]} can't stand beside {found[2]}"
         return re.sub(r"^argument (\S+): ", r"\1: ", text)
 
-    def exit(self, status=0, message=None):
+    def exit(self, status: int = 0, message: str | None = None) -> NoReturn:
         """Ends, behind a line of the message, where there is one."""
         progress.end()
         super().exit(status, message)
 
-    def error(self, message):
+    def error(self, message: str) -> NoReturn:
         """Tells a wrong word, and how the command is used; the status is 2."""
         self.exit(2, f"{self.teller}: {self.message(message)}\n{self.format_usage()}")
 
-    def fail(self, text):
+    def fail(self, text: object) -> NoReturn:
         """Tells what can't be done; the status is 1."""
         self.exit(1, f"{self.teller}: {text}\n")
 
-    def fail_on(self, name, fault):
+    def fail_on(self, name: str | None, fault: Exception | str) -> NoReturn:
         """Tells what is wrong with a file."""
         reason = fault.strerror if isinstance(fault, OSError) and fault.strerror else str(fault)
         self.fail(f"{'standard input' if name in (None, '-') else name}: {reason}")
 
-    def opened(self, name):
+    def opened(self, name: str | None) -> BinaryIO:
         """The file of this name, or standard input for None and `-`, whose bytes are read."""
-        if name not in (None, "-"):
+        if name is not None and name != "-":
             try:
                 return open(name, "rb")  # pylint: disable=consider-using-with
             except OSError as fault:
@@ -163,12 +171,12 @@ class Command(argparse.ArgumentParser):
         self.tell_waiting()
         return sys.stdin.buffer
 
-    def tell_waiting(self):
+    def tell_waiting(self) -> None:
         """Tells on a terminal what is waited for."""
         if sys.stdin is not None and sys.stdin.isatty():
             print(f"{self.teller}: reading standard input, which is a terminal; Ctrl-D ends it", file=sys.stderr)
 
-    def bytes_of(self, name):
+    def bytes_of(self, name: str | None) -> bytes:
         """The bytes of a file, or of standard input for None and `-`."""
         try:
             with self.opened(name) as file:
@@ -177,10 +185,10 @@ class Command(argparse.ArgumentParser):
             return self.fail_on(name, fault)
 
 
-def reader(function, expected):
+def reader(function: Callable[[str], T], expected: str) -> Callable[[str], T]:
     """A reader of a word of the command line by a function, which raises a ValueError or a KeyError where the word isn't what is expected."""
 
-    def read(word):
+    def read(word: str) -> T:
         try:
             return function(word)
         except (ValueError, KeyError):
@@ -189,10 +197,10 @@ def reader(function, expected):
     return read
 
 
-def number(least, most, is_plain=False):
+def number(least: int, most: int, is_plain: bool = False) -> Callable[[str], int]:
     """A reader of a number in decimal digits; in hexadecimal ones behind 0x, and with zeros in front, where it needn't be plain."""
 
-    def read(word):
+    def read(word: str) -> int:
         value = int(word, 16) if word.lower().startswith("0x") and not is_plain else int(word)
         if not least <= value <= most or is_plain and word != str(value):
             raise ValueError
@@ -201,6 +209,6 @@ def number(least, most, is_plain=False):
     return reader(read, f"a number from {least} to {most}")
 
 
-def choice(*values):
+def choice(*values: int) -> Callable[[str], int]:
     """A reader of one of these numbers."""
     return reader({str(value): value for value in values}.__getitem__, " or ".join(map(str, values)))

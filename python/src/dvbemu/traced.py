@@ -1,9 +1,14 @@
 """Runs a program and tells its system calls, and those of its threads and of processes that it starts: ptrace, x86-64 Linux."""
+from __future__ import annotations
+
 import ctypes
 import os
 import signal
 import struct
-from typing import NamedTuple
+from typing import TYPE_CHECKING, NamedTuple
+
+if TYPE_CHECKING:
+    from typing import Iterator
 
 TRACEME, SYSCALL, SETOPTIONS, GETEVENTMSG, GET_SYSCALL_INFO = 0, 24, 0x4200, 0x4201, 0x420E
 # A mark on stops at system calls; forks, threads and exec are followed and told; nobody outlives this process.
@@ -23,12 +28,12 @@ class Event(NamedTuple):
     kind: str
     thread: int
     # The number of a system call and its six words; its result alone; the other's number; the exit status.
-    words: tuple = ()
+    words: tuple[int, ...] = ()
 
 
-def ptrace(request, thread, at=None, data=None):
+def ptrace(request: int, thread: int, at: int | None = None, data: int | None = None) -> int:
     """One request of ptrace; an OSError where it is refused."""
-    answer = libc.ptrace(request, thread, at, data)
+    answer: int = libc.ptrace(request, thread, at, data)
     if answer < 0:
         raise OSError(ctypes.get_errno(), f"ptrace: {os.strerror(ctypes.get_errno())}")
     return answer
@@ -37,7 +42,7 @@ def ptrace(request, thread, at=None, data=None):
 class Traced:
     """A program that runs, and all that it starts."""
 
-    def __init__(self, words):
+    def __init__(self, words: list[str]) -> None:
         self.first = os.fork()
         if self.first == 0:
             try:
@@ -46,7 +51,9 @@ class Traced:
             except OSError as error:
                 os.write(2, f"dvbemu calls: {words[0]}: {error.strerror}\n".encode())
             os._exit(127)
-        self.threads, self.early, self.fresh = {self.first}, set(), set()
+        self.threads = {self.first}
+        self.early: set[int] = set()
+        self.fresh: set[int] = set()
         _, self.status = os.waitpid(self.first, 0)
         if os.WIFSTOPPED(self.status):
             ptrace(SETOPTIONS, self.first, None, OPTIONS)
@@ -54,14 +61,14 @@ class Traced:
         else:
             self.threads.clear()
 
-    def go_on(self, thread, number=0):
+    def go_on(self, thread: int, number: int = 0) -> None:
         """Lets a thread run to its next stop, with a signal. One that was killed meanwhile tells its end."""
         try:
             ptrace(SYSCALL, thread, None, number)
         except ProcessLookupError:
             pass
 
-    def events(self):
+    def events(self) -> Iterator[Event]:
         """All that happens, in the order in which it is told. A thread stands still until the next event is asked for."""
         while self.threads:
             thread, status = os.waitpid(-1, ALL)
@@ -73,7 +80,7 @@ class Traced:
                     self.status = status
                 yield Event("ended", thread)
 
-    def stopped(self, thread, why):
+    def stopped(self, thread: int, why: int) -> Iterator[Event]:
         """What a stop tells; then the thread goes on."""
         number, event = why & 0xFF, why >> 8
         if thread not in self.threads:
@@ -94,7 +101,7 @@ class Traced:
             return
         self.go_on(thread)
 
-    def born(self, maker, thread):
+    def born(self, maker: int, thread: int) -> Iterator[Event]:
         """A new thread or process, which stops once by itself before its first step."""
         self.threads.add(thread)
         yield Event("born", maker, (thread,))
@@ -104,13 +111,13 @@ class Traced:
         else:
             self.fresh.add(thread)
 
-    def message(self, thread):
+    def message(self, thread: int) -> int:
         """The number that comes with an event."""
         number = ctypes.c_ulong()
         ptrace(GETEVENTMSG, thread, None, ctypes.addressof(number))
         return number.value
 
-    def called(self, thread):
+    def called(self, thread: int) -> Iterator[Event]:
         """The system call at whose edge a thread stands. Those of programs of 32 bits aren't told."""
         told = ctypes.create_string_buffer(88)
         ptrace(GET_SYSCALL_INFO, thread, len(told), ctypes.addressof(told))
@@ -121,7 +128,7 @@ class Traced:
             yield Event("leaves", thread, struct.unpack_from("<q", told, 24))
 
 
-def bytes_at(thread, place, count):
+def bytes_at(thread: int, place: int, count: int) -> bytes:
     """Bytes of a stopped thread's memory; fewer, or none, where it has none there."""
     try:
         with open(f"/proc/{thread}/mem", "rb", buffering=0) as memory:
@@ -131,7 +138,7 @@ def bytes_at(thread, place, count):
         return b""
 
 
-def path_of(thread, descriptor):
+def path_of(thread: int, descriptor: int) -> str | None:
     """The path of an open file; None where the descriptor is closed."""
     try:
         return os.readlink(f"/proc/{thread}/fd/{descriptor}")
@@ -139,7 +146,7 @@ def path_of(thread, descriptor):
         return None
 
 
-def waits(thread, descriptor):
+def waits(thread: int, descriptor: int) -> bool:
     """Whether reads of a descriptor wait for bytes: O_NONBLOCK isn't set."""
     try:
         with open(f"/proc/{thread}/fdinfo/{descriptor}", encoding="ascii") as file:

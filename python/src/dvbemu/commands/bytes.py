@@ -7,6 +7,7 @@ from __future__ import annotations
 
 import re
 import sys
+from typing import TYPE_CHECKING
 
 from .. import tool
 from .. import reports
@@ -15,11 +16,17 @@ from ..inputs import many
 from ..explain.refusals import refusal
 from ..explain.walk import Walk
 
+if TYPE_CHECKING:
+    from argparse import Namespace
+    from typing import BinaryIO, Iterator, Sequence
+
+    from ..reports import Act, Entry, Report
+
 # The calls that say what comes.
 ASKING = "section", "pes", "add", "start"
 
 
-def command():
+def command() -> tool.Command:
     """The command and its words."""
     words = tool.Command(
         "bytes",
@@ -39,17 +46,18 @@ def command():
     return words
 
 
-def has_data(entry):
+def has_data(entry: Entry) -> bool:
     """Whether a read gave bytes."""
     return entry.reply.startswith("data ") and entry.reply != "data -"
 
 
-def chosen(words, given, report):
+def chosen(words: tool.Command, given: Namespace, report: Report) -> int:
     """The node whose bytes are asked for."""
     if given.node is not None:
-        if given.node not in report.nodes:
-            words.fail(f"no client called {reports.node_name(given.node)}")
-        return given.node
+        node: int = given.node
+        if node not in report.nodes:
+            words.fail(f"no client called {reports.node_name(node)}")
+        return node
     found = [node for node, entries in sorted(report.nodes.items()) if any(map(has_data, entries))]
     if not found:
         for node, entries in sorted(report.nodes.items()):
@@ -66,13 +74,13 @@ class Asked(Walk):
 
     filter: Filter | None
 
-    def begin_capture(self, entry):
+    def begin_capture(self, entry: Entry) -> None:
         """What comes stands in the reads."""
 
-    def set_filter(self, entry, act):
+    def set_filter(self, entry: Entry, act: Act) -> None:
         self.filter = Filter(act, 0, int(entry.who[1]))
 
-    def refused(self, entries):
+    def refused(self, entries: Sequence[Entry]) -> Iterator[tuple[int, str, str]]:
         """The calls that were refused: the place of each, the call, and why."""
         for entry in entries:
             if entry.reply.startswith("done "):
@@ -82,7 +90,7 @@ class Asked(Walk):
                 yield entry.place, re.sub(r" at=\d+", "", entry.act), error + (f": {reason}" if reason else "")
 
 
-def tell_refused(words, report, node):
+def tell_refused(words: tool.Command, report: Report, node: int) -> None:
     """Tells what was asked for and refused; of the dvr node, what was asked of the nodes whose packets it gets."""
     tapped = [number for number, entries in report.nodes.items() if any(" output=ts_tap " in entry.act for entry in entries)]
     for number in tapped if node == reports.DVR else [node]:
@@ -91,7 +99,7 @@ def tell_refused(words, report, node):
                   file=sys.stderr)  # fmt: skip
 
 
-def tell_lost(words, node, entry, written):
+def tell_lost(words: tool.Command, node: int, entry: Entry, written: int) -> None:
     """Tells of an overflow, behind so many bytes that are written."""
     if entry.reply.startswith("overflow "):
         first, after = reports.span(entry.reply.split(" ")[1])
@@ -100,7 +108,7 @@ def tell_lost(words, node, entry, written):
               file=sys.stderr)  # fmt: skip
 
 
-def copy(words, node, entries, out):
+def copy(words: tool.Command, node: int, entries: Sequence[Entry], out: BinaryIO) -> None:
     """Writes the bytes of a node's reads, and tells what was lost."""
     written = 0
     for entry in entries:
@@ -111,7 +119,7 @@ def copy(words, node, entries, out):
             written += len(data)
 
 
-def main():
+def main() -> None:
     """Writes the bytes."""
     words = command()
     given = words.parse_args()

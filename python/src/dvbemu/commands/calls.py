@@ -7,16 +7,22 @@ behind `#`. The script ends with the line `stream`, behind which a stream may be
 and `tick` are for the user to write. epoll, descriptors that are sent through sockets and programs of 32 bits aren't followed.
 --demux PATH and --dvr PATH name other files that are taken for the devices. The exit status is the program's.
 """
+from __future__ import annotations
+
 import argparse
 import os
 import re
 import signal
 import struct
 import sys
+from typing import TYPE_CHECKING
 
 from .. import tool
 from ..inputs import many
 from ..traced import Traced, bytes_at, path_of, waits
+
+if TYPE_CHECKING:
+    from typing import Callable, Sequence, TextIO
 
 READ, WRITE, OPEN, CLOSE, POLL, IOCTL, SELECT, DUP, DUP2, CLONE, FCNTL = 0, 1, 2, 3, 7, 16, 23, 32, 33, 56, 72
 OPENAT, PSELECT, PPOLL, DUP3, CLONE3, CLOSE_RANGE, OPENAT2 = 257, 270, 271, 292, 435, 436, 437
@@ -26,13 +32,13 @@ INPUTS, OUTPUTS = ("frontend", "dvr"), ("decoder", "tap", "ts_tap", "tsdemux_tap
 SLOTS, LARGEST_READ, LARGEST_WRITE = 32, 65536, 12032
 
 
-def section(target, pid, filters, masks, modes, timeout, flags):
+def section(target: str, pid: int, filters: bytes, masks: bytes, modes: bytes, timeout: int, flags: int) -> str:
     """The command of a section filter, with the places that aren't 0."""
     places = [f"{i}={f:02x}/{m:02x}/{d:02x}" for i, (f, m, d) in enumerate(zip(filters, masks, modes)) if f or m or d]
     return " ".join(["section", target, str(pid), str(timeout), str(flags), *places])
 
 
-def pes(target, pid, source, output, kind, flags):
+def pes(target: str, pid: int, source: int, output: int, kind: int, flags: int) -> str | None:
     """The command of a PES filter; None where input or output has no name."""
     if source >= len(INPUTS) or output >= len(OUTPUTS):
         return None
@@ -40,7 +46,7 @@ def pes(target, pid, source, output, kind, flags):
 
 
 # The requests with a structure: its form, and the command. The others are below.
-REQUESTS = {
+REQUESTS: dict[int, tuple[str, Callable[..., str | None]]] = {
     0x403C6F2B: ("<H16s16s16s2xII", section),
     0x40146F2C: ("<H2x4I", pes),
     0x40026F33: ("<H", lambda target, pid: f"add {target} {pid}"),
@@ -49,51 +55,54 @@ REQUESTS = {
 }
 
 
-def argument_of(thread, number, word):
+def argument_of(thread: int, number: int, word: int) -> bytes:
     """The bytes that a request has as its argument, read from the stopped program's memory; the size of a buffer is the word itself."""
     if number == 0x6F2D:
         return (word & 0xFFFFFFFF).to_bytes(4, "little")
     return bytes_at(thread, word, struct.calcsize(REQUESTS[number][0])) if number in REQUESTS else b""
 
 
-def command_of(target, number, argument):
+def command_of(target: str, number: int, argument: bytes) -> str | None:
     """The plain command of a request with this argument; None where there is none."""
     if number == 0x6F2D:
         return f"size {target} {int.from_bytes(argument, 'little')}"
     if number in (0x6F29, 0x6F2A):
         return f"{'start' if number == 0x6F29 else 'stop'} {target}"
-    form, command = REQUESTS.get(number, ("", None))
-    return command(target, *struct.unpack(form, argument)) if command and len(argument) == struct.calcsize(form) else None
+    if number not in REQUESTS:
+        return None
+    form, command = REQUESTS[number]
+    return command(target, *struct.unpack(form, argument)) if len(argument) == struct.calcsize(form) else None
 
 
 class Handle:
     """A device that is open. Several descriptors may name it."""
 
-    def __init__(self, target):
+    def __init__(self, target: str) -> None:
         self.target = target
 
 
 class Script:
     """The descriptors of each thread that name devices, and the lines so far."""
 
-    def __init__(self, first, out, demux, dvr, plain):
+    def __init__(self, first: int, out: TextIO, demux: re.Pattern[str], dvr: re.Pattern[str], plain: bool) -> None:
         self.out, self.demux, self.dvr, self.plain = out, demux, dvr, plain
         # A table of descriptors a thread; threads of a process share one. What each thread asks for meanwhile.
-        self.tables, self.asked = {first: {}}, {}
+        self.tables: dict[int, dict[int, Handle]] = {first: {}}
+        self.asked: dict[int, tuple[int, tuple[int, ...]]] = {}
 
-    def line(self, text):
+    def line(self, text: str) -> None:
         self.out.write(text + "\n")
 
-    def open_targets(self):
+    def open_targets(self) -> set[str]:
         """The targets of the devices that are open."""
         return {handle.target for table in self.tables.values() for handle in table.values()}
 
-    def slot(self):
+    def slot(self) -> str | None:
         """The first slot that no open device has."""
         used = self.open_targets()
         return next((f"h{i}" for i in range(SLOTS) if f"h{i}" not in used), None)
 
-    def opened(self, thread, descriptor):
+    def opened(self, thread: int, descriptor: int) -> None:
         """A file was opened: a device gets a line."""
         path = path_of(thread, descriptor) or ""
         target = self.slot() if self.demux.fullmatch(path) else "dvr" if self.dvr.fullmatch(path) else ""
@@ -104,20 +113,20 @@ class Script:
             self.line("# the dvr device once more" if target in self.open_targets() else f"c0 open {target}")
             self.tables[thread][descriptor] = Handle(target)
 
-    def closed(self, table, descriptor):
+    def closed(self, table: dict[int, Handle], descriptor: int) -> None:
         """A descriptor was closed: the last one of a device closes it."""
         handle = table.pop(descriptor, None)
         if handle and handle.target not in self.open_targets():
             self.line(f"c0 close {handle.target}")
 
-    def copied(self, table, old, new):
+    def copied(self, table: dict[int, Handle], old: int, new: int) -> None:
         """A descriptor names what another names."""
         if old != new:
             self.closed(table, new)
         if old in table:
             table[new] = table[old]
 
-    def polled(self, thread, call, words):
+    def polled(self, thread: int, call: int, words: Sequence[int]) -> list[int]:
         """The descriptors that a call asks after."""
         if call in (POLL, PPOLL):
             rows = bytes_at(thread, words[0], 8 * min(words[1], 1024))
@@ -125,14 +134,14 @@ class Script:
         bits = [bytes_at(thread, place, (words[0] + 7) // 8) for place in words[1:4] if place]
         return [i for i in range(min(words[0], 1024)) if any(row[i // 8] >> i % 8 & 1 for row in bits if i // 8 < len(row))]
 
-    def read(self, thread, target, descriptor, count):
+    def read(self, thread: int, target: str, descriptor: int, count: int) -> None:
         """A read: that of a client that waits, unless the device is open without waiting."""
         if count > LARGEST_READ:
             self.line(f"# a read of {count} bytes; one asks for {LARGEST_READ} at most")
         verb = "readw" if waits(thread, descriptor) else "read"
         self.line(f"c0 {verb} {target} {min(count, LARGEST_READ)}")
 
-    def written(self, thread, target, place, count):
+    def written(self, thread: int, target: str, place: int, count: int) -> None:
         """A write to the dvr device, in lines of as many bytes as one takes."""
         if target != "dvr":
             self.line(f"# a write of {many(count, 'byte')} to {target}; a client writes to dvr alone")
@@ -144,7 +153,7 @@ class Script:
                 return
             self.line(f"c0 write dvr {piece.hex()}")
 
-    def requested(self, target, number, argument):
+    def requested(self, target: str, number: int, argument: bytes) -> None:
         """A request: its number and its bytes, or the plain command."""
         command, spelled = command_of(target, number, argument), f"ioctl {target} {number:08x}"
         if command is None:
@@ -152,7 +161,7 @@ class Script:
         else:
             self.line(f"c0 {command}" if self.plain else f"c0 {spelled} {argument.hex() or '-'}")
 
-    def enters(self, thread, call, *words):
+    def enters(self, thread: int, call: int, *words: int) -> None:
         """A system call begins."""
         self.asked[thread] = (call, words)
         table, descriptor = self.tables[thread], words[0] & 0xFFFFFFFF
@@ -173,7 +182,7 @@ class Script:
             for descriptor in [known for known in table if words[0] <= known <= words[1]]:
                 self.closed(table, descriptor)
 
-    def leaves(self, thread, result):
+    def leaves(self, thread: int, result: int) -> None:
         """A system call has its result."""
         call, words = self.asked.pop(thread, (None, ()))
         if result < 0:
@@ -183,21 +192,21 @@ class Script:
         elif call in (DUP, DUP2, DUP3) or call == FCNTL and words[1] in DUPLICATES:
             self.copied(self.tables[thread], words[0], result)
 
-    def born(self, maker, thread):
+    def born(self, maker: int, thread: int) -> None:
         """A thread shares the table of its maker, a process has a copy."""
         call, words = self.asked.get(maker, (None, ()))
         flags = words[0] if call == CLONE else int.from_bytes(bytes_at(maker, words[0], 8), "little") if call == CLONE3 else 0
         table = self.tables[maker]
         self.tables[thread] = table if flags & CLONE_FILES else dict(table)
 
-    def began(self, thread, former):
+    def began(self, thread: int, former: int) -> None:
         """A process runs another program: what was to be closed then is closed."""
         table = dict(self.tables.pop(former))
         self.tables[thread] = table
         for descriptor in [known for known in table if path_of(thread, known) is None]:
             self.closed(table, descriptor)
 
-    def ended(self, thread):
+    def ended(self, thread: int) -> None:
         """The last thread that shares a table closes its descriptors."""
         table = self.tables.pop(thread, {})
         if not any(other is table for other in self.tables.values()):
@@ -205,7 +214,12 @@ class Script:
                 self.closed(table, descriptor)
 
 
-def command():
+def literal(path: str) -> str:
+    """The pattern of a path alone."""
+    return re.escape(path)
+
+
+def command() -> tool.Command:
     """The command and its words."""
     told = tool.Command(
         "calls",
@@ -218,16 +232,16 @@ def command():
         example="dvbemu calls --to my.script my-receiver ..; dvbemu steps my.script my.ts",
     )
     told.add_argument("--to", metavar="FILE", help="where the script is written, if not to standard output")
-    told.add_argument("--demux", metavar="PATH", type=re.escape, default=r"/dev/dvb/adapter\d+/demux\d+",
+    told.add_argument("--demux", metavar="PATH", type=literal, default=r"/dev/dvb/adapter\d+/demux\d+",
                       help="another file that is taken for the demux device")  # fmt: skip
-    told.add_argument("--dvr", metavar="PATH", type=re.escape, default=r"/dev/dvb/adapter\d+/dvr\d+",
+    told.add_argument("--dvr", metavar="PATH", type=literal, default=r"/dev/dvb/adapter\d+/dvr\d+",
                       help="another file that is taken for the dvr device")  # fmt: skip
     told.add_argument("--plain", action="store_true", help="plain commands in place of request numbers and bytes")
     told.add_argument("program", metavar="PROGRAM", nargs=argparse.REMAINDER, help="the program and its arguments")
     return told
 
 
-def main():
+def main() -> int:
     told = command()
     words = told.parse_args()
     words.program = words.program[words.program[:1] == ["--"] :]

@@ -3,6 +3,8 @@
 With --node only what concerns that node is told, and with --client only what that client did. A text that is no report is told on
 standard error with its line; the status is then 1.
 """
+from __future__ import annotations
+
 import gc
 import sys
 
@@ -12,7 +14,7 @@ from .. import tool
 from ..explain.told import Part, page
 
 
-def command():
+def command() -> tool.Command:
     """The command and its words."""
     words = tool.Command(
         "explain",
@@ -29,12 +31,12 @@ def command():
     return words
 
 
-def client_of(word):
+def client_of(word: str) -> int:
     """The client that a word of the command line names."""
     return reports.number(word.removeprefix("c"), reports.CLIENTS - 1)
 
 
-def main():
+def main() -> None:
     """Tells the named report, or the one on standard input."""
     gc.disable()  # what is made of a report stays until the end
     words = command()

@@ -4,8 +4,11 @@ Of each section filter that ran and gave nothing it tells how many sections pass
 bits rule the others out, and a filter that would select some; of each Overflow how many packets or sections were lost, which packets of
 the stream brought them, and, where the stream has a program clock, when. Not proved; the rules are those of fuzz/second.py.
 """
+from __future__ import annotations
+
 import sys
 from collections import Counter
+from typing import TYPE_CHECKING
 
 from ..explain import offered
 from ..explain import played
@@ -20,12 +23,18 @@ from ..explain.sentences import node_text, pids_text, wrapped
 from ..explain.story import Story
 from ..explain.walk import CRC
 
+if TYPE_CHECKING:
+    from typing import Iterable, Mapping, Sequence
+
+    from ..explain.offered import Like, Lost, Ruled, Used
+    from ..reports import Act, Report
+
 GROUPS = 5
 NOTHING = "Nothing to tell: packets of its PID passed each filter that ran, each section filter gave something, and no read was answered Overflow."
 NO_FILTER = "Nothing to tell: no filter ran."
 
 
-def packets_of(given, report):
+def packets_of(given: bytes, report: Report) -> list[bytes]:
     """The packets that the report is of: those of its session, or of the recording that was played."""
     head, counts = (report.packets, report.skipped, report.rest), {row.pid: row.packets for row in report.pids}
     if not played.is_recording(given):
@@ -36,18 +45,18 @@ def packets_of(given, report):
         return played.of_recording(given, head, counts)
 
 
-def by_pid_of(packets):
+def by_pid_of(packets: Sequence[bytes]) -> Mapping[int, Sequence[int]]:
     """The places of the packets of each PID, and of all for the PID that names every packet."""
-    found = {second.ALL_PACKETS: range(len(packets))}
+    found: dict[int, list[int]] = {}
     for place, packet in enumerate(packets):
         found.setdefault(second.pid_of(packet), []).append(place)
-    return found
+    return {second.ALL_PACKETS: range(len(packets)), **found}
 
 
 # ------ section filters
 
 
-def group_text(ruled, count, act):
+def group_text(ruled: Sequence[Ruled], count: int, act: Act) -> str:
     """Sections that the same bytes rule out, in words."""
     texts = []
     for one in ruled:
@@ -62,13 +71,13 @@ def group_text(ruled, count, act):
     return f"{many(count, 'section')}: {'; '.join(texts)}."
 
 
-def pes_streams(packets):
+def pes_streams(packets: Iterable[bytes]) -> Counter[int]:
     """The stream_ids of the PES packets that begin in these packets."""
     payloads = [second.payload_of(packet) or b"" for packet in packets if second.unit_start(packet)]
     return Counter(payload[3] for payload in payloads if payload[:1] == b"\0" and is_pes_head(payload[1:4]))
 
 
-def no_section_lines(packets):
+def no_section_lines(packets: Sequence[bytes]) -> list[str]:
     """Why there is no section at all."""
     streams = pes_streams(packets)
     if streams:
@@ -80,14 +89,14 @@ def no_section_lines(packets):
     return wrapped(f"No section is whole in them. Of these packets {told}.", 2)
 
 
-def command_text(used, like):
+def command_text(used: Used, like: Like) -> str:
     """A section filter like one that was used, as a line of a script."""
     shown = "".join(f" {place}={value:02x}/{mask:02x}/{mode:02x}" for place, (value, mask, mode) in sorted(like.bytes.items()) if mask)
     act, node = used.act, reports.node_name(used.node)
     return f"c{used.client} section {node} {act['pid']} {act['timeout']} {like.flags}{shown}"
 
 
-def unpassed_text(used, by_pid):
+def unpassed_text(used: Used, by_pid: Mapping[int, Sequence[int]]) -> str:
     """A filter that no packet passed, in words."""
     kind, pids = "section" if used.act["name"] == "section" else "PES", pids_text(used.pids)
     count = sum(len(by_pid.get(pid, ())) for pid in used.pids)
@@ -95,7 +104,7 @@ def unpassed_text(used, by_pid):
     return f"the {kind} filter of {pids} gave nothing: no packet of {'its PID' if len(used.pids) == 1 else 'its PIDs'} passed while it ran; {has}."
 
 
-def used_lines(used, packets, by_pid):
+def used_lines(used: Used, packets: Sequence[bytes], by_pid: Mapping[int, Sequence[int]]) -> list[str]:
     """What passed a filter that gave nothing."""
     captures = [[packets[place] for place in places] for places in used.places]
     found = [section for capture in captures for section in offered.sections_of(capture)]
@@ -122,7 +131,7 @@ def used_lines(used, packets, by_pid):
     return lines + [line for place, like in offered.moved(used.act, found) for line in wrapped(moved_text(used, place, like), 2)]
 
 
-def moved_text(used, place, like):
+def moved_text(used: Used, place: int, like: Like) -> str:
     """A filter byte that was counted as the bytes of a section are, in words."""
     value, mask, _ = used.act["bytes"][place]
     meant = f"If filter byte {place} is meant for {places_text(place - 2)}, it is filter byte {place - 2}, and 0x{value & mask:02X} stands there"
@@ -132,7 +141,7 @@ def moved_text(used, place, like):
 # ------ overflows
 
 
-def times_of(packets):
+def times_of(packets: Sequence[bytes]) -> list[float] | None:
     """When each packet is due by the stream's program clock, in seconds from its first PCR; None where it has none."""
     try:
         return [at for at, _ in timed(packets)]
@@ -140,7 +149,7 @@ def times_of(packets):
         return None
 
 
-def lost_lines(lost, times):
+def lost_lines(lost: Lost, times: Sequence[float] | None) -> list[str]:
     """What an Overflow lost."""
     begin, after = lost.span
     what = many(lost.items, "section" if lost.is_section else "packet")
@@ -156,7 +165,7 @@ def lost_lines(lost, times):
 # ------ the whole
 
 
-def page(report, packets):
+def page(report: Report, packets: Sequence[bytes]) -> str:
     """All that is told."""
     story, by_pid, nodes = Story(report), by_pid_of(packets), []
     for number, entries in report.nodes.items():
@@ -172,7 +181,7 @@ def page(report, packets):
     return "\n".join(lines or wrapped(NOTHING if any(node.ran for node in nodes) else NO_FILTER, 0)) + "\n"
 
 
-def command():
+def command() -> tool.Command:
     """The command and its words."""
     words = tool.Command(
         "hint",
@@ -188,7 +197,7 @@ def command():
     return words
 
 
-def main():
+def main() -> None:
     """Tells what the stream says of the named report."""
     words = command()
     given = words.parse_args()

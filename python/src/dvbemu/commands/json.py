@@ -3,17 +3,23 @@
 Nothing is lost on the way: what --back writes is the report byte for byte. A text that is no report, or that --back would make none of,
 is told with its line, and the status is 1.
 """
+from __future__ import annotations
+
 import gc
 import io
 import sys
+from typing import TYPE_CHECKING
 
 from .. import objects
 from .. import progress
 from .. import reports
 from .. import tool
 
+if TYPE_CHECKING:
+    from typing import BinaryIO, Iterator
 
-def command():
+
+def command() -> tool.Command:
     """The command and its words."""
     words = tool.Command(
         "json",
@@ -29,19 +35,19 @@ def command():
     return words
 
 
-def report_text(file):
+def report_text(file: BinaryIO) -> str:
     """The report that JSON Lines are. Raises NotAReport where it would be none."""
     text = "".join(line + "\n" for line in objects.back(reports.text_of(file)))
     reports.read(io.StringIO(text))
     return text
 
 
-def lines_of(report):
+def lines_of(report: reports.Report) -> Iterator[str]:
     """The JSON Lines that a report is."""
     return (text + "\n" for text in objects.texts_of(report))
 
 
-def main():
+def main() -> None:
     """Writes the one as the other."""
     gc.disable()  # what is made of a report stays until the end
     words = command()

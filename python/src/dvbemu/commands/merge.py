@@ -9,16 +9,21 @@ The report is written as it comes, and no file is held in memory; each is read o
 called. Where the server hasn't ended, or a line is missing, torn or wrong, that is told on standard error, and the status is 1; what was
 written until then is no report.
 """
+from __future__ import annotations
+
 import glob
 import heapq
 import os
 import re
 import stat
 import sys
-from typing import NamedTuple
+from typing import TYPE_CHECKING, NamedTuple
 
 from .. import progress
 from .. import tool
+
+if TYPE_CHECKING:
+    from typing import Iterable, Iterator, TextIO
 
 NODES = [*map(str, range(32)), "dvr"]
 # The greatest number of a line: commands behind so many have it too.
@@ -41,10 +46,10 @@ class Call(NamedTuple):
     text: str
 
 
-def opened(path):
+def opened(path: str) -> TextIO:
     """A file of the folder, which is open. Of what is no file nothing is waited for."""
 
-    def open_file(name, flags):
+    def open_file(name: str, flags: int) -> int:
         file = os.open(name, flags | os.O_NONBLOCK)
         if not stat.S_ISREG(os.fstat(file).st_mode):
             os.close(file)
@@ -54,7 +59,7 @@ def opened(path):
     return open(path, encoding="ascii", opener=open_file)
 
 
-def calls_in(path):
+def calls_in(path: str) -> Iterator[Call]:
     """The calls of a seat, in their order."""
     with opened(path) as file:
         for step, line in enumerate(file):
@@ -64,7 +69,7 @@ def calls_in(path):
             yield Call(found[1], int(found[3]), found[4], step, found[6], found[7], found[2])
 
 
-def batches_in(path, count):
+def batches_in(path: str, count: int) -> Iterator[str]:
     """The lines of the feeder without their places, which has passed so many packets, the end of the stream last."""
     step, packets = 0, 0
     with opened(path) as file:
@@ -79,21 +84,22 @@ def batches_in(path, count):
     yield f"feed {step} end = passed\n"
 
 
-def is_search(call):
+def is_search(call: Call) -> bool:
     """Whether a call looks for a free demux node."""
     return call.act == "open" and call.node != "dvr"
 
 
-def goes_on(last, call):
+def goes_on(last: Call, call: Call) -> bool:
     """Whether a call belongs to the command of the one before it."""
     if call.act.startswith(("attach ", "detach ")):
         return True
     return is_search(call) and is_search(last) and last.reply.startswith("busy ") and int(call.node) == int(last.node) + 1
 
 
-def commands_of(calls):
+def commands_of(calls: Iterable[Call]) -> Iterator[tuple[int, int, str]]:
     """The commands of a client: the step of the first call, the one behind the last, and how it ended."""
-    first, last = None, None
+    first = 0
+    last: Call | None = None
     for call in calls:
         if last is None or not goes_on(last, call):
             if last is not None:
@@ -104,7 +110,7 @@ def commands_of(calls):
         yield first, last.step + 1, ended(last)
 
 
-def ended(last):
+def ended(last: Call) -> str:
     """How a command ended whose last call this is."""
     return "EMFILE" if is_search(last) and last.reply.startswith("busy ") else "done"
 
@@ -112,9 +118,12 @@ def ended(last):
 class Folder:
     """A folder of a server that has ended."""
 
-    def __init__(self, path):
+    def __init__(self, path: str) -> None:
         self.batches, head = os.path.join(path, "batches"), os.path.join(path, "head")
-        self.files, self.called, self.read, self.written, self.node = {}, set(), 0, 0, None
+        self.read, self.written = 0, 0
+        self.files: dict[str, str] = {}
+        self.called: set[str] = set()
+        self.node: str | None = None
         progress.show_beside("dvbemu merge", self.how_far)
         if not os.path.isdir(path):
             raise Torn(f"{path}: {'it is no folder' if os.path.exists(path) else 'No such file or directory'}")
@@ -127,11 +136,11 @@ class Folder:
             raise Torn(f"{head} isn't whole")
         self.packets = int(packets[1])
         paths = glob.glob(os.path.join(glob.escape(path), "*.calls"))
-        for file in paths:
-            self.take(file)
+        for name in paths:
+            self.take(name)
         self.clients = len(paths)
 
-    def take(self, path):
+    def take(self, path: str) -> None:
         """Looks who has made the calls of a file, and on which nodes."""
         for call in calls_in(path):
             if self.files.setdefault(call.who, path) != path:
@@ -139,13 +148,13 @@ class Folder:
             self.called.add(call.node)
             self.read += 1
 
-    def how_far(self):
+    def how_far(self) -> str:
         """How far it is."""
         if self.node is None:
             return f"{self.read:,} calls read"
         return f"{self.read:,} calls read, {self.written:,} entries written, node {self.node}"
 
-    def commands(self):
+    def commands(self) -> Iterator[str]:
         """The lines of the clients with their commands."""
         for number in range(max([self.clients, *(int(who[1:]) + 1 for who in self.files)])):
             yield f"client {number}\n"
@@ -154,7 +163,7 @@ class Folder:
             for line, (first, behind, kind) in enumerate(commands_of(calls), 1):
                 yield f"line {min(line, LAST_LINE)} steps {first}..{behind} {kind}\n"
 
-    def history(self, node):
+    def history(self, node: str) -> Iterator[str]:
         """The lines of a node: each call at its place, and the feeder's at all others."""
         self.node = node
         yield f"node {node}\n"
@@ -172,14 +181,14 @@ class Folder:
             yield f"{place} {text}"
 
     @staticmethod
-    def next_of(passed, node, place):
+    def next_of(passed: Iterator[str], node: str, place: int) -> str:
         """The feeder's next line, where no client's call is told."""
         try:
             return next(passed)
         except StopIteration:
             raise Torn(f"node {node}: no file has the call at place {place}") from None
 
-    def report(self):
+    def report(self) -> Iterator[str]:
         """The lines of the report."""
         yield from self.head
         yield from self.commands()
@@ -191,7 +200,7 @@ class Folder:
         yield self.end
 
 
-def main():
+def main() -> None:
     """Writes the report."""
     words = tool.Command(
         "merge",

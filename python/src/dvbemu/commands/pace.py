@@ -8,16 +8,22 @@ seconds or as the stream says itself, the pace before goes on. So a program that
 
 A stream with fewer than two PCRs is told on standard error, nothing is written, and the status is 1.
 """
+from __future__ import annotations
+
 import sys
 import time
+from typing import TYPE_CHECKING
 
 from .. import clock
 from .. import tool
 
+if TYPE_CHECKING:
+    from typing import BinaryIO, Iterable, Iterator
+
 CHUNK, LEAST_WAIT = 65536, 0.001
 
 
-def rate(word):
+def rate(word: str) -> float:
     """A number above 0."""
     number = float(word)
     if not 0 < number < float("inf"):
@@ -25,7 +31,7 @@ def rate(word):
     return number
 
 
-def command():
+def command() -> tool.Command:
     """The command and its words."""
     words = tool.Command(
         "pace",
@@ -42,13 +48,13 @@ def command():
     return words
 
 
-def chunks_of(file):
+def chunks_of(file: BinaryIO) -> Iterator[bytes]:
     """What a file gives, as it comes."""
-    while chunk := file.read1(CHUNK):
+    while chunk := file.read1(CHUNK):  # type: ignore[attr-defined]  # (files of `words.opened` have it)
         yield chunk
 
 
-def write(pieces, times, out):
+def write(pieces: Iterable[tuple[float, bytes]], times: float, out: BinaryIO) -> None:
     """Writes each piece when it is due, and none before."""
     begin = None
     for at, piece in pieces:
@@ -62,7 +68,7 @@ def write(pieces, times, out):
     out.flush()
 
 
-def main():
+def main() -> None:
     """Writes the named stream, or that on standard input."""
     words = command()
     given = words.parse_args()

@@ -8,9 +8,15 @@ what is over in the last is 0xFF. COUNTER, 0 to 15, is the continuity_counter of
 and 2.4.4). With --raw the packets themselves are written, as for the stream of a session, else each byte as two
 hexadecimal digits. What can't be such packets is told on standard error, and the status is 1.
 """
+from __future__ import annotations
+
 import sys
+from typing import TYPE_CHECKING
 
 from .. import tool
+
+if TYPE_CHECKING:
+    from argparse import Namespace
 
 SYNC, ROOM, LAST_PID = 0x47, 184, 8191
 # section_length is at most 4093: the bytes behind it, the CRC_32 among them.
@@ -22,7 +28,7 @@ class NoPackets(Exception):
     """What is asked for can't be packets."""
 
 
-def crc(data):
+def crc(data: bytes) -> int:
     """The CRC_32 of these bytes (annex A)."""
     register = 0xFFFFFFFF
     for bit in (byte >> place & 1 for byte in data for place in range(7, -1, -1)):
@@ -31,7 +37,7 @@ def crc(data):
     return register
 
 
-def whole(section):
+def whole(section: bytes) -> bytes:
     """A section with its length and its CRC_32."""
     if len(section) < 3:
         raise NoPackets("a section has at least its table_id and its length, 3 bytes")
@@ -43,33 +49,33 @@ def whole(section):
     return front + (crc(front).to_bytes(4, "big") if has_crc else b"")
 
 
-def field(room):
+def field(room: int) -> bytes:
     """An adaptation field of so many bytes that says nothing."""
     return bytes([room - 1]) + (b"\0" + b"\xff" * (room - 2) if room > 1 else b"")
 
 
-def packet(pid, counter, start, payload):
+def packet(pid: int, counter: int, start: bool, payload: bytes) -> bytes:
     """The packet of a payload."""
     over = ROOM - len(payload)
     head = bytes([SYNC, start << 6 | pid >> 8, pid & 0xFF, (0x30 if over else 0x10) | counter])
     return head + (field(over) if over else b"") + payload
 
 
-def of_payload(pid, counter, start, payload):
+def of_payload(pid: int, counter: int, start: bool, payload: bytes) -> bytes:
     """The packet of a payload that was named."""
     if not 1 <= len(payload) <= ROOM:
         raise NoPackets(f"a payload has 1 to {ROOM} bytes")
     return packet(pid, counter, start, payload)
 
 
-def of_section(pid, counter, section):
+def of_section(pid: int, counter: int, section: bytes) -> bytes:
     """The packets of a section."""
     data = b"\0" + whole(section)
     payloads = [data[at : at + ROOM].ljust(ROOM, b"\xff") for at in range(0, len(data), ROOM)]
     return b"".join(packet(pid, (counter + place) % 16, not place, payload) for place, payload in enumerate(payloads))
 
 
-def command():
+def command() -> tool.Command:
     """The command and its words."""
     words = tool.Command(
         "packet",
@@ -90,7 +96,7 @@ def command():
     return words
 
 
-def packets_of(args):
+def packets_of(args: Namespace) -> bytes:
     """The packets that the words ask for."""
     try:
         data = bytes.fromhex(" ".join(args.bytes))
@@ -103,7 +109,7 @@ def packets_of(args):
     return packets
 
 
-def main():
+def main() -> None:
     """Writes them."""
     words = command()
     args = words.parse_args()

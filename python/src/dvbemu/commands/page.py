@@ -1,6 +1,9 @@
 """Writes a report as a page of HTML that a browser shows without a network: `dvbemu page --help`. What is far away is summed, and the page
 says so. Not proved."""
+from __future__ import annotations
+
 import gc
+import io
 import os
 import sys
 
@@ -10,7 +13,7 @@ from .. import tool
 from ..picture.sheet import page
 
 
-def command():
+def command() -> tool.Command:
     """The command and its words."""
     words = tool.Command(
         "page",
@@ -26,7 +29,7 @@ def command():
     return words
 
 
-def main():
+def main() -> None:
     """Writes the page of the named report, or of the one on standard input."""
     gc.disable()  # what is made of a report stays until the end
     words = command()
@@ -38,5 +41,6 @@ def main():
     except (reports.NotAReport, OSError) as wrong:
         words.fail_on(name, wrong)
     progress.clear()
-    sys.stdout.reconfigure(encoding="utf-8", newline="\n")
+    if isinstance(sys.stdout, io.TextIOWrapper):
+        sys.stdout.reconfigure(encoding="utf-8", newline="\n")
     sys.stdout.write(text)

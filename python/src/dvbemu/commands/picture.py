@@ -3,6 +3,9 @@
 The report is the only input. A text that is no report is told on standard error with its line, and the status is 1. Not proved; the
 form of a report is that of docs/BEHAVIOUR.md.
 """
+from __future__ import annotations
+
+import io
 import os
 import sys
 
@@ -12,7 +15,7 @@ from .. import tool
 from ..picture.drawing import picture
 
 
-def command():
+def command() -> tool.Command:
     """The command and its words."""
     words = tool.Command(
         "picture",
@@ -28,7 +31,7 @@ def command():
     return words
 
 
-def main():
+def main() -> None:
     """Draws the named report, or the one on standard input."""
     words = command()
     given = words.parse_args()
@@ -40,5 +43,6 @@ def main():
     title = given.title or (os.path.basename(name).removesuffix(".report") if name else "a report of dvbemu")
     text = picture(report, title)
     progress.clear()
-    sys.stdout.reconfigure(encoding="utf-8", newline="\n")
+    if isinstance(sys.stdout, io.TextIOWrapper):
+        sys.stdout.reconfigure(encoding="utf-8", newline="\n")
     sys.stdout.write(text)

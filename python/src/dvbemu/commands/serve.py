@@ -3,12 +3,15 @@ calls. Its --help tells of the words.
 
 The server is dvb_serve, which the first call proves and builds (tools/build); the preload, preload/*.c, is built at the first call by cc.
 """
+from __future__ import annotations
+
 import contextlib
 import os
 import shutil
 import signal
 import stat
 import sys
+from typing import TYPE_CHECKING
 
 
 from .. import tool
@@ -17,6 +20,15 @@ from ..server.building import Stopped, build_preload, built_server
 from ..server.channels import LINE, SATELLITE, SYSTEMS, channels_of, lines_in
 from ..server.commands import Interrupted, Signals, end_all_but, run_command, unseen_as
 from ..server.recording import PACKET, Unplayable
+
+if TYPE_CHECKING:
+    from argparse import Namespace
+    from typing import BinaryIO, Callable, List, Optional, Sequence, Tuple
+
+    from ..server.channels import Channel
+
+    # Of an adapter the words of its channels, the file of such words, and the stream that is everywhere.
+    Words = Tuple[List[str], Optional[str], Optional[str]]
 
 # A stream passes by batches of 64 packets: with fewer packets a second than this a program waits too long for some tables. And the most
 # packets a second, and the most adapters.
@@ -41,10 +53,10 @@ STATUS = "that of COMMAND, 128 and the number of the signal where one has ended 
     "read or is no stream, or there is no report; 2 for wrong words"
 
 
-def rate(most):
+def rate(most: float) -> Callable[[str], float]:
     """A reader of a rate above 0."""
 
-    def read(word):
+    def read(word: str) -> float:
         number = float(word)
         if not 0 < number <= most:
             raise ValueError
@@ -53,7 +65,7 @@ def rate(most):
     return tool.reader(read, f"a number above 0, and at most {most},")
 
 
-def channel(word):
+def channel(word: str) -> str:
     """A word HZ[:SYSTEM][:POL]=STREAM."""
     if not LINE.fullmatch(word):
         raise ValueError
@@ -66,11 +78,11 @@ class Serve(tool.Command):
     has_command = True
     others = "; 70 for a fault of `serve` itself"
 
-    def message(self, text):
+    def message(self, text: str) -> str:
         return super().message(text) + ("" if self.has_command else "; -- stands in front of COMMAND")
 
 
-def known_words():
+def known_words() -> Serve:
     """The command and its words: those in front of `--`."""
     words = Serve("serve", "[OPTION ..] [STREAM] -- COMMAND [WORD ..]", ABOUT, reads=READS, writes=WRITES, status=STATUS,
                   example="dvbemu serve --packets 3000 --report r my.ts -- dvbv5-scan -o channels dvbv5.conf")  # fmt: skip
@@ -93,13 +105,13 @@ def known_words():
     return words
 
 
-def adapters_in(options):
+def adapters_in(options: Namespace) -> list[Words]:
     """Of each adapter the words of its channels, the file of such words, and the stream that is everywhere."""
     first = [(options.tune, options.channels, options.stream)] if options.tune or options.channels or options.stream is not None else []
     return first + [([], word, None) if lines_in(word) else ([], None, word) for word in options.adapter]
 
 
-def asked(words, known):
+def asked(words: list[str], known: Serve) -> tuple[Namespace, list[str]]:
     """The words in front of `--`, and the command behind it."""
     known.has_command = "--" in words
     at = words.index("--") if known.has_command else len(words)
@@ -118,7 +130,7 @@ def asked(words, known):
     return options, command
 
 
-def see_command(name, known):
+def see_command(name: str, known: Serve) -> None:
     """Ends where the command isn't there, and says so where it won't see the adapter."""
     path = name if os.sep in name else shutil.which(name)
     if path is None or not os.path.exists(path):
@@ -128,12 +140,12 @@ def see_command(name, known):
         print(f"{known.teller}: {name} {why}: it will not see the emulated adapter", file=sys.stderr)
 
 
-def air_of(options):
+def air_of(options: Namespace) -> list[list[Channel]]:
     """The channels of each adapter."""
     return [channels_of(*words, options.packets) for words in adapters_in(options)]
 
 
-def tell_paces(channels):
+def tell_paces(channels: Sequence[Channel]) -> None:
     """Says what was seen of the recordings, and where their packets are few what comes of that."""
     for recording in [channel.recording for channel in channels]:
         for line in recording.told:
@@ -143,7 +155,7 @@ def tell_paces(channels):
                   "table comes; --packets 3000 plays the stream faster", file=sys.stderr)
 
 
-def named(path, number, count):
+def named(path: str | None, number: int, count: int) -> str | None:
     """The file of an adapter, where there are several."""
     return path if path is None or count == 1 else f"{path}.{number}"
 
@@ -152,23 +164,23 @@ class Outs:
     """What is written of an adapter: the files of its report (None is standard output), of what is played and of when programs
     tune, or None; and what is kept of its calls."""
 
-    def __init__(self, report, played, tunings, keep):
+    def __init__(self, report: BinaryIO | None, played: BinaryIO | None, tunings: BinaryIO | None, keep: str) -> None:
         self.report, self.played, self.tunings, self.keep = report, played, tunings, keep
 
-    def empty(self):
+    def empty(self) -> None:
         """Empties its files, which are made anew; a device and a pipe have nothing to lose."""
         for file in filter(None, (self.report, self.played, self.tunings)):
             if stat.S_ISREG(os.fstat(file.fileno()).st_mode):
                 file.truncate(0)
 
 
-def not_written(options, air):
+def not_written(options: Namespace, air: Sequence[Sequence[Channel]]) -> list[tuple[os.stat_result, str]]:
     """What nothing is written over: each file, and what it is."""
     recordings = [(os.fstat(one.recording.file), "the recording") for channels in air for one in channels]
     return recordings + [(os.stat(file), "the file of channels") for _, file, _ in adapters_in(options) if file is not None]
 
 
-def made(path, option, others, opened):
+def made(path: str, option: str, others: list[tuple[os.stat_result, str]], opened: contextlib.ExitStack) -> BinaryIO:
     """Opens a file to be written, which is none of these others, and from now on one of them. A device or a pipe may be."""
     file = opened.enter_context(open(path, "ab"))
     there = os.fstat(file.fileno())
@@ -179,55 +191,60 @@ def made(path, option, others, opened):
     return file
 
 
-def report_of(options):
+def report_of(options: Namespace) -> str | None:
     """Where the report goes; None where there is none, or on standard output. Where no word says so an older report is written over, and
     nothing else."""
     if options.keep != "all" or options.report == "-":
         return None
-    return options.report or REPORT
+    named_so: str | None = options.report
+    return named_so or REPORT
 
 
-def see_old(path):
+def see_old(path: str) -> None:
     """Sees that a file which no word names may be written: what is there is a report."""
     try:
         is_report = stat.S_ISREG(os.stat(path).st_mode)
-        with open(path, "rb") if is_report else contextlib.nullcontext() as file:
-            is_report = is_report and file.read(len(BEGINS)) in (b"", BEGINS)
+        if is_report:
+            with open(path, "rb") as file:
+                is_report = file.read(len(BEGINS)) in (b"", BEGINS)
     except FileNotFoundError:
         is_report = True
     if not is_report:
         raise Stopped(f"{path} is no report, and isn't written over: --report FILE names another file")
 
 
-def keep_of(options, number, count):
+def keep_of(options: Namespace, number: int, count: int) -> str:
     """What is kept of an adapter's calls: where a folder is, it is made, and has to be empty."""
-    if options.keep in ("all", "none"):
-        return options.keep
-    path = os.path.abspath(options.keep if count == 1 else os.path.join(options.keep, str(number)))
+    keep: str = options.keep
+    if keep in ("all", "none"):
+        return keep
+    path = os.path.abspath(keep if count == 1 else os.path.join(keep, str(number)))
     os.makedirs(path, exist_ok=True)
     if os.listdir(path):
         raise Stopped(f"{path} isn't empty")
     return path
 
 
-def outs_of(options, air, opened):
+def outs_of(options: Namespace, air: Sequence[Sequence[Channel]], opened: contextlib.ExitStack) -> list[Outs]:
     """What is written of each adapter. It is opened before anything is built, and emptied behind that."""
     if options.report == "-" and len(air) > 1:
         raise Stopped("of several adapters the reports need --report FILE")
-    others, outs, count = not_written(options, air), [], len(air)
+    others, count = not_written(options, air), len(air)
+    outs: list[Outs] = []
     for number, channels in enumerate(air):
         keep = keep_of(options, number, count)
         report, played = (named(path, number, count) for path in (report_of(options), options.played))
         if report and not options.report:
             see_old(report)
         tunings = f"{report}.tunings" if report and any(channel.frequency is not None for channel in channels) else None
-        files = [made(path, option, others, opened) if path else None
-                 for path, option in ((report, "--report"), (played, "--played"), (tunings, "--report"))]  # fmt: skip
-        outs.append(Outs(*files, keep))
+        files = (made(path, option, others, opened) if path else None
+                 for path, option in ((report, "--report"), (played, "--played"), (tunings, "--report")))  # fmt: skip
+        report_file, played_file, tunings_file = files
+        outs.append(Outs(report_file, played_file, tunings_file, keep))
     return outs
 
 
-def tell_end(options, count, adapters, status):
+def tell_end(options: Namespace, count: int, adapters: Sequence[Adapter], status: int) -> None:
     """Says where the report is, where no word has, and of a command that no signal has ended that nobody has opened an adapter."""
     if status < 128 and not any(adapter.was_opened() for adapter in adapters):
         print("dvbemu serve: no program opened the adapter; one that is linked statically, made by Go, setuid or of 32 bits doesn't see it",
@@ -239,9 +256,10 @@ def tell_end(options, count, adapters, status):
         print(f"dvbemu serve: the report is {REPORT}{last}; `dvbemu explain {REPORT}{last[:2]}` tells it", file=sys.stderr)
 
 
-def serve(options, command, air, folder, outs, server):
+def serve(options: Namespace, command: Sequence[str], air: Sequence[Sequence[Channel]], folder: Folder, outs: Sequence[Outs], server: Sequence[str]) -> int:
     """Runs the command beside the servers, and says how it ended."""
-    signals, adapters = Signals(), []
+    signals = Signals()
+    adapters: list[Adapter] = []
     adopt()
     for out in outs:
         out.empty()
@@ -249,7 +267,7 @@ def serve(options, command, air, folder, outs, server):
         for place, channels, out in zip(folder.adapters, air, outs):
             adapters.append(Adapter(server, place, channels, options, out))
         for adapter in adapters:
-            adapter.feeder.on_fault = lambda: signals.command and signals.command.terminate()
+            adapter.feeder.on_fault = signals.end_command
             adapter.start()
         status = run_command(command, folder, signals)
         end_all_but({adapter.server.pid for adapter in adapters}, folder)
@@ -264,7 +282,7 @@ def serve(options, command, air, folder, outs, server):
     return status
 
 
-def main():
+def main() -> int:
     """Does what the words ask for. The server and what feeds it are told of a program that has gone by a write that fails."""
     for end in range(3):
         # (where one is closed nothing else comes in its place in what is started either)
@@ -284,7 +302,8 @@ def main():
             build_preload()
             server = built_server()
             folder = Folder(len(air))
-            return serve(options, command, air, folder, outs, server)
+            status = serve(options, command, air, folder, outs, server)
+        return status
     except Interrupted as fault:
         known.exit(fault.status, f"{known.teller}: {fault}\n")
     except OSError as fault:

@@ -9,12 +9,20 @@ over these lines, and does the calls as its threads come.
 STREAM is what was played: it is repeated until it has the report's packets, and has to have as many of each PID as that. With --report it
 writes, in place of the session, the report with the line numbers of that script, for `check`, which asks that both agree.
 """
+from __future__ import annotations
+
 import re
 import sys
-from typing import NamedTuple
+from typing import TYPE_CHECKING, NamedTuple
 
 from ..explain import played
 from .. import tool
+
+if TYPE_CHECKING:
+    from typing import Iterable, Iterator, Mapping, Sequence, Tuple
+
+    # A call's client and step.
+    Key = Tuple[str, int]
 
 
 HEAD = re.compile(r"packets=(\d+) skipped=(\d+) rest=(\d+)$")
@@ -28,10 +36,20 @@ class Command(NamedTuple):
     who: str
     node: str
     act: str
-    calls: list
+    calls: list[Key]
 
 
-def line_of(command):
+class Histories(NamedTuple):
+    """The entries of each node: client and step of a call, and None for a pass; the node and the act of each call; the calls that find
+    a node taken; and the passes."""
+
+    nodes: dict[str, list[Key | None]]
+    acts: dict[Key, tuple[str, str]]
+    busy: set[Key]
+    passes: list[str]
+
+
+def line_of(command: Command) -> str:
     """The command as a line of a script. An open of a demux node looked for a free one."""
     target = command.node if command.node == "dvr" else f"n{command.node}"
     words = [word for word in command.act.split(" ") if not word.startswith("at=")]
@@ -47,30 +65,30 @@ def line_of(command):
     return " ".join([command.who, words[0], target, *rest])
 
 
-def histories_in(lines):
-    """The entries of each node: client and step of a call, and None for a pass; the node and the act of each call; the calls that find
-    a node taken; and the passes."""
-    node, nodes, acts, busy, passes = None, {}, {}, set(), {}
+def histories_in(lines: Iterable[str]) -> Histories:
+    """The histories of the nodes in a report."""
+    found, node, passes = Histories({}, {}, set(), []), None, {}
     for text in lines:
         entry = re.match(r"\d+ (\w+) (\d+) (.*?) = ", text)
         if text.startswith("node "):
             node = text[5:]
-            nodes[node] = []
+            found.nodes[node] = []
         elif node is not None and entry and entry[1] == "feed":
-            nodes[node].append(None)
+            found.nodes[node].append(None)
             passes[int(entry[2])] = entry[3]
         elif node is not None and entry:
             key = entry[1], int(entry[2])
-            nodes[node].append(key)
-            acts[key] = (node, entry[3])
+            found.nodes[node].append(key)
+            found.acts[key] = (node, entry[3])
             if text.startswith("busy ", entry.end()):
-                busy.add(key)
-    return nodes, acts, busy, [passes[number] for number in sorted(passes)]
+                found.busy.add(key)
+    return found._replace(passes=[passes[number] for number in sorted(passes)])
 
 
-def commands_in(lines, acts):
+def commands_in(lines: Iterable[str], acts: Mapping[Key, tuple[str, str]]) -> dict[str, list[Command]]:
     """The commands of each client."""
-    queues, who = {}, None
+    queues: dict[str, list[Command]] = {}
+    who = ""
     for text in lines:
         outcome = re.match(r"line \d+ steps (\d+)\.\.(\d+) ", text)
         if text.startswith("client "):
@@ -84,16 +102,16 @@ def commands_in(lines, acts):
 class Order:
     """Puts commands and passes into an order: how far each node, each client and the stream is."""
 
-    def __init__(self, lines):
+    def __init__(self, lines: Sequence[str]) -> None:
         self.nodes, self.acts, self.busy, self.passes = histories_in(lines)
         self.queues = commands_in(lines, self.acts)
         self.done, self.fed, self.early, self.overtaking = dict.fromkeys(self.nodes, 0), 0, 0, 0
 
-    def node_of(self, call):
+    def node_of(self, call: Key) -> str:
         """The node of a call."""
         return self.acts[call][0]
 
-    def is_next(self, command):
+    def is_next(self, command: Command) -> bool:
         """Whether each call of a command is the next one on its node."""
         done = dict(self.done)
         for call in command.calls:
@@ -104,13 +122,13 @@ class Order:
         self.done = done
         return True
 
-    def ahead(self, call):
+    def ahead(self, call: Key) -> list[Key | None]:
         """What stands on a call's node in front of it and isn't done: others' calls, and None for passes."""
         node = self.node_of(call)
         keys, done = self.nodes[node], self.done[node]
         return [key for key in keys[done:keys.index(call, done)] if key is None or key[0] != call[0]]
 
-    def waited_for(self):
+    def waited_for(self) -> dict[str, set[str]]:
         """Of each client those whose calls are next on the nodes of its next command."""
         waits = {}
         for who, queue in self.queues.items():
@@ -119,7 +137,7 @@ class Order:
             waits[who] = {front[0] for front in fronts if front} - {who}
         return waits
 
-    def crossed(self):
+    def crossed(self) -> Command | None:
         """A command that waits for others which wait for it, as searches for a free node that overtake each other do: that in front of
         whose calls no pass stands, and which overtakes the fewest calls, but for those that find a node taken as it does."""
         waits, costs = self.waited_for(), []
@@ -134,7 +152,7 @@ class Order:
                     costs.append((sum(not self.busy.issuperset(pair) for pair in over), who))
         return self.queues[min(costs)[1]][0] if costs else None
 
-    def come_first(self, command):
+    def come_first(self, command: Command) -> None:
         """Each call of a command is the next one on its node, where it may come earlier than it did."""
         for call in command.calls:
             node = self.node_of(call)
@@ -143,7 +161,7 @@ class Order:
             keys.insert(at, keys.pop(keys.index(call, at)))
             self.done[node] += 1
 
-    def feed(self):
+    def feed(self) -> None:
         """A batch passes all nodes: on one where a call is next, it does so earlier than it did."""
         for node, keys in self.nodes.items():
             at = self.done[node]
@@ -153,7 +171,7 @@ class Order:
             self.done[node] += 1
         self.fed += 1
 
-    def steps(self):
+    def steps(self) -> Iterator[Command | str]:
         """The commands, and in between the acts of passes."""
         while any(self.queues.values()):
             ready = next((who for who, queue in self.queues.items() if queue and self.is_next(queue[0])), None)
@@ -167,30 +185,31 @@ class Order:
                 yield self.queues[ready].pop(0)
 
 
-def moment_in(act):
+def moment_in(act: str) -> int | None:
     """The moment of an act, if it has one."""
     found = re.search(r"\bat=(\d+)", act)
     return int(found[1]) if found else None
 
 
-def packets_in(act):
+def packets_in(act: str) -> int:
     """How many packets pass. The end of the stream passes where one is wanted that isn't there."""
     found = re.search(r"\bcount=(\d+)", act)
     return int(found[1]) if found else 1
 
 
-def script_of(lines):
+def script_of(lines: Sequence[str]) -> tuple[list[str], dict[str, list[int]]]:
     """The lines of the script, and the number of the line of each client's commands."""
     order = Order(lines)
     timed = any(re.match(r"section pid=\d+ timeout=[1-9]", act) for _, act in order.acts.values())
-    script, numbers, now = [], {}, None
+    script: list[str] = []
+    numbers: dict[str, list[int]] = {}
+    now = None
     for step in order.steps():
-        is_pass = isinstance(step, str)
-        moment = moment_in(step if is_pass else step.act) if timed else None
+        moment = moment_in(step if isinstance(step, str) else step.act) if timed else None
         if moment is not None and now is not None and moment > now:
             script.append(f"tick {moment - now}")
         now = max(now or 0, moment) if moment is not None else now
-        if is_pass:
+        if isinstance(step, str):
             before = int(script.pop()[5:]) if script and script[-1].startswith("feed ") else 0
             script.append(f"feed {before + packets_in(step)}")
             continue
@@ -203,9 +222,9 @@ def script_of(lines):
     return script, numbers
 
 
-def rewritten(lines, numbers):
+def rewritten(lines: Iterable[str], numbers: dict[str, list[int]]) -> list[str]:
     """The report with the line numbers of the script."""
-    last, told, who = max((int(who[1:]) for who in numbers), default=-1), [], None
+    last, told, who = max((int(who[1:]) for who in numbers), default=-1), [], ""
     for text in lines:
         outcome = re.match(r"line \d+ (steps .*)", text)
         if text.startswith("client "):
@@ -217,7 +236,7 @@ def rewritten(lines, numbers):
     return told
 
 
-def why_not_served(lines, order):
+def why_not_served(lines: Iterable[str], order: Order) -> str | None:
     """Why a report is none of `serve`; nothing where it may be one. There each client counts its commands from 1, and each of them is one call
     with what that changes of the taps, or opens demux0 and looks for a free node."""
     numbers = []
@@ -239,7 +258,7 @@ def why_not_served(lines, order):
     return None
 
 
-def command():
+def command() -> tool.Command:
     """The command and its words."""
     words = tool.Command(
         "session",
@@ -256,7 +275,7 @@ def command():
     return words
 
 
-def lines_of(words, name):
+def lines_of(words: tool.Command, name: str) -> list[str]:
     """The lines of a report that a session can be made of."""
     report = words.bytes_of(name)
     lines = report.decode("latin-1").split("\n")
@@ -271,17 +290,17 @@ def lines_of(words, name):
     return lines
 
 
-def packets_of(words, lines, name):
+def packets_of(words: tool.Command, lines: Sequence[str], name: str) -> Iterable[bytes]:
     """The packets that were played."""
     counts = {int(found[1]): int(found[2]) for found in map(PID_ROW.match, lines) if found}
-    head = tuple(map(int, HEAD.match(lines[1]).groups()))
+    all_packets, skipped, rest = map(int, re.findall(r"\d+", lines[1]))
     try:
-        return played.of_recording(words.bytes_of(name), head, counts)
+        return played.of_recording(words.bytes_of(name), (all_packets, skipped, rest), counts)
     except played.NotPlayed as wrong:
         return words.fail_on(name, wrong)
 
 
-def main():
+def main() -> None:
     """Writes the session, or the report."""
     words = command()
     given = words.parse_args()

@@ -4,8 +4,10 @@ A test is NAME.session, or NAME.script with NAME.ts beside it if there is one, a
 with, where they aren't `steps`. By `steps` the report is the same each time, byte for byte. By `run` it isn't: there the report that was
 kept must be one of a run of the session, as `check` says.
 """
+from __future__ import annotations
+
 import os
-from typing import NamedTuple
+from typing import TYPE_CHECKING, NamedTuple
 
 from .. import tool
 from .. import cli
@@ -13,6 +15,9 @@ from .. import inputs
 from .. import shares
 from .. import spawned
 from .. import standard
+
+if TYPE_CHECKING:
+    from argparse import Namespace
 
 # The columns that are shown of a line.
 SHOWN = 100
@@ -27,9 +32,9 @@ class Test(NamedTuple):
 
     name: str
     path: str
-    words: list
+    words: list[str]
 
-    def session(self):
+    def session(self) -> bytes:
         """The bytes of its session."""
         names = [self.path + ".session"]
         if not os.path.exists(names[0]):
@@ -39,7 +44,7 @@ class Test(NamedTuple):
         except inputs.Broken as fault:
             raise Failed(str(fault)) from None
 
-    def kept(self):
+    def kept(self) -> bytes | None:
         """The report that was kept; None where there is none."""
         try:
             with open(self.path + ".report", "rb") as file:
@@ -49,13 +54,13 @@ class Test(NamedTuple):
         except OSError as fault:
             raise Failed(f"{fault.filename}: {fault.strerror}") from None
 
-    def packet(self):
+    def packet(self) -> int:
         """What a packet takes up in the stream."""
         words = " ".join(self.words).replace("=", " ").split()
         return int(words[words.index("--packet") + 1]) if "--packet" in words else 188
 
 
-def command():
+def command() -> tool.Command:
     """The command and its words."""
     words = tool.Command(
         "test",
@@ -76,7 +81,7 @@ def command():
     return words
 
 
-def stems_below(words, path):
+def stems_below(words: tool.Command, path: str) -> list[str]:
     """The files of tests below a folder, without their endings, or the one that is named."""
     if os.path.isfile(path) and path.endswith((".session", ".script")):
         return [os.path.splitext(path)[0]]
@@ -86,7 +91,7 @@ def stems_below(words, path):
             if name.endswith((".session", ".script"))]  # fmt: skip
 
 
-def tests_of(words, given):
+def tests_of(words: tool.Command, given: Namespace) -> list[Test]:
     """The tests that are asked for, by their names."""
     plain = ["steps"]
     for name in "batch", "packet":
@@ -103,13 +108,13 @@ def tests_of(words, given):
     return [found[stem] for stem in sorted(found)]
 
 
-def ended(word, status, told):
+def ended(word: str, status: int, told: bytes) -> str:
     """How the program has ended, and what it told."""
     lines = told.decode(errors="replace").strip().split("\n")
     return ": ".join(filter(None, [f"{word} {spawned.how(status)}", " ".join(map(str.strip, lines[:2]))]))
 
 
-def written_by(program, test, session):
+def written_by(program: str, test: Test, session: bytes) -> bytes:
     """The report that a test's session gives."""
     if test.words[0] not in ("steps", "run"):
         raise Failed(f"{test.path}.words: expected steps or run, found {test.words[0]}")
@@ -119,7 +124,7 @@ def written_by(program, test, session):
     return report
 
 
-def checked(program, test, session, report):
+def checked(program: str, test: Test, session: bytes, report: bytes) -> tuple[bool, bytes]:
     """Whether `check` says yes of a report, and what it tells if it doesn't."""
     words = ["check", "--packet", str(test.packet())]
     asked = b"report %d\n" % len(report), report, session
@@ -129,13 +134,13 @@ def checked(program, test, session, report):
     return answer == b"yes\n", told
 
 
-def cut(line, other):
+def cut(line: str, other: str) -> str:
     """A line for a reader: of a long one the part from where it differs."""
     first = max(len(os.path.commonprefix([line, other])) - SHOWN // 2, 0) if len(line) > SHOWN else 0
     return f"{'..' * (first > 0)}{line[first : first + SHOWN]}{'..' * (len(line) > first + SHOWN)}"
 
 
-def first_difference(report, other, words):
+def first_difference(report: bytes, other: bytes, words: list[str]) -> str:
     """The first line in which a report differs from another one."""
     one, two = (text.decode(errors="replace").split("\n") for text in (report, other))
     at = next((at for at, pair in enumerate(zip(one, two)) if pair[0] != pair[1]), min(len(one), len(two)))
@@ -143,7 +148,7 @@ def first_difference(report, other, words):
     return f"line {at + 1}: {cut(stands, gives)}; {' '.join(words)} gives {cut(gives, stands)}"
 
 
-def difference(program, test, session, kept, report):
+def difference(program: str, test: Test, session: bytes, kept: bytes, report: bytes) -> str:
     """What a report that was kept has wrong: by the rules; or, where it is one of another run, by what was written now. Nothing where it
     is one of another run, and may be."""
     is_right, told = checked(program, test, session, kept)
@@ -153,7 +158,7 @@ def difference(program, test, session, kept, report):
     return "" if test.words[0] == "run" else first_difference(kept, report, test.words)
 
 
-def keep(path, report):
+def keep(path: str, report: bytes) -> None:
     """Writes a report anew."""
     try:
         with open(path, "wb") as file:
@@ -162,7 +167,7 @@ def keep(path, report):
         raise Failed(f"{path}: {fault.strerror}") from None
 
 
-def tried(program, test, is_updated):
+def tried(program: str, test: Test, is_updated: bool) -> str:
     """What becomes of a test: + where it passes, or -, and behind that why it failed, or what was written anew."""
     try:
         session, kept = test.session(), test.kept()
@@ -180,7 +185,7 @@ def tried(program, test, is_updated):
         return f"-{standard.told_of(fault)[0]}"
 
 
-def tell_jobs(words, given):
+def tell_jobs(words: tool.Command, given: Namespace) -> int:
     """Tells how the jobs of a log have ended, as of tests that were run."""
     if given.paths:
         words.error(f"unrecognized arguments: {given.paths[0]}")
@@ -198,7 +203,7 @@ def tell_jobs(words, given):
     return 1 if failed or not jobs else 0
 
 
-def main():
+def main() -> int:
     """Runs the tests."""
     words = command()
     given = words.parse_args()
@@ -209,14 +214,14 @@ def main():
     tests = tests_of(words, given)
     if not tests:
         words.fail(f"{', '.join(given.paths)}: there is no NAME.session and no NAME.script")
-    program = cli.program_for("steps")
-    if program is None:
+    if (built := cli.program_for("steps")) is None:
         return 1
+    program = built
     print(f"1..{len(tests)}", flush=True)
     told, failed = 0, 0
     # (the texts first, so that at their end the processes are waited for)
-    for text, test in zip(shares.done(tests, lambda test: tried(program, test, given.update)), tests):
-        text = text or "-its process has ended before it had told of it"
+    for answer, test in zip(shares.done(tests, lambda test: tried(program, test, given.update)), tests):
+        text = answer or "-its process has ended before it had told of it"
         told, failed = told + 1, failed + (text[:1] == "-")
         print(f"{'not ' if text[:1] == '-' else ''}ok {told} - {test.name}")
         print(f"# {text[1:]}\n" if text[1:] else "", end="", flush=True)

@@ -6,6 +6,9 @@ is told, as those behind it may be wrong because of it. The rules are gone throu
 megabyte and more the program's `check` is asked first, where it is built: what is right is then told at once, and of what is wrong it is
 known where it stands (tools/lib/reasons.py).
 """
+from __future__ import annotations
+
+from typing import TYPE_CHECKING
 
 
 from .. import tool
@@ -17,13 +20,16 @@ from .. import progress
 from .. import reasons
 from ..oracle import second
 
+if TYPE_CHECKING:
+    from ..oracle.judge import Bad
+
 RIGHT = "right: it is a report of a run of this session"
 # The bytes of a report from which on `check` is asked first.
 LONG = 1_000_000
 NO_STREAM = ", no line is 'stream'"
 
 
-def command():
+def command() -> tool.Command:
     """The command and its words."""
     words = tool.Command(
         "why",
@@ -41,7 +47,7 @@ def command():
     return words
 
 
-def first_wrong(report, session, packet, work):
+def first_wrong(report: bytes, session: bytes, packet: int, work: progress.Work) -> Bad | str | None:
     """What is wrong first with a report; None where nothing is."""
     program = cli.built_program() if len(report) >= LONG else None
     work.begin(reasons.LOOKS)
@@ -53,7 +59,7 @@ def first_wrong(report, session, packet, work):
     return None if run.output == b"yes\n" else reasons.wrong(session, report, packet, run.told, work)
 
 
-def main():
+def main() -> int:
     """Tells what is wrong with the first file, as a report of the session that the others hold."""
     words = command()
     given = words.parse_args()

@@ -3,13 +3,15 @@
 What is read stands in tools/lib/naming.py; what it can't read is told with its line and word, as the program does. Behind the line
 `stream` all bytes are written as they are.
 """
+from __future__ import annotations
+
 import sys
 
 from .. import tool
 from .. import naming
 
 
-def command():
+def command() -> tool.Command:
     """The command and its words."""
     words = tool.Command(
         "words",
@@ -25,7 +27,7 @@ def command():
     return words
 
 
-def cut(text):
+def cut(text: bytes) -> tuple[bytes, bytes]:
     """The script in front of its line `stream`, in any spelling, and what stands from there on."""
     place = 0
     while place < len(text):
@@ -36,7 +38,7 @@ def cut(text):
     return text, b""
 
 
-def main():
+def main() -> None:
     """Writes the plain script."""
     words = command()
     given = words.parse_args()

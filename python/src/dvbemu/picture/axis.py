@@ -4,8 +4,21 @@ calls, in the order of each node and of each client.
 A call stands behind the batches that had passed its node. So in a report of `run`, where a batch passes one node after another,
 two calls on two nodes can stand on two sides of a batch though they came the other way round; those on one node never do.
 """
+from __future__ import annotations
+
+from typing import TYPE_CHECKING
 from .. import reports
 from .svg import LEFT, STRIP, WIDTH
+
+if TYPE_CHECKING:
+    from typing import Callable, Iterable, Tuple, TypeVar, Union
+
+    from ..reports import Entry, Outcome, Report
+
+    T = TypeVar("T")
+    # A call's step, or that of a command that makes none; and a call's client and step.
+    Step = Union[int, Tuple[int, int]]
+    Call = Tuple[int, Step]
 
 COLUMN, CELL, MOST_DENSE = 42, 24, 4
 
@@ -13,20 +26,23 @@ COLUMN, CELL, MOST_DENSE = 42, 24, 4
 class Gap:
     """The calls between two batches: those of each node and those of each client, in their order."""
 
-    def __init__(self):
-        self.nodes, self.clients, self.width = {}, {}, 0
+    def __init__(self) -> None:
+        self.nodes: dict[int, list[Call]] = {}
+        self.clients: dict[int, list[tuple[Step, int | None]]] = {}
+        self.width = 0
 
-    def add(self, node, client, step):
+    def add(self, node: int | None, client: int, step: Step) -> None:
         """Adds a call; node is None for a command that makes none, whose step is a pair: the step before it, and its number."""
         if node is not None:
             self.nodes.setdefault(node, []).append((client, step))
         self.clients.setdefault(client, []).append((step, node))
 
-    def place(self):
+    def place(self) -> dict[Call, int]:
         """A place from 0 on for each call, greater than those of the calls before it on its node and by its client."""
         waiting = {node: list(reversed(calls)) for node, calls in self.nodes.items()}
         own = {client: sorted(calls, key=order_of, reverse=True) for client, calls in self.clients.items()}
-        places, behind = {}, {}
+        places: dict[Call, int] = {}
+        behind: dict[tuple[str, int], int] = {}
         while any(own.values()):
             if not self.place_some(waiting, own, places, behind):
                 self.place_rest(waiting, own, places)
@@ -34,7 +50,7 @@ class Gap:
         self.width = max(places.values(), default=-1) + 1
         return places
 
-    def place_some(self, waiting, own, places, behind):
+    def place_some(self, waiting: dict[int, list[Call]], own: dict[int, list[tuple[Step, int | None]]], places: dict[Call, int], behind: dict[tuple[str, int], int]) -> bool:
         """Places the calls that are the next ones of their client and their node; tells whether there was one."""
         has_placed = False
         for client, calls in own.items():
@@ -49,7 +65,7 @@ class Gap:
         return has_placed
 
     @staticmethod
-    def place_rest(waiting, own, places):
+    def place_rest(waiting: dict[int, list[Call]], own: dict[int, list[tuple[Step, int | None]]], places: dict[Call, int]) -> None:
         """Places what is left in the order of its node alone: in no report of a program is each of two callers before the other."""
         place = max(places.values(), default=-1) + 1
         commands = [(client, step) for client, calls in own.items() for step, node in reversed(calls) if node is None]
@@ -58,7 +74,7 @@ class Gap:
             place += 1
 
 
-def order_of(call):
+def order_of(call: tuple[Step, int | None]) -> tuple[int, ...]:
     """Where a call stands among those of its client: a command that makes none behind the call of the step before it."""
     return call[0] if isinstance(call[0], tuple) else (call[0],)
 
@@ -66,10 +82,11 @@ def order_of(call):
 class Axis:
     """The columns from left to right. Where there are too many they are gathered in cells, and narrower."""
 
-    def __init__(self, report, width=WIDTH):
+    def __init__(self, report: Report, width: float = WIDTH) -> None:
         self.width = width
         self.gaps = self.gaps_of(report)
-        self.calls, starts, column = {}, [], 0
+        self.calls: dict[Call, int] = {}
+        starts, column = [], 0
         for gap in self.gaps:
             self.calls.update({call: column + place for call, place in gap.place().items()})
             starts.append(column)
@@ -81,7 +98,7 @@ class Axis:
         self.right = self.edges[-1]
         self.cuts = self.strips()
 
-    def gaps_of(self, report):
+    def gaps_of(self, report: Report) -> list[Gap]:
         """The calls between the batches, and the commands that make none, or none that a node has."""
         found, seen = [Gap()], {}
         for node, entries in report.nodes.items():
@@ -103,17 +120,17 @@ class Axis:
         return found
 
     @staticmethod
-    def step_of(outcome, number):
+    def step_of(outcome: Outcome, number: int) -> tuple[int, int]:
         """A step for a command that makes no call: the step before it, and its number."""
         return outcome.first - 1, number
 
-    def command(self, client, number, outcome):
+    def command(self, client: int, number: int, outcome: Outcome) -> tuple[int, int]:
         """The first and the last column of a command. One whose calls no node has stands where one without calls does."""
         columns = [self.calls[client, step] for step in ends_of(outcome) if (client, step) in self.calls]
         columns = columns or [self.calls.get((client, self.step_of(outcome, number)), 0)]
         return min(columns), max(columns)
 
-    def columns_of(self, entries):
+    def columns_of(self, entries: Iterable[Entry]) -> list[int]:
         """The column of each entry of a node."""
         found, passed = [], 0
         for entry in entries:
@@ -126,12 +143,12 @@ class Axis:
 
     # ------ from columns to places on the paper
 
-    def plain_edges(self):
+    def plain_edges(self) -> list[float]:
         """The edges of columns that all have the same width."""
         wide = min(COLUMN, self.width / max(self.count, 1))
         return [LEFT + wide * column for column in range(self.count + 1)]
 
-    def gathered_edges(self):
+    def gathered_edges(self) -> list[float]:
         """The edges of columns that are too many. The calls before the first batch and behind End, and those of a few gaps that
         have far more than the others, get zones of their own, together at most half of the width; each batch has as much as the
         others."""
@@ -140,7 +157,7 @@ class Axis:
         pool = max(min(columns * CELL, self.width / 2), self.width - sum(self.gaps[number].width * CELL for number in dense))
         zones = shares({number: self.gaps[number].width * CELL for number in dense}, self.width - min(pool, columns * CELL))
         unit = min(pool, columns * CELL) / max(len(self.batches), 1)
-        edges = [LEFT]
+        edges: list[float] = [LEFT]
         for number, gap in enumerate(self.gaps):
             if number in dense:
                 edges += parts(edges[-1], zones[number], gap.width)
@@ -148,87 +165,90 @@ class Axis:
             edges += parts(edges[-1], unit if number < len(self.batches) else 0, inside)
         return edges
 
-    def strips(self):
+    def strips(self) -> list[float]:
         """Where the strips end, each at an edge of a cell; the last one with the columns."""
-        cells = [LEFT + CELL * cell for cell in range(1, int((self.right - LEFT) // CELL) + 1)] if self.gathers else self.edges[1:]
-        found, begin = [], LEFT
+        cells = self.edges[1:]
+        if self.gathers:
+            cells = [LEFT + CELL * cell for cell in range(1, int((self.right - LEFT) // CELL) + 1)]
+        found: list[float] = []
+        begin: float = LEFT
         for edge, behind in zip(cells, [*cells[1:], self.right]):
             if behind - begin > STRIP and self.right - begin > STRIP:
                 found.append(edge)
                 begin = edge
         return [*found, self.right]
 
-    def end_of_strip(self, x):
+    def end_of_strip(self, x: float) -> float:
         """Where the strip ends in which a place is."""
         return next((cut for cut in self.cuts if cut > x), self.right)
 
-    def seen(self, x, to):
+    def seen(self, x: float, to: float) -> list[tuple[float, float]]:
         """What each strip shows of what is drawn between two places."""
         edges = [x, *(cut for cut in self.cuts if x < cut < to), to]
         return list(zip(edges, edges[1:]))
 
-    def dense_gaps(self):
+    def dense_gaps(self) -> list[int]:
         """The first and the last gap, and at most four others that have far more calls than most."""
         usual = sorted(gap.width for gap in self.gaps)[len(self.gaps) // 2]
         most = sorted(range(1, len(self.gaps) - 1), key=lambda number: -self.gaps[number].width)[:MOST_DENSE]
         inner = [number for number in most if self.gaps[number].width >= max(4, 3 * usual)]
         return sorted({0, len(self.gaps) - 1, *inner})
 
-    def left(self, column):
+    def left(self, column: int) -> float:
         """The left edge of a column."""
         return self.edges[column]
 
-    def middle(self, column):
+    def middle(self, column: int) -> float:
         """The middle of a column."""
         return (self.edges[column] + self.edges[column + 1]) / 2
 
-    def cell(self, column):
+    def cell(self, column: int) -> int:
         """The number of the cell that a column falls into."""
         return int((self.middle(column) - LEFT) // CELL) if self.gathers else column
 
-    def cell_middle(self, cell):
+    def cell_middle(self, cell: int) -> float:
         """The middle of a cell."""
         return LEFT + (cell + 0.5) * CELL if self.gathers else self.middle(cell)
 
-    def cell_width(self):
+    def cell_width(self) -> float:
         """The width of a cell."""
         return CELL if self.gathers else self.edges[1] - self.edges[0]
 
-    def gather(self, things, column_of):
+    def gather(self, things: Iterable[T], column_of: Callable[[T], int]) -> list[tuple[int, list[T]]]:
         """Lists of the things that fall into the same cell, by the cell, from left to right."""
-        found = {}
+        found: dict[int, list[T]] = {}
         for thing in things:
             found.setdefault(self.cell(column_of(thing)), []).append(thing)
         return sorted(found.items())
 
 
-def ends_of(outcome):
+def ends_of(outcome: Outcome) -> tuple[int, ...]:
     """The first and the last step of a command; none where it makes no call."""
     return (outcome.first, outcome.after - 1) if outcome.first < outcome.after else ()
 
 
-def parts(begin, wide, count):
+def parts(begin: float, wide: float, count: int) -> list[float]:
     """The right edges of so many equal parts."""
     return [begin + wide * (part + 1) / count for part in range(count)]
 
 
-def shares(wanted, room):
+def shares(wanted: dict[int, float], room: float) -> dict[int, float]:
     """How much of the room each gets that wants so much: what is left by those that want less goes to the others."""
-    given = {}
-    for key in sorted(wanted, key=wanted.get):
+    given: dict[int, float] = {}
+    for key in sorted(wanted, key=wanted.__getitem__):
         given[key] = min(wanted[key], (room - sum(given.values())) / (len(wanted) - len(given)))
     return given
 
 
-def moments_of(report, axis):
+def moments_of(report: Report, axis: Axis) -> list[tuple[int, int]]:
     """The columns at which the moment rises, each with the moment."""
-    found = {}
+    found: dict[int, int] = {}
     for entries in report.nodes.values():
         for entry, column in zip(entries, axis.columns_of(entries)):
             at = reports.moment(entry)
             if at is not None:
                 found[column] = max(at, found.get(column, 0))
-    changes = []
+    changes: list[tuple[int, int]] = []
     for column, at in sorted(found.items()):
         if not changes or at > changes[-1][1]:
             changes.append((column, at))

@@ -2,15 +2,20 @@
 
 All is drawn once, on one long axis. Where that is wider than a strip, each strip shows its part of it, with the names at the left.
 """
+from __future__ import annotations
+
 import re
-from typing import NamedTuple
+from typing import TYPE_CHECKING, NamedTuple
 from xml.sax.saxutils import quoteattr
 
 from .axis import Axis
 from .lanes import lanes_of
 from .marks import legend
-from .strip import Strip, least_width
+from .strip import Part, Strip, least_width
 from .svg import GREY, LEFT, RIGHT, WHITE, WIDTH, fixed, rect
+
+if TYPE_CHECKING:
+    from ..reports import Report
 
 PATTERN = (
     '<pattern id="untold" width="6" height="6" patternUnits="userSpaceOnUse" patternTransform="rotate(45)">'
@@ -21,24 +26,15 @@ FONT = 'font-family="DejaVu Sans, Verdana, sans-serif"'
 BETWEEN = 14
 
 
-class Part(NamedTuple):
-    """The axis with the batches, a client or a node: its name, the heights at which it begins and ends, and its shapes."""
-
-    name: str
-    top: float
-    bottom: float
-    shapes: list
-
-
 class Drawing(NamedTuple):
     """What is drawn: the axis, the shapes above all strips, those behind the parts and the parts, the legend, the heights at which the
     strips' part begins and ends and the legend begins and ends, and the width."""
 
     axis: Axis
-    head: list
-    guides: list
-    parts: list
-    legend: list
+    head: list[str]
+    guides: list[str]
+    parts: list[Part]
+    legend: list[str]
     top: float
     bottom: float
     below: float
@@ -46,19 +42,19 @@ class Drawing(NamedTuple):
     width: float
 
 
-def is_name(shape):
+def is_name(shape: str) -> bool:
     """Whether a shape is a text at a strip's left."""
     found = AT_LEFT.match(shape)
     return found is not None and float(found[1]) < LEFT
 
 
-def drawing_of(report, title, width=WIDTH):
+def drawing_of(report: Report, title: str, width: float = WIDTH) -> Drawing:
     """The shapes of a report's picture, whose columns are gathered where they'd be wider than this."""
     axis = Axis(report, width)
     strip = Strip(title, report, axis, 4)
     lanes = lanes_of(report, axis, strip.bottom)
     bottom = lanes[-1].bottom if lanes else strip.bottom
-    parts = [Part(*part) for part in strip.parts()]
+    parts = strip.parts()
     parts += [Part(lane.name, lane.y, lane.bottom, lane.draw()) for lane in lanes]
     used = strip.used.union(*(lane.used for lane in lanes), ["count"] if axis.gathers else [])
     count, top = len(axis.cuts), strip.passes_y
@@ -68,29 +64,29 @@ def drawing_of(report, title, width=WIDTH):
     return Drawing(axis, strip.head(), strip.guides(bottom), parts, told, top, bottom, below, end, width)
 
 
-def edges_of(axis):
+def edges_of(axis: Axis) -> list[tuple[float, float]]:
     """Left and right of each strip."""
     return list(zip([LEFT, *axis.cuts[:-1]], axis.cuts))
 
 
-def widest(axis):
+def widest(axis: Axis) -> float:
     """Where the widest strip ends on the paper."""
     return max(LEFT + to - x for x, to in edges_of(axis))
 
 
-def window(x, y, begin, width, drawing, name):
+def window(x: float, y: float, begin: float, width: float, drawing: Drawing, name: str) -> str:
     """A part of what is drawn, at a place of the paper."""
     high = drawing.bottom - drawing.top
     box = f'viewBox="{fixed(begin)} {fixed(drawing.top)} {fixed(width)} {fixed(high)}"'
     return f'<svg x="{fixed(x)}" y="{fixed(y)}" width="{fixed(width)}" height="{fixed(high)}" {box}><use href="#{name}"/></svg>'
 
 
-def shapes_of(drawing):
+def shapes_of(drawing: Drawing) -> list[str]:
     """All shapes of the strips."""
     return drawing.guides + [shape for part in drawing.parts for shape in part.shapes]
 
 
-def strips(drawing):
+def strips(drawing: Drawing) -> list[str]:
     """The strips below each other, where there are several."""
     shapes = shapes_of(drawing)
     names, rows = [shape for shape in shapes if is_name(shape)], [shape for shape in shapes if not is_name(shape)]
@@ -101,7 +97,7 @@ def strips(drawing):
     return found
 
 
-def picture(report, title):
+def picture(report: Report, title: str) -> str:
     """The report's picture, as the text of an SVG."""
     drawing = drawing_of(report, title)
     width, end = fixed(drawing.width), fixed(drawing.end)

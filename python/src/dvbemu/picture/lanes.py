@@ -1,23 +1,45 @@
 """The lanes of tools/picture: a node each, on the axis that all share."""
+from __future__ import annotations
+
+from typing import TYPE_CHECKING, NamedTuple
 from .. import reports
 from ..explain import unread
 from .marks import ROW, rows_of, words_of
 from .svg import (
-    BLACK, GREEN, GREY, LEAST_WIDTH, LEFT, PALE, PURPLE, RED, RIGHT, SKY, SMALL, WIDTH, Labels, counted, heading, line, path, rect,
-    short_number, side, text, width_of,
+    BLACK, GREEN, GREY, LEAST_WIDTH, LEFT, PALE, PURPLE, RED, RIGHT, SKY, SMALL, Labels, counted, heading, line, path, rect, side, text,
+    width_of,
 )  # fmt: skip
+
+if TYPE_CHECKING:
+    from typing import Iterable, Sequence, TypeVar
+
+    from ..reports import Entry, Report
+    from .axis import Axis
+    from .svg import Step
+
+    T = TypeVar("T")
 
 CHART = 68
 HALO = 'paint-order="stroke" stroke="#ffffff" stroke-width="2.5"'
 QUIET_CALLS = ("open", "close", "size")
 
 
+class Filled(NamedTuple):
+    """A column of the area of unread bytes: its edges, and the least and the most bytes in it."""
+
+    left: float
+    right: float
+    least: int
+    most: int
+
+
 class Lane:
     """The picture of one node, from the height y on. What it uses of the legend is in `used`."""
 
-    def __init__(self, node, entries, axis, y):
+    def __init__(self, node: int, entries: list[Entry], axis: Axis, y: float) -> None:
         self.name = reports.node_name(node)
-        self.node, self.entries, self.axis, self.y, self.used = node, entries, axis, y, set()
+        self.node, self.entries, self.axis, self.y = node, entries, axis, y
+        self.used: set[str] = set()
         self.columns = axis.columns_of(entries)
         self.history = unread.History(node, entries)
         self.rows = rows_of(list(zip(self.columns, entries)), axis)
@@ -29,26 +51,26 @@ class Lane:
         self.bottom = self.band_y + (ROW if self.history.captures else 0) + 10
         self.top = self.top_of_scale()
 
-    def is_quiet(self):
+    def is_quiet(self) -> bool:
         """Whether there is nothing but opens, closes, sizes and refusals."""
         calls = (entry for entry in self.entries if entry.who != "feed" and entry.reply.startswith("done "))
         return not self.history.captures and all(entry.act.partition(" ")[0] in QUIET_CALLS for entry in calls)
 
-    def left(self, place):
+    def left(self, place: int) -> float:
         """The left edge of an entry's column, or the axis' right end behind the last."""
         return self.axis.left(self.columns[place]) if place < len(self.columns) else self.axis.right
 
-    def after(self, place):
+    def after(self, place: int) -> float:
         """The right edge of an entry's column."""
         return self.axis.left(self.columns[place] + 1)
 
-    def top_of_scale(self):
+    def top_of_scale(self) -> float:
         """The number of bytes at the chart's upper edge: above the sizes where they aren't far above the fill."""
         sizes = [size for size, level in zip(self.history.sizes, self.history.high) if size and (level or not self.most)]
         largest = max(sizes, default=1)
         return largest * 1.15 if largest <= 3 * self.most or not self.most else self.most * 1.4
 
-    def draw(self):
+    def draw(self) -> list[str]:
         """All of it."""
         found = self.head()
         if self.has_chart:
@@ -61,7 +83,7 @@ class Lane:
         self.used |= {row.key for row in self.rows} | {"sign" for row in self.rows if row.left_out}
         return found + self.bands()
 
-    def head(self):
+    def head(self) -> list[str]:
         """The node's name, and what the chart leaves out."""
         words = counted(sum(entry.who != "feed" for entry in self.entries), "call")
         if not self.has_chart:
@@ -70,11 +92,11 @@ class Lane:
         name = heading(8, self.y + 18, f"node {reports.node_name(self.node)}")
         return [rule, name, text(LEFT, self.y + 18, words, 10, f'fill="{GREY}"')]
 
-    def height(self, level):
+    def height(self, level: float) -> float:
         """Where a number of bytes stands in the chart."""
         return self.chart_y + CHART * (1 - min(level, self.top) / self.top)
 
-    def axis_of_bytes(self):
+    def axis_of_bytes(self) -> list[str]:
         """The numbers at the chart's left, and its ground line."""
         ground = self.chart_y + CHART
         found = [line(LEFT, ground, self.axis.right, ground, f'stroke="{GREY}" stroke-width="0.7"')]
@@ -86,38 +108,40 @@ class Lane:
         found.append(text(8, ground, "bytes unread", 9, f'fill="{GREY}"'))
         return found
 
-    def columns_of_area(self):
+    def columns_of_area(self) -> list[Filled]:
         """Left, right, least and most bytes of each column of the area; of many entries the least and most of a point's width."""
         spans = [(self.left(place), self.left(place + 1)) for place in range(len(self.entries))]
         levels = [(low or 0, high or 0) for low, high in zip(self.history.low, self.history.high)]
         if not self.axis.gathers:
-            return [(*span, *level) for span, level in zip(spans, levels)]
-        found = {}
+            return [Filled(*span, *level) for span, level in zip(spans, levels)]
+        found: dict[int, tuple[int, int]] = {}
         for (x, to), (low, high) in zip(spans, levels):
             for point in range(int(x), max(int(x) + 1, int(to))):
                 least, most = found.get(point, (low, high))
                 found[point] = (min(least, low), max(most, high))
-        return [(point, point + 1, *found[point]) for point in sorted(found)]
+        return [Filled(point, point + 1, *found[point]) for point in sorted(found)]
 
-    def area(self):
+    def area(self) -> list[str]:
         """The area of the unread bytes: up to the least of a column in full, up to the most pale."""
         columns = self.columns_of_area()
-        found, is_pale = [], any(low != high for _, _, low, high in columns)
-        for place, look in ((3, f'fill="{SKY}" fill-opacity="0.35"'), (2, f'fill="{SKY}"')):
-            steps = [("M", columns[0][0], self.height(0))]
-            for column in columns:
-                height = self.height(column[place])
-                if steps[-1][-1] != height:
-                    steps += [("L", column[0], steps[-1][-1]), ("L", column[0], height)]
-            steps += [("L", columns[-1][1], steps[-1][-1]), ("L", columns[-1][1], self.height(0)), ("Z",)]
+        found, is_pale = [], any(column.least != column.most for column in columns)
+        most, least = [column.most for column in columns], [column.least for column in columns]
+        for levels, look in ((most, f'fill="{SKY}" fill-opacity="0.35"'), (least, f'fill="{SKY}"')):
+            height = self.height(0)
+            steps: list[Step] = [("M", columns[0].left, height)]
+            for column, level in zip(columns, levels):
+                before, height = height, self.height(level)
+                if before != height:
+                    steps += [("L", column.left, before), ("L", column.left, height)]
+            steps += [("L", columns[-1].right, height), ("L", columns[-1].right, self.height(0)), ("Z",)]
             found.append(path(steps, look))
         self.used |= {"unread"} if self.most else set()
         self.used |= {"perhaps"} if is_pale else set()
         return found if is_pale else found[1:]
 
-    def unknown(self):
+    def unknown(self) -> list[str]:
         """Where nothing tells the unread bytes."""
-        runs = []
+        runs: list[list[int]] = []
         for place, level in enumerate(self.history.high):
             if level is None:
                 if runs and runs[-1][1] == place:
@@ -132,7 +156,7 @@ class Lane:
         self.used |= {"untold"} if found else set()
         return found
 
-    def losses(self):
+    def losses(self) -> list[str]:
         """The overflow spans, with item, need and room; where several are gathered, a stripe at the chart's upper edge."""
         found, labels = [], self.labels(self.chart_y - 3, f'fill="{RED}" font-weight="bold"')
         for _, group in self.axis.gather(self.history.losses(), lambda loss: self.columns[loss.told]):
@@ -151,12 +175,12 @@ class Lane:
             found += labels.at((x + to) / 2, loss_label(group[0])) or labels.at((x + to) / 2, "lost")
         return found
 
-    def labels(self, y, look=""):
+    def labels(self, y: float, look: str = "") -> Labels:
         """Labels within the lane."""
         right = self.axis.right if len(self.axis.cuts) > 1 else max(self.axis.right + RIGHT, LEAST_WIDTH) - 6
         return Labels(y, LEFT - 4, right, look, self.axis.cuts[:-1])
 
-    def size_line(self):
+    def size_line(self) -> list[str]:
         """The line of the buffer's size; dotted at the upper edge where it is above the scale."""
         found = []
         for first, after, size in runs_of(self.history.sizes):
@@ -174,7 +198,7 @@ class Lane:
                 found += [text(begin + 4, height + 9 if is_above else height - 3, name, SMALL, HALO) for name in fitting[:1]]
         return found
 
-    def expiries(self):
+    def expiries(self) -> list[str]:
         """A line where a timeout is over."""
         found, top = [], self.chart_y if self.has_chart else self.rows_y
         labels = self.labels(top - 3)
@@ -187,7 +211,7 @@ class Lane:
 
     # ------ captures
 
-    def bands(self):
+    def bands(self) -> list[str]:
         """The captures: green while packets are offered, pale behind a stop or a timeout."""
         if not self.history.captures:
             return []
@@ -196,7 +220,7 @@ class Lane:
             found += self.band(group)
         return found
 
-    def band(self, group):
+    def band(self, group: Sequence[unread.Capture]) -> list[str]:
         """The band of a capture, or of several that are gathered."""
         y, x, to = self.band_y, self.left(group[0].begin), self.end_of(group[-1])
         quiet = to if len(group) > 1 or group[0].quiet is None else self.left(group[0].quiet)
@@ -207,7 +231,7 @@ class Lane:
         self.used |= {"capture"} if quiet >= to else {"capture", "quiet"}
         return found + (self.parts(group[0]) if len(group) == 1 else self.named([counted(len(group), "capture")], x, to))
 
-    def parts(self, capture):
+    def parts(self, capture: unread.Capture) -> list[str]:
         """What a capture takes, from which place on: a filter's PIDs, as AddPid and RemovePid have left them."""
         found, edges = [], [self.left(place) for place, _ in capture.labels] + [self.end_of(capture)]
         kind = "" if capture.kind == "dvr" else f"{capture.kind} of "
@@ -220,7 +244,7 @@ class Lane:
             found += names
         return found
 
-    def named(self, names, x, to):
+    def named(self, names: Sequence[str], x: float, to: float) -> list[str]:
         """The first of the names that fits in between, in each strip."""
         found = []
         for begin, end in self.axis.seen(x, to):
@@ -228,7 +252,7 @@ class Lane:
             found += [text(begin + 3, self.band_y + 12, name, SMALL) for name in fitting[:1]]
         return found
 
-    def end_of(self, capture):
+    def end_of(self, capture: unread.Capture) -> float:
         """Where a capture's band ends."""
         return self.axis.right if capture.end is None else self.left(capture.end)
 
@@ -236,7 +260,7 @@ class Lane:
 class Quiet:
     """The nodes on which nothing was done but opens, closes, sizes and refusals, in one lane."""
 
-    def __init__(self, lanes, axis, y):
+    def __init__(self, lanes: Sequence[Lane], axis: Axis, y: float) -> None:
         self.lanes, self.axis, self.y, self.name = lanes, axis, y, ranges([lane.node for lane in lanes])
         placed = [pair for lane in lanes for pair in zip(lane.columns, lane.entries)]
         self.calls = [(column, entry) for column, entry in placed if entry.who != "feed"]
@@ -244,9 +268,9 @@ class Quiet:
         self.bottom = y + 36 + sum(row.height for row in self.rows)
         self.used = {row.key for row in self.rows}
 
-    def draw(self):
+    def draw(self) -> list[str]:
         """The nodes' names, what was called, and where it was refused."""
-        counts = {}
+        counts: dict[str, int] = {}
         for _, entry in self.calls:
             name = entry.act.partition(" ")[0] if entry.reply.startswith("done ") else entry.reply.partition(" ")[0]
             counts[name] = counts.get(name, 0) + 1
@@ -262,9 +286,9 @@ class Quiet:
         return found
 
 
-def ranges(numbers):
+def ranges(numbers: Iterable[int]) -> str:
     """Nodes in words: `n1 to n3, n7, dvr`."""
-    runs = []
+    runs: list[list[int]] = []
     for number in sorted(numbers):
         if runs and runs[-1][1] == number - 1 and number != reports.DVR:
             runs[-1][1] = number
@@ -274,7 +298,7 @@ def ranges(numbers):
     return ", ".join(first if first == last else f"{first} to {last}" for first, last in names)
 
 
-def lanes_of(report, axis, y):
+def lanes_of(report: Report, axis: Axis, y: float) -> list[Lane | Quiet]:
     """The lanes of a report's nodes, from the height y on, the quiet ones in one."""
     found, quiet = [], []
     for node, entries in report.nodes.items():
@@ -287,25 +311,25 @@ def lanes_of(report, axis, y):
     return found + ([Quiet(quiet, axis, y)] if quiet else [])
 
 
-def runs_of(values):
+def runs_of(values: Iterable[T]) -> list[tuple[int, int, T]]:
     """First place, the place behind the last, and the value of each run of equal values."""
-    found = []
+    found: list[tuple[int, int, T]] = []
     for place, value in enumerate(values):
         if found and found[-1][2] == value:
-            found[-1][1] = place + 1
+            found[-1] = (found[-1][0], place + 1, value)
         else:
-            found.append([place, place + 1, value])
+            found.append((place, place + 1, value))
     return found
 
 
-def loss_label(loss):
+def loss_label(loss: unread.Loss | unread.Untold) -> str:
     """An overflow in a few words."""
     if isinstance(loss, unread.Untold):
         return "overflow that no read tells"
     return f"lost {loss.begin}..{loss.end}: item {loss.item} needs {loss.need}, room {loss.room}"
 
 
-def loss_words(loss):
+def loss_words(loss: unread.Loss | unread.Untold) -> str:
     """An overflow in the words of its reply."""
     if isinstance(loss, unread.Untold):
         return f"overflow that no read tells, from place {loss.first} on at the latest"
@@ -314,7 +338,7 @@ def loss_words(loss):
     return f"{what}, from {since} on, told at place {loss.told}"
 
 
-def capture_words(capture):
+def capture_words(capture: unread.Capture) -> str:
     """A capture in words."""
     end = "the end of the report" if capture.end is None else f"place {capture.end}"
     quiet = "" if capture.quiet is None else f", no further packets from place {capture.quiet} on"

@@ -1,5 +1,8 @@
 """The marks of tools/picture, the rows that they stand in, and the legend."""
+from __future__ import annotations
+
 import textwrap
+from typing import TYPE_CHECKING
 
 from .. import reports
 from .svg import (
@@ -7,18 +10,31 @@ from .svg import (
     grouped, heading, path, rect, short_number, side, text, upright, width_of,
 )
 
+if TYPE_CHECKING:
+    from typing import Callable, Collection, Iterable, List, Sequence, Tuple, TypeVar
+
+    from ..reports import Entry
+    from .axis import Axis
+    from .svg import Step
+
+    T = TypeVar("T")
+    Placed = Tuple[int, Entry]
+    Mark = Callable[[float, float], List[str]]
+    # The fill, the edge and the ink of a count.
+    Colours = Tuple[str, str, str]
+
 ROW = 18
 WORDS_AT_ONCE = 8
 
 
-def words_of(things, say):
+def words_of(things: Sequence[T], say: Callable[[T], str]) -> str:
     """What a title says of several things."""
     said = [say(thing) for thing in things[:WORDS_AT_ONCE]]
     more = len(things) - len(said)
     return "\n".join(([f"{len(things)} here:"] if len(things) > 1 else []) + said + ([f"and {more} more"] if more else []))
 
 
-def reply_words(reply_text):
+def reply_words(reply_text: str) -> str:
     """A reply, where data is told by its length."""
     if reply_text.startswith("data "):
         length = reports.read_reply(reply_text)["length"]
@@ -26,7 +42,7 @@ def reply_words(reply_text):
     return reply_text
 
 
-def entry_words(entry):
+def entry_words(entry: Entry) -> str:
     """What an entry is, in words for a title."""
     return f"{entry.place} {entry.who} {entry.step} {entry.act} = {reply_words(entry.reply)}"
 
@@ -34,62 +50,62 @@ def entry_words(entry):
 # ------ marks
 
 
-def data_mark(x, y):
+def data_mark(x: float, y: float) -> list[str]:
     """A filled dot."""
     return [circle(x, y, 4, f'fill="{BLUE}"')]
 
 
-def again_mark(x, y):
+def again_mark(x: float, y: float) -> list[str]:
     """A hollow dot."""
     return [circle(x, y, 3.5, f'fill="{WHITE}" stroke="{BLUE}" stroke-width="1.5"')]
 
 
-def overflow_mark(x, y):
+def overflow_mark(x: float, y: float) -> list[str]:
     """A diamond."""
     return [path([("M", x, y - 6), ("L", x + 6, y), ("L", x, y + 6), ("L", x - 6, y), ("Z",)], f'fill="{RED}"')]
 
 
-def timeout_mark(x, y):
+def timeout_mark(x: float, y: float) -> list[str]:
     """An hourglass."""
-    steps = [("M", x - 5, y - 5), ("L", x + 5, y - 5), ("L", x - 5, y + 5), ("L", x + 5, y + 5), ("Z",)]
+    steps: list[Step] = [("M", x - 5, y - 5), ("L", x + 5, y - 5), ("L", x - 5, y + 5), ("L", x + 5, y + 5), ("Z",)]
     return [path(steps, f'fill="{PURPLE}" stroke="{BLACK}" stroke-width="0.7"')]
 
 
-def drop_mark(x, y):
+def drop_mark(x: float, y: float) -> list[str]:
     """A triangle that points down."""
-    steps = [("M", x - 5, y - 4), ("L", x + 5, y - 4), ("L", x, y + 5), ("Z",)]
+    steps: list[Step] = [("M", x - 5, y - 4), ("L", x + 5, y - 4), ("L", x, y + 5), ("Z",)]
     return [path(steps, f'fill="{ORANGE}" stroke="{BLACK}" stroke-width="0.7"')]
 
 
-def refused_mark(x, y):
+def refused_mark(x: float, y: float) -> list[str]:
     """A cross."""
     look = f'stroke="{BLACK}" stroke-width="2" fill="none"'
     return [path([("M", x - 4, y - 4), ("L", x + 4, y + 4), ("M", x - 4, y + 4), ("L", x + 4, y - 4)], look)]
 
 
-def ready_mark(x, y):
+def ready_mark(x: float, y: float) -> list[str]:
     """A filled square."""
     return [rect(x - 3.5, y - 3.5, 7, 7, f'fill="{GREEN}"')]
 
 
-def not_ready_mark(x, y):
+def not_ready_mark(x: float, y: float) -> list[str]:
     """A hollow square."""
     return [rect(x - 3, y - 3, 6, 6, f'fill="{WHITE}" stroke="{GREEN}" stroke-width="1.5"')]
 
 
-def played_mark(x, y):
+def played_mark(x: float, y: float) -> list[str]:
     """A triangle that points to the right."""
-    steps = [("M", x - 4, y - 5), ("L", x + 5, y), ("L", x - 4, y + 5), ("Z",)]
+    steps: list[Step] = [("M", x - 4, y - 5), ("L", x + 5, y), ("L", x - 4, y + 5), ("Z",)]
     return [path(steps, f'fill="{YELLOW}" stroke="{BLACK}" stroke-width="0.7"')]
 
 
-def pill(x, y, words, fill, stroke, ink):
+def pill(x: float, y: float, words: str, fill: str, stroke: str, ink: str) -> list[str]:
     """A rounded box with a few characters."""
     look = f'rx="4" fill="{fill}" stroke="{stroke}"'
     return [rect(x - 11, y - 7, 22, 14, look), text(x, y + 3.3, words, SMALL, f'{MIDDLE} fill="{ink}"')]
 
 
-def call_mark(x, y):
+def call_mark(x: float, y: float) -> list[str]:
     """A rounded box."""
     return [rect(x - 5, y - 5, 10, 10, f'rx="3" fill="{PALE}" stroke="{GREY}"')]
 
@@ -98,16 +114,26 @@ def call_mark(x, y):
 
 
 class Row:
-    """A row of marks of one kind: its name at the left, the entries, how one is drawn, the colours of a count, and what is
-    written beside a mark where there is room. An entry comes with its column."""
+    """A row of marks: its name at the left, and the entries. An entry comes with its column."""
 
     height = ROW
 
-    def __init__(self, name, entries, mark, colours, beside=lambda entry: ""):
-        self.name, self.entries, self.mark, self.colours, self.beside = name, entries, mark, colours, beside
-        self.key, self.left_out = "call" if name in CALLS else name, False
+    def __init__(self, name: str, entries: Sequence[Placed], key: str) -> None:
+        self.name, self.entries, self.key, self.left_out = name, entries, key, False
 
-    def draw(self, axis, y):
+    def draw(self, axis: Axis, y: float) -> list[str]:
+        """The marks, in a row that begins at y."""
+        raise NotImplementedError
+
+
+class MarkRow(Row):
+    """A row of marks of one kind: how one is drawn, the colours of a count, and what is written beside a mark where there is room."""
+
+    def __init__(self, name: str, entries: Sequence[Placed], mark: Mark, colours: Colours, beside: Callable[[Entry], str] = lambda entry: "") -> None:
+        super().__init__(name, entries, "call" if name in CALLS else name)
+        self.mark, self.colours, self.beside = mark, colours, beside
+
+    def draw(self, axis: Axis, y: float) -> list[str]:
         """The marks, in the middle of a row that begins at y; marks in the same cell are counted."""
         found, middle = [side(y + 12, self.name)], y + ROW / 2
         cells = axis.gather(self.entries, lambda thing: thing[0])
@@ -126,11 +152,11 @@ class Row:
 class WordRow(Row):
     """A row of boxes with a word each: calls with their names, or refusals with their errors."""
 
-    def __init__(self, name, entries, word, look):
-        super().__init__(name, entries, None, None)
-        self.word, self.look, self.key = word, look, f"{name} in words"
+    def __init__(self, name: str, entries: Sequence[Placed], word: Callable[[Entry], str], look: str) -> None:
+        super().__init__(name, entries, f"{name} in words")
+        self.word, self.look = word, look
 
-    def draw(self, axis, y):
+    def draw(self, axis: Axis, y: float) -> list[str]:
         """The boxes; each has a column of its own, unless several nodes share the row."""
         found, wide = [side(y + 12, self.name)], axis.cell_width() - 1.5
         for cell, things in axis.gather(self.entries, lambda thing: thing[0]):
@@ -148,17 +174,16 @@ class UprightRow(Row):
 
     height = 46
 
-    def __init__(self, entries):
-        super().__init__("calls", entries, None, None)
-        self.key = "calls in words"
+    def __init__(self, entries: Sequence[Placed]) -> None:
+        super().__init__("calls", entries, "calls in words")
 
     @staticmethod
-    def holds(axis, entries):
+    def holds(axis: Axis, entries: Sequence[Placed]) -> bool:
         """Whether no cell has more names than it has room for."""
         cells = axis.gather(entries, lambda thing: thing[0])
         return all(len({name_of(entry) for _, entry in things}) <= 2 for _, things in cells)
 
-    def draw(self, axis, y):
+    def draw(self, axis: Axis, y: float) -> list[str]:
         """The boxes."""
         found, wide = [side(y + 20, self.name)], axis.cell_width() - 1.5
         for cell, things in axis.gather(self.entries, lambda thing: thing[0]):
@@ -172,9 +197,9 @@ class UprightRow(Row):
         return found
 
 
-def counts_of(names):
+def counts_of(names: Iterable[str]) -> dict[str, int]:
     """How often each name comes, in the order of the first of each."""
-    found = {}
+    found: dict[str, int] = {}
     for name in names:
         found[name] = found.get(name, 0) + 1
     return found
@@ -182,7 +207,7 @@ def counts_of(names):
 
 CALLS = ("open", "close", "section", "pes", "add", "remove", "start", "stop", "size", "attach", "detach")
 CALL_LOOK, REFUSED_LOOK = f'fill="{PALE}" stroke="{GREY}"', f'fill="{WHITE}" stroke="{BLACK}" stroke-width="1.2"'
-MARKS = {
+MARKS: dict[str, tuple[Mark, Colours, str]] = {
     "data": (data_mark, (BLUE, BLUE, WHITE), "read: data"),
     "again": (again_mark, (WHITE, BLUE, BLACK), "read: again"),
     "overflow": (overflow_mark, (RED, RED, WHITE), "read: overflow"),
@@ -195,26 +220,26 @@ MARKS = {
 }
 
 
-def name_of(entry):
+def name_of(entry: Entry) -> str:
     """The name of an entry's call."""
     return entry.act.partition(" ")[0]
 
 
-def error_of(entry):
+def error_of(entry: Entry) -> str:
     """The name of an entry's reply."""
     return entry.reply.partition(" ")[0]
 
 
-def dropped_bytes(entry):
+def dropped_bytes(entry: Entry) -> int:
     """How many unread bytes a Done drops."""
     begin, end = reports.reply_of(entry)["drop"]
     return end - begin
 
 
-BESIDE = {"data": lambda entry: str(reports.reply_of(entry)["length"]), "dropped": lambda entry: str(dropped_bytes(entry))}
+BESIDE: dict[str, Callable[[Entry], str]] = {"data": lambda entry: str(reports.reply_of(entry)["length"]), "dropped": lambda entry: str(dropped_bytes(entry))}
 
 
-def kinds_of(entry):
+def kinds_of(entry: Entry) -> list[str]:
     """The rows that a client's entry stands in."""
     first = error_of(entry)
     if first in reports.REFUSALS or first == "busy":
@@ -228,20 +253,20 @@ def kinds_of(entry):
     return ["dropped", "call"] if dropped_bytes(entry) else ["call"]
 
 
-def rows_of(placed, axis):
+def rows_of(placed: Iterable[Placed], axis: Axis) -> list[Row]:
     """The rows of marks of the entries, which come with their columns, without the empty ones."""
-    found = {kind: [] for kind in [*MARKS, "call"]}
+    found: dict[str, list[Placed]] = {kind: [] for kind in [*MARKS, "call"]}
     for column, entry in placed:
         if entry.who != "feed":
             for kind in kinds_of(entry):
                 found[kind].append((column, entry))
     calls, has_room = found.pop("call"), axis.cell_width() >= 41
-    rows = [Row(kind, things, *MARKS[kind][:2], BESIDE.get(kind, lambda entry: "")) for kind, things in found.items() if things]
+    rows: list[Row] = [MarkRow(kind, things, *MARKS[kind][:2], BESIDE.get(kind, lambda entry: "")) for kind, things in found.items() if things]
     if not has_room and calls and UprightRow.holds(axis, calls):
         return [*rows, UprightRow(calls)]
     if not has_room:
         by_name = [(name, [thing for thing in calls if name_of(thing[1]) == name]) for name in CALLS]
-        return rows + [Row(name, things, call_mark, (PALE, GREY, BLACK)) for name, things in by_name if things]
+        return rows + [MarkRow(name, things, call_mark, (PALE, GREY, BLACK)) for name, things in by_name if things]
     rows = [WordRow("refused", row.entries, error_of, REFUSED_LOOK) if row.name == "refused" else row for row in rows]
     return rows + ([WordRow("calls", calls, name_of, CALL_LOOK)] if calls else [])
 
@@ -277,11 +302,12 @@ NOTES = {
 }
 
 
-def legend(used, y):
+def legend(used: Collection[str], y: float) -> tuple[list[str], float]:
     """What the marks mean that are used, from the height y on, and the height of its end."""
-    found, x, row = [heading(8, y + 14, "legend")], 20, y + 34
+    found, row = [heading(8, y + 14, "legend")], y + 34
+    x: float = 20
     shown = [(mark, words) for kind, (mark, _, words) in MARKS.items() if kind in used]
-    looks = {}
+    looks: dict[str, list[str]] = {}
     for kind, (look, words) in BOXES.items():
         if kind in used:
             looks.setdefault(look, []).append(words)
@@ -299,6 +325,6 @@ def legend(used, y):
     return found, row + 16
 
 
-def box_mark(look):
+def box_mark(look: str) -> Mark:
     """A mark that is a box of this look."""
     return lambda x, y: [rect(x - 7, y - 6, 14, 10, look)]

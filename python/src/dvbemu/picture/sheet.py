@@ -2,10 +2,12 @@
 
 The picture is that of tools/picture, drawn once; sheet.js cuts it into strips that fit the window, and ties its marks to the commands.
 """
+from __future__ import annotations
+
 import json
 import os
 from html import escape
-from typing import NamedTuple
+from typing import TYPE_CHECKING, NamedTuple
 
 from .. import reports
 from ..explain import told
@@ -13,6 +15,14 @@ from .axis import CELL
 from .drawing import PATTERN, drawing_of
 from ..explain.sentences import command_text
 from .svg import LEFT, fixed
+
+if TYPE_CHECKING:
+    from typing import Sequence
+
+    from ..explain.clients import Call
+    from ..explain.story import Story
+    from .axis import Axis
+    from .drawing import Drawing
 
 HERE = os.path.dirname(os.path.realpath(__file__))
 # How wide the columns of the picture may be before they are gathered, and how many bytes of commands are listed.
@@ -23,12 +33,12 @@ POLICY = "default-src 'none'; style-src 'unsafe-inline'; script-src 'unsafe-inli
 class List(NamedTuple):
     """The rows of the commands, and how many commands there are and have none."""
 
-    rows: list
+    rows: list[str]
     whole: int
     left: int
 
 
-def file_text(name):
+def file_text(name: str) -> str:
     """A file beside this one."""
     with open(os.path.join(HERE, name), encoding="utf-8") as file:
         return file.read()
@@ -37,7 +47,7 @@ def file_text(name):
 # ------ the sentences
 
 
-def sentence(row):
+def sentence(row: told.Row) -> str:
     """A row of what explain tells, as HTML."""
     if isinstance(row, told.Told):
         kind = ' class="rule"' if row.text.startswith("Rule: ") else ""
@@ -46,7 +56,7 @@ def sentence(row):
     return f"<h2>{escape(row)}</h2>" if row else ""
 
 
-def sentences_of(report, story):
+def sentences_of(report: reports.Report, story: Story) -> str:
     """What explain tells but for what was asked, which the list has; the hints first."""
     whole = told.Part()
     rows = told.hint_lines(story, whole) + ["", *told.stream_lines(report)]
@@ -58,14 +68,14 @@ def sentences_of(report, story):
 # ------ the commands
 
 
-def row_of(client, outcome, calls):
+def row_of(client: int, outcome: reports.Outcome, calls: Sequence[Call]) -> str:
     """A command as a row of the list."""
     node = reports.node_name(calls[0].node) if calls else ""
     place = f'data-client="c{client}" data-line="{outcome.line}" data-first="{outcome.first}" data-node="{node}"'
     return f"<div {place}><b>c{client} {outcome.line}</b>{escape(command_text(outcome, calls))}</div>"
 
 
-def list_of(story):
+def list_of(story: Story) -> List:
     """The rows of all commands, by client; of too many the first ones of each client."""
     rows, whole, left = [], sum(len(client.outcomes) for client in story.clients.values()), 0
     asking = [client for _, client in sorted(story.clients.items()) if client.outcomes]
@@ -84,7 +94,7 @@ def list_of(story):
 # ------ the picture
 
 
-def source_of(drawing):
+def source_of(drawing: Drawing) -> str:
     """The shapes of the picture, a group for each client and node."""
     found = []
     for part in drawing.parts:
@@ -93,7 +103,7 @@ def source_of(drawing):
     return "\n".join(found)
 
 
-def edges_of(axis):
+def edges_of(axis: Axis) -> list[float]:
     """Where a strip may end."""
     if not axis.gathers:
         return [round(edge, 1) for edge in axis.edges]
@@ -101,13 +111,13 @@ def edges_of(axis):
     return [LEFT + CELL * cell for cell in range(cells)] + [round(axis.right, 1)]
 
 
-def legend_of(drawing):
+def legend_of(drawing: Drawing) -> str:
     """The legend by itself."""
     high = fixed(drawing.end - drawing.below)
     return "\n".join([f'<svg width="730" height="{high}" viewBox="0 {fixed(drawing.below)} 730 {high}">', *drawing.legend, "</svg>"])
 
 
-def notes_of(drawing, listed):
+def notes_of(drawing: Drawing, listed: List) -> str:
     """What the page says of what it sums."""
     notes = ["A click on a mark marks its command, and the other way round. Keys: + and - zoom, 0 as it was, / searches, Escape ends it; "
              "the wheel zooms with Ctrl."]  # fmt: skip
@@ -120,7 +130,7 @@ def notes_of(drawing, listed):
     return "".join(f'<p class="note">{escape(note)}</p>' for note in notes)
 
 
-def page(report, title):
+def page(report: reports.Report, title: str) -> str:
     """The page."""
     drawing, story = drawing_of(report, title, WIDTH), told.story_of(report)
     listed = list_of(story)

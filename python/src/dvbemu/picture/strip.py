@@ -1,4 +1,7 @@
 """The upper part of tools/picture: the stream, the axis with batches and moments, and the clients' commands."""
+from __future__ import annotations
+
+from typing import TYPE_CHECKING, NamedTuple
 from .. import reports
 from .axis import CELL, moments_of
 from .marks import BOXES, reply_words, words_of
@@ -7,14 +10,39 @@ from .svg import (
     text, upright, width_of,
 )  # fmt: skip
 
+if TYPE_CHECKING:
+    from typing import Sequence
+
+    from ..reports import Entry, Outcome, Report
+    from .axis import Axis
+
 BOX = 54
+
+
+class Part(NamedTuple):
+    """The axis with the batches, a client or a node: its name, the heights at which it begins and ends, and its shapes."""
+
+    name: str
+    top: float
+    bottom: float
+    shapes: list[str]
+
+
+class Box(NamedTuple):
+    """A box of commands: its edges, the commands, and whether the first of them has no room of its own."""
+
+    left: float
+    right: float
+    commands: list[Outcome]
+    is_narrow: bool
 
 
 class Strip:
     """The stream, the axis and the clients' commands, from the height y on. What it uses of the legend is in `used`."""
 
-    def __init__(self, title, report, axis, y):
-        self.title, self.report, self.axis, self.y, self.used = title, report, axis, y, set()
+    def __init__(self, title: str, report: Report, axis: Axis, y: float) -> None:
+        self.title, self.report, self.axis, self.y = title, report, axis, y
+        self.used: set[str] = set()
         nodes = list(report.nodes.values())
         self.passes = [entry for entry in nodes[0] if entry.who == "feed"] if nodes else []
         self.calls = calls_by_step(report)
@@ -23,7 +51,7 @@ class Strip:
         self.clients_y = self.passes_y + (58 if self.passes else 0)
         self.bottom = self.clients_y + (BOX + 22) * sum(map(bool, report.clients)) + 8
 
-    def head(self):
+    def head(self) -> list[str]:
         """The title and the stream, above all strips."""
         report = self.report
         packets, skipped, rest = counted(report.packets, "packet"), counted(report.skipped, "byte"), counted(report.rest, "byte")
@@ -35,19 +63,19 @@ class Strip:
             found.append(text(8, self.y + 49 + 13 * number, words, 10, f'fill="{GREY}"'))
         return found
 
-    def parts(self):
+    def parts(self) -> list[Part]:
         """The axis and the clients, each with its name, where it begins and ends, and its shapes."""
         y = self.clients_y
-        found = [("axis", self.passes_y, y, self.draw_passes() + self.draw_moments())] if self.passes else []
+        found = [Part("axis", self.passes_y, y, self.draw_passes() + self.draw_moments())] if self.passes else []
         for client, outcomes in enumerate(self.report.clients):
             if outcomes:
-                found.append((f"c{client}", y, y + BOX + 22, self.draw_client(client, outcomes, y)))
+                found.append(Part(f"c{client}", y, y + BOX + 22, self.draw_client(client, outcomes, y)))
                 y += BOX + 22
         return found
 
     # ------ the axis
 
-    def draw_passes(self):
+    def draw_passes(self) -> list[str]:
         """The batches, each with its packets and, below, its number; the last is End."""
         axis, y = self.axis, self.passes_y
         found = [side(y + 15, "packets passed"), side(y + 31, "batch")]
@@ -64,13 +92,14 @@ class Strip:
         self.note(numbers)
         return found
 
-    def note(self, labels):
+    def note(self, labels: Labels) -> None:
         """The legend tells of signs where a label was left out."""
         self.used |= {"sign"} if labels.left_out else set()
 
-    def draw_moments(self):
+    def draw_moments(self) -> list[str]:
         """A tick where the moment rises, with the time since the first where there is room."""
-        y, first, drawn = self.passes_y + 34, reports.first_moment(self.report), -10
+        y, first = self.passes_y + 34, reports.first_moment(self.report)
+        drawn: float = -10
         found = [side(y + 13, "ms since first" if first else "moment, ms")]
         labels = Labels(y + 13, LEFT - 4, self.axis.right + RIGHT, "", self.axis.cuts[:-1])
         for column, moment in moments_of(self.report, self.axis):
@@ -82,7 +111,7 @@ class Strip:
         self.note(labels)
         return found
 
-    def guides(self, bottom):
+    def guides(self, bottom: float) -> list[str]:
         """Stripes down to the lanes' end, where a batch passes; where columns are gathered none."""
         if self.axis.gathers:
             return []
@@ -92,13 +121,13 @@ class Strip:
 
     # ------ the clients
 
-    def draw_client(self, client, outcomes, y):
+    def draw_client(self, client: int, outcomes: Sequence[Outcome], y: float) -> list[str]:
         """A client's commands, each as wide as its calls: what it first called, its last reply, how many calls, and its line."""
         found = [text(LEFT - 8, y + 14, f"client {client}", 10, f'{END} font-weight="bold"')]
         found += [side(y + 25, "call, last reply"), side(y + BOX + 11, "line")]
         numbers = Labels(y + BOX + 11, LEFT - 4, self.axis.right + RIGHT, f'fill="{GREY}"', self.axis.cuts[:-1])
         boxes = self.boxes(client, outcomes)
-        for (x, to, commands), room in zip(boxes, [box[0] for box in boxes[1:]] + [self.axis.right]):
+        for (x, to, commands, _), room in zip(boxes, [box.left for box in boxes[1:]] + [self.axis.right]):
             words = words_of(commands, lambda command: self.command_words(client, command))
             found.append(rect(x, y + 2, max(to - x - 1.5, 1), BOX, f'rx="3" {self.look_of(client, commands)}', words))
             seen = self.axis.seen(x, to - 1.5)
@@ -110,22 +139,22 @@ class Strip:
         self.note(numbers)
         return found
 
-    def boxes(self, client, outcomes):
+    def boxes(self, client: int, outcomes: Sequence[Outcome]) -> list[Box]:
         """Left, right and commands of each box: of a command alone, or of several that are too narrow for one each."""
-        found, axis = [], self.axis
+        found: list[Box] = []
+        axis = self.axis
         for number, outcome in enumerate(outcomes):
             first, last = axis.command(client, number, outcome)
             x, to = axis.left(first), axis.left(last + 1)
-            narrow = to - x < CELL and found and found[-1][3] and to - found[-1][0] <= 1.5 * CELL
-            if narrow:
-                found[-1][1] = max(to, found[-1][1])
-                found[-1][2].append(outcome)
+            before = found[-1] if found else None
+            if before and before.is_narrow and to - x < CELL and to - before.left <= 1.5 * CELL:
+                found[-1] = before._replace(right=max(to, before.right), commands=[*before.commands, outcome])
             else:
-                x = max(x, found[-1][1]) if found else x
-                found.append([x, max(to, x), [outcome], to - x < CELL])
-        return [box[:3] for box in found]
+                x = max(x, before.right) if before else x
+                found.append(Box(x, max(to, x), [outcome], to - x < CELL))
+        return found
 
-    def command_texts(self, client, commands, x, to, y):
+    def command_texts(self, client: int, commands: Sequence[Outcome], x: float, to: float, y: float) -> list[str]:
         """The texts in a command's box, upright where there is no room across."""
         wide, middle = to - x, (x + to) / 2
         call, reply = self.call_names(client, commands[0])
@@ -145,7 +174,7 @@ class Strip:
             found.append(text(middle, y + 39, count, SMALL, MIDDLE))
         return found
 
-    def words_beside(self, client, commands, x, room, y):
+    def words_beside(self, client: int, commands: Sequence[Outcome], x: float, room: float, y: float) -> list[str]:
         """The texts of a box that is too narrow for any, beside it where there is room."""
         steps = commands[-1].after - commands[0].first
         names = counted(len(commands), "command") if len(commands) > 1 else self.call_names(client, commands[0])[0]
@@ -153,7 +182,7 @@ class Strip:
         fitting = [told for told in words if x + 2 + width_of(told, SMALL) <= room]
         return [text(x + 2, y + BOX / 2, told, SMALL) for told in fitting[:1]]
 
-    def call_names(self, client, command):
+    def call_names(self, client: int, command: Outcome) -> tuple[str, str]:
         """The names of a command's first call and of its last reply, or its kind where it made none."""
         first, last = self.calls.get((client, command.first)), self.calls.get((client, command.after - 1))
         if command.first == command.after or not first or not last:
@@ -162,7 +191,7 @@ class Strip:
             return first[1].act.partition(" ")[0], "EMFILE"
         return first[1].act.partition(" ")[0], last[1].reply.partition(" ")[0]
 
-    def command_words(self, client, command):
+    def command_words(self, client: int, command: Outcome) -> str:
         """A command with its first and its last call."""
         words = f"line {command.line}, steps {command.first}..{command.after}, {command.kind}"
         steps = sorted({command.first, command.after - 1}) if command.after > command.first else []
@@ -172,14 +201,14 @@ class Strip:
                 words += f"; step {step} on {reports.node_name(node)}: {entry.act} = {reply_words(entry.reply)}"
         return words
 
-    def kind_of(self, client, command):
+    def kind_of(self, client: int, command: Outcome) -> str:
         """How a command ended: by its outcome, or by its last call, where that was refused."""
         if command.kind in ("EMFILE", "unbound", "nostc"):
             return command.kind
         last = self.calls.get((client, command.after - 1)) if command.after > command.first else None
         return "refused command" if last and last[1].reply.partition(" ")[0] in (*reports.REFUSALS, "busy") else "done"
 
-    def look_of(self, client, commands):
+    def look_of(self, client: int, commands: Sequence[Outcome]) -> str:
         """The colours of commands: those of their outcome where all have the same."""
         kinds = {self.kind_of(client, command) for command in commands}
         kind = kinds.pop() if len(kinds) == 1 else "done"
@@ -187,14 +216,14 @@ class Strip:
         return BOXES[kind][0]
 
 
-def short_count(count, name, room):
+def short_count(count: int, name: str, room: float) -> str:
     """A number of things, in fewer letters where it has no room."""
     return counted(count, name) if width_of(counted(count, name), SMALL) <= room else f"{count} {name[:3]}."
 
 
-def calls_by_step(report):
+def calls_by_step(report: Report) -> dict[tuple[int, int], tuple[int, Entry]]:
     """The node and the entry of the first and the last step of each command, by client and step."""
-    wanted = {f"c{client}": set() for client in range(reports.CLIENTS)}
+    wanted: dict[str, set[int]] = {f"c{client}": set() for client in range(reports.CLIENTS)}
     for client, outcomes in enumerate(report.clients):
         for outcome in outcomes:
             wanted[f"c{client}"] |= {outcome.first, outcome.after - 1}
@@ -206,7 +235,7 @@ def calls_by_step(report):
     return found
 
 
-def pid_lines(report):
+def pid_lines(report: Report) -> list[str]:
     """The PIDs with their counts, a few on each line."""
     words = []
     for row in report.pids[:40]:
@@ -225,6 +254,6 @@ def pid_lines(report):
     return [words for words in found if words]
 
 
-def least_width(strip):
+def least_width(strip: Strip) -> float:
     """How wide the texts above are."""
     return max([LEAST_WIDTH, *(16 + width_of(words, 10) for words in strip.pid_lines)])

@@ -1,4 +1,6 @@
 """The adapters that a command finds: a folder of this process, and in it for each adapter a server with its pipes."""
+from __future__ import annotations
+
 import ctypes
 import fcntl
 import glob
@@ -11,12 +13,20 @@ import sys
 import tempfile
 import threading
 import time
+from typing import TYPE_CHECKING
 
 from .building import PRELOAD, Stopped
 from .channels import Front, systems_of
 from .clearing import watch_over
 from .feeder import Feeder
 from .keeper import Keeper
+
+if TYPE_CHECKING:
+    from argparse import Namespace
+    from typing import Sequence
+
+    from ..commands.serve import Outs
+    from .channels import Channel
 
 # Calls of prctl: what is told to a process whose parent ends, and what makes this process the parent of those that a program has left.
 PR_SET_PDEATHSIG, PR_SET_CHILD_SUBREAPER = 1, 36
@@ -29,29 +39,29 @@ ROOM = 256 - len("/dvbemu-12345678/0") - 1
 SYSTEM = ctypes.CDLL(None, use_errno=True)
 
 
-def end_with(parent):
+def end_with(parent: int) -> None:
     """This process ends with its parent, also where that has gone already."""
     SYSTEM.prctl(PR_SET_PDEATHSIG, signal.SIGKILL, 0, 0, 0)
     if os.getppid() != parent:
         os.kill(os.getpid(), signal.SIGKILL)
 
 
-def adopt():
+def adopt() -> None:
     """What a program leaves running is this process's."""
     SYSTEM.prctl(PR_SET_CHILD_SUBREAPER, 1, 0, 0, 0)
 
 
-def is_fit(place):
+def is_fit(place: str) -> bool:
     """Whether the preload can have a folder there: its path is short, and without a blank or a colon, where the system's loader ends a name."""
     return len(os.fsencode(place)) <= ROOM and not set(" :;,\t\n") & set(place) and os.access(place, os.W_OK)
 
 
-def is_open(place):
+def is_open(place: str) -> bool:
     """Whether others can look into a folder, as who has given up root's rights has to."""
     return all(os.stat(place[:at] or "/").st_mode & stat.S_IXOTH for at, letter in enumerate(f"{place}/") if letter == "/")
 
 
-def place_of_folders():
+def place_of_folders() -> str:
     """Where temporary files go."""
     places = [os.path.realpath(place) for place in (tempfile.gettempdir(), "/tmp", "/var/tmp", "/dev/shm")]
     fit = list(filter(is_fit, places))
@@ -60,13 +70,13 @@ def place_of_folders():
     return fit[0] if os.geteuid() else next(filter(is_open, fit), fit[0])
 
 
-def tell_root(place):
+def tell_root(place: str) -> None:
     """Says what a program finds that gives up root's rights."""
     finds = "can't open the adapter's devices" if is_open(place) else f"sees the machine's own /dev/dvb, as {place} is closed to others"
     print(f"dvbemu serve: started by root: a program that gives up root's rights {finds}; start dvbemu serve as its user", file=sys.stderr)
 
 
-def sweep(place):
+def sweep(place: str) -> None:
     """Takes away the folders of this user's that wrappers have left which were killed: nobody holds them any more."""
     for folder in glob.glob(os.path.join(glob.escape(place), f"{PREFIX}*")):
         try:
@@ -85,7 +95,7 @@ def sweep(place):
 class Folder:
     """A folder that is held by this process, with a tree that stands for /dev/dvb, and a folder for each adapter."""
 
-    def __init__(self, count):
+    def __init__(self, count: int) -> None:
         place = place_of_folders()
         sweep(place)
         self.path = tempfile.mkdtemp(prefix=PREFIX, dir=place)
@@ -106,7 +116,7 @@ class Folder:
             self.show_to_others()
             tell_root(place)
 
-    def show_to_others(self):
+    def show_to_others(self) -> None:
         """Who has given up root's rights has the preload and sees the tree, and not the machine's own devices; the rest is root's alone."""
         for path in self.path, *self.adapters:
             os.chmod(path, 0o711)
@@ -114,11 +124,11 @@ class Folder:
             os.chmod(path, 0o755)
         os.chmod(self.preload, 0o644)
 
-    def value(self):
+    def value(self) -> str:
         """What programs have in their environment, as DVBEMU_DIR."""
         return ":".join(self.adapters)
 
-    def remove(self):
+    def remove(self) -> None:
         shutil.rmtree(self.path, ignore_errors=True)
         os.close(self.held)
         os.close(self.watched)
@@ -127,7 +137,7 @@ class Folder:
 class Adapter:
     """An adapter's server, which these words start, and what feeds it. `outs` has what is written: `report`, `played`, `tunings` and `keep`."""
 
-    def __init__(self, server, folder, channels, options, outs):
+    def __init__(self, server: Sequence[str], folder: str, channels: Sequence[Channel], options: Namespace, outs: Outs) -> None:
         self.keeper = Keeper(folder)
         # (a write to a program that has gone fails, and is no signal: Python has SIGPIPE ignored, and the server keeps that; and a
         # terminal's Ctrl-C is the command's alone)
@@ -136,17 +146,18 @@ class Adapter:
         assert threading.active_count() == 1
         self.server = subprocess.Popen(words, stdin=subprocess.PIPE, stdout=outs.report, bufsize=0, restore_signals=False,
                                        start_new_session=True, preexec_fn=lambda here=os.getpid(): end_with(here))  # fmt: skip
+        assert self.server.stdin is not None
         self.front = Front(os.path.join(folder, "front"), systems_of(channels))
         self.feeder = Feeder(channels, self.front, self.server.stdin, options.once, options.live)
         self.feeder.played, self.feeder.tunings = outs.played, outs.tunings
         self.seats, self.folder = options.seats, folder
 
-    def start(self):
+    def start(self) -> None:
         """Programs may come in from now on, and what is on the air is played."""
         self.keeper.open_for(self.server, self.seats)
         self.feeder.start()
 
-    def end(self):
+    def end(self) -> None:
         """Ends the stream and waits for the server's end, behind which the report is whole."""
         self.feeder.ended.set()
         self.feeder.join(ENDS)
@@ -159,11 +170,11 @@ class Adapter:
         except subprocess.TimeoutExpired:
             raise Stopped("the server didn't end, and was killed") from None
 
-    def was_opened(self):
+    def was_opened(self) -> bool:
         """Whether a program has opened one of its devices: its node then has a bell."""
         return self.front.was_opened() or bool(glob.glob(os.path.join(glob.escape(self.folder), "bell.*")))
 
-    def kill(self):
+    def kill(self) -> None:
         self.feeder.ended.set()
         self.server.kill()
         self.server.wait()

@@ -1,10 +1,16 @@
 """Builds what dvbemu-serve needs, where it isn't built: the server, dvb_serve, and the preload, preload/*.c."""
+from __future__ import annotations
+
 import glob
 import os
 import shlex
 import shutil
 import subprocess
 import sys
+from typing import TYPE_CHECKING
+
+if TYPE_CHECKING:
+    from typing import Iterable
 
 TOP = os.path.normpath(os.path.join(os.path.dirname(os.path.realpath(__file__)), "..", "..", "..", ".."))
 CRATE = os.path.join(TOP, "crates", "dvb_serve")
@@ -18,12 +24,12 @@ class Stopped(Exception):
     """There is no report."""
 
 
-def is_newer(made, sources):
+def is_newer(made: str, sources: Iterable[str]) -> bool:
     """Whether a file is there and none of these is newer."""
     return os.path.exists(made) and all(os.path.getmtime(path) <= os.path.getmtime(made) for path in sources)
 
 
-def built_server():
+def built_server() -> list[str]:
     """The words that start the server, which is DVBEMU_SERVER or dvb_serve. That is proved and built where there is none or its code is
     newer; with DVBEMU_UNPROVED=1 it is compiled in haste."""
     if named := shlex.split(os.environ.get("DVBEMU_SERVER", "")):
@@ -41,7 +47,7 @@ def built_server():
     return compiled_server() if in_haste else proved_server()
 
 
-def compiled_server():
+def compiled_server() -> list[str]:
     """Compiles the server in haste, and keeps it."""
     print("dvbemu serve: the server is not proved; compiling in haste, some minutes, once", file=sys.stderr)
     if subprocess.call([sys.executable, "-m", "dvbemu.haste", CRATE], stdin=subprocess.DEVNULL, env={**os.environ, "PYTHONPATH": os.path.join(TOP, "python", "src")}):
@@ -49,7 +55,7 @@ def compiled_server():
     return [IN_HASTE]
 
 
-def proved_server():
+def proved_server() -> list[str]:
     """Proves and builds the server."""
     print("dvbemu serve: proving and building the server; this takes a quarter of an hour or more (in a hurry: DVBEMU_UNPROVED=1, not proved)",
           file=sys.stderr)  # fmt: skip
@@ -58,7 +64,7 @@ def proved_server():
     return [OWN_SERVER]
 
 
-def build_preload():
+def build_preload() -> None:
     """Builds the preload where it is older than its source."""
     files = [os.path.join(TOP, "preload", f"{part}.c") for part in PARTS]
     if is_newer(PRELOAD, [*files, os.path.join(TOP, "preload", "preload.h")]):

@@ -1,11 +1,17 @@
 """What is on the air: which recording plays at which frequency, for whom; and the frontend's page, which preload/frontend.c has
 too."""
+from __future__ import annotations
+
 import mmap
 import os
 import re
 import struct
+from typing import TYPE_CHECKING
 
 from .recording import Recording, Unplayable
+
+if TYPE_CHECKING:
+    from typing import Sequence
 
 # The delivery systems, by the numbers of linux/dvb/frontend.h.
 SYSTEMS = {"DVBC": 1, "DVBCB": 2, "DVBT": 3, "DVBS": 5, "DVBS2": 6, "ISDBT": 8, "ATSC": 11, "DVBT2": 16}
@@ -24,10 +30,10 @@ TONE_ON, VOLTAGE_OFF = 0, 2
 class Channel:
     """A recording at a frequency: in Hz, or in kHz for a satellite. A frequency of None is any."""
 
-    def __init__(self, frequency, systems, polarisation, recording):
+    def __init__(self, frequency: int | None, systems: Sequence[int], polarisation: str | None, recording: Recording) -> None:
         self.frequency, self.systems, self.polarisation, self.recording = frequency, systems, polarisation, recording
 
-    def is_near(self, asked):
+    def is_near(self, asked: Asked) -> bool:
         """Whether a frontend that is set so finds a signal."""
         if self.frequency is None:
             return True
@@ -39,7 +45,7 @@ class Channel:
             return False
         return not self.polarisation or asked.voltage == VOLTAGE_OFF or self.polarisation in ("VR", "HL")[asked.voltage & 1]
 
-    def status(self, asked):
+    def status(self, asked: Asked) -> int:
         """What the frontend tells of it, which is the stream 0 where a system has several at a frequency."""
         is_stream = asked.system not in WITH_STREAMS or asked.stream in (0, ANY_STREAM)
         return LOCKED if is_stream and (not self.systems or asked.system in self.systems) else SIGNAL
@@ -48,17 +54,17 @@ class Channel:
 class Asked:
     """A tuning that a program has asked for."""
 
-    def __init__(self, frequency, system, voltage, tone, stream):
+    def __init__(self, frequency: int, system: int, voltage: int, tone: int, stream: int) -> None:
         self.frequency, self.system, self.voltage, self.tone, self.stream = frequency, system, voltage, tone, stream
 
-    def words(self):
+    def words(self) -> str:
         name = next((name for name, number in SYSTEMS.items() if number == self.system), str(self.system))
         if self.system not in SATELLITE:
             return f"{self.frequency} {name}"
         return f"{self.frequency} {name} {'VH-'[min(self.voltage, 2)]} {'high' if self.tone == TONE_ON else 'low'}"
 
 
-def channel_of(word, rate):
+def channel_of(word: str, rate: float | None) -> Channel:
     """The channel of a word HZ[:SYSTEM][:POL]=FILE."""
     found = LINE.fullmatch(word)
     if not found:
@@ -80,7 +86,7 @@ def channel_of(word, rate):
     return Channel(frequency, systems, polarisation, recording)
 
 
-def lines_in(path):
+def lines_in(path: str) -> list[str] | None:
     """The lines of a file of channels, where it is one: without comments, which begin with `#`, and with paths as from its folder."""
     try:
         with open(path, encoding="utf-8") as file:
@@ -94,7 +100,7 @@ def lines_in(path):
     return [f"{head}={os.path.join(os.path.dirname(path), file)}" for head, file in parts]
 
 
-def not_lines(path):
+def not_lines(path: str) -> str:
     """What a file of channels has in the place of such lines. One that can't be read is told as such."""
     with open(path, "rb") as file:
         data = file.read(1 << 20)
@@ -108,16 +114,18 @@ def not_lines(path):
     return "it has none"
 
 
-def channels_of(tunings, file, stream, rate):
+def channels_of(tunings: Sequence[str], file: str | None, stream: str | None, rate: float | None) -> list[Channel]:
     """The channels of these words, of the lines of a file, and of a stream that plays everywhere else."""
-    lines = [] if file is None else lines_in(file)
-    if lines is None:
-        raise Unplayable(f"{file}: lines HZ[:SYSTEM][:H|V|L|R]=FILE are wanted, and {not_lines(file)}")
+    lines: list[str] = []
+    if file is not None:
+        if (given := lines_in(file)) is None:
+            raise Unplayable(f"{file}: lines HZ[:SYSTEM][:H|V|L|R]=FILE are wanted, and {not_lines(file)}")
+        lines = given
     found = [channel_of(word, rate) for word in [*tunings, *lines]]
     return found + ([Channel(None, (), None, Recording(stream, rate))] if stream is not None else [])
 
 
-def systems_of(channels):
+def systems_of(channels: Sequence[Channel]) -> list[int]:
     """The delivery systems of a frontend that finds these channels. One of a second generation has the first one too."""
     found = [system for channel in channels for system in channel.systems or TERRESTRIAL]
     return list(dict.fromkeys([*found, *(FIRST[system] for system in found if system in FIRST)]))
@@ -129,27 +137,27 @@ class Front:
     SIZE, MOST_SYSTEMS = 4096, 7
     HEAD, PACKETS_AT, SYSTEMS_AT, SYSTEM_AT = struct.Struct("=9I"), 40, 48, 80 + 4 * 17
 
-    def __init__(self, path, systems):
+    def __init__(self, path: str, systems: Sequence[int]) -> None:
         self.file = os.open(path, os.O_RDWR | os.O_CREAT | os.O_CLOEXEC, 0o600)
         os.ftruncate(self.file, self.SIZE)
         self.page = mmap.mmap(self.file, self.SIZE)
         systems = systems[:self.MOST_SYSTEMS]
         struct.pack_into(f"={len(systems)}I", self.page, self.SYSTEMS_AT, *systems)
 
-    def asked(self):
+    def asked(self) -> tuple[int, Asked] | None:
         """The count of a tuning that isn't done yet, and what it asks for; None where there is none."""
         wanted, granted, _, _, *asked = self.HEAD.unpack_from(self.page)
         return None if wanted == granted else (wanted, Asked(*asked))
 
-    def was_opened(self):
+    def was_opened(self) -> bool:
         """Whether a program has used the frontend: it has a delivery system from then on."""
         return struct.unpack_from("=I", self.page, self.SYSTEM_AT) != (0,)
 
-    def grant(self, wanted, status):
+    def grant(self, wanted: int, status: int) -> None:
         """A tuning is done. Programs that wait are told of it by the file."""
         os.pwrite(self.file, struct.pack("=I", status), 8)
         os.pwrite(self.file, struct.pack("=I", wanted), 4)
 
-    def pass_packets(self, count):
+    def pass_packets(self, count: int) -> None:
         """So many packets have passed."""
         struct.pack_into("=Q", self.page, self.PACKETS_AT, count)

@@ -1,4 +1,6 @@
 """The command of dvbemu-serve: how it is begun, told of signals, and ended with all that it has left running."""
+from __future__ import annotations
+
 import math
 import os
 import signal
@@ -6,21 +8,28 @@ import stat
 import struct
 import subprocess
 import sys
+from typing import TYPE_CHECKING
 
 from .building import Stopped
 from .clearing import VARIABLE, end_all, end_programs
+
+if TYPE_CHECKING:
+    from types import FrameType
+    from typing import Collection, Mapping, Sequence
+
+    from .adapters import Folder
 
 # Of an executable file: the kind of a segment that names the system's loader, and the kind and name of a note of Go's linker.
 PT_INTERP, GO_NOTE = b"\3\0\0\0", b"\4\0\0\0Go\0\0"
 
 
-def children():
+def children() -> list[int]:
     """The processes that this one has started, or has got from those that have ended."""
     with open(f"/proc/self/task/{os.getpid()}/children", encoding="ascii") as file:
         return [int(word) for word in file.read().split()]
 
 
-def still_there(servers):
+def still_there(servers: Collection[int]) -> list[int]:
     """The children but for these that haven't ended; none where the system doesn't tell of children."""
     try:
         return [child for child in children() if child not in servers and not os.waitpid(child, os.WNOHANG)[0]]
@@ -28,13 +37,13 @@ def still_there(servers):
         return []
 
 
-def end_all_but(servers, folder):
+def end_all_but(servers: Collection[int], folder: Folder) -> None:
     """Ends what the command has left running, for as long as that takes, and what else has found the adapters."""
     end_all(lambda: still_there(servers), math.inf)
     end_programs(folder.value())
 
 
-def unseen_as(path):
+def unseen_as(path: str) -> str | None:
     """Why a program won't have the preload, as far as its file tells; None where nothing says so."""
     try:
         with open(path, "rb") as file:
@@ -57,7 +66,7 @@ def unseen_as(path):
 class Interrupted(Stopped):
     """There is no report, since a signal has come."""
 
-    def __init__(self, number):
+    def __init__(self, number: int) -> None:
         super().__init__(f"stopped by {signal.Signals(number).name}")
         self.status = 128 + number
 
@@ -66,22 +75,30 @@ class Signals:
     """What is done where this process is told to end: the command is, while it runs. A terminal tells the command itself of
     Ctrl-C."""
 
-    def __init__(self):
-        self.command, self.is_starting, self.missed = None, False, []
+    def __init__(self) -> None:
+        self.is_starting = False
+        self.command: subprocess.Popen[bytes] | None = None
+        self.missed: list[int] = []
         for number in signal.SIGINT, signal.SIGTERM, signal.SIGHUP:
             signal.signal(number, self.come)
 
-    def start(self, command, env):
+    def start(self, command: Sequence[str], env: Mapping[str, str]) -> subprocess.Popen[bytes]:
         """Starts the command, which is told then of a signal that came meanwhile."""
         self.is_starting = True
         try:
-            self.command = subprocess.Popen(command, env=env)
+            running = self.command = subprocess.Popen(command, env=env)
         finally:
             self.is_starting = False
         for number in self.missed:
             self.come(number, None)
+        return running
 
-    def come(self, number, _frame):
+    def end_command(self) -> None:
+        """Tells the command to end, while it runs."""
+        if self.command:
+            self.command.terminate()
+
+    def come(self, number: int, _frame: FrameType | None) -> None:
         if self.is_starting:
             self.missed.append(number)
         elif self.command is None:
@@ -90,7 +107,7 @@ class Signals:
             self.command.send_signal(number)
 
 
-def environment(folder):
+def environment(folder: Folder) -> dict[str, str]:
     """The environment of the command, in which the user's own preloads come first. A sanitizer of gcc is told that this
     is meant."""
     ours = {"LD_PRELOAD": folder.preload, "ASAN_OPTIONS": "verify_asan_link_order=0"}
@@ -98,13 +115,13 @@ def environment(folder):
     return {**os.environ, VARIABLE: folder.value(), **both}
 
 
-def run_command(command, folder, signals):
+def run_command(command: Sequence[str], folder: Folder, signals: Signals) -> int:
     """Runs the command, and says how it ended."""
     try:
-        signals.start(command, environment(folder))
+        running = signals.start(command, environment(folder))
     except OSError as fault:
         print(f"dvbemu serve: {command[0]}: {fault.strerror}", file=sys.stderr)
         return 127
-    status = signals.command.wait()
+    status = running.wait()
     signals.command = None
     return status if status >= 0 else 128 - status

@@ -1,9 +1,15 @@
 """A transport stream as it is recorded, in a file or from a pipe: how its packets lie, and when each is due by its program clock."""
+from __future__ import annotations
+
 import os
 import select
 import stat
+from typing import TYPE_CHECKING
 
 from .. import clock
+
+if TYPE_CHECKING:
+    from typing import Iterator
 
 PACKET, SYNC = clock.PACKET, clock.SYNC
 # The bytes of a packet with what lies in front of it and behind it: as it is, with a time in front (Blu-ray, .m2ts), with 16 bytes
@@ -23,7 +29,7 @@ class Unplayable(Exception):
     """A file that can't be played, and why."""
 
 
-def form_of(data):
+def form_of(data: bytes) -> tuple[int, int] | None:
     """How packets lie in these bytes: how many bytes each takes, and where the first begins; None where there are none."""
     found = []
     for size, ahead in FORMS.items():
@@ -39,7 +45,7 @@ def form_of(data):
     return size, at
 
 
-def pcrs_of(block, phase):
+def pcrs_of(block: bytes, phase: int) -> Iterator[tuple[int, int, int, bool]]:
     """Each PCR in a block whose packets begin at this phase: its place, its PID, its clock and whether that begins anew."""
     flags = block[phase + 3::PACKET].translate(HAS_FIELD)
     number = flags.find(1)
@@ -54,8 +60,11 @@ def pcrs_of(block, phase):
 class Recording:
     """A stream, which is read as it is played. A rate in packets a second goes before its clock."""
 
-    def __init__(self, path, rate=None):
-        self.path, self.rate, self.form, self.told, self.seconds = path, rate, None, [], None
+    def __init__(self, path: str, rate: float | None = None) -> None:
+        self.path, self.rate = path, rate
+        self.form: tuple[int, int] | None = None
+        self.told: list[str] = []
+        self.seconds: float | None = None
         self.file = os.dup(0) if path == "-" else os.open(path, os.O_RDONLY | os.O_CLOEXEC)
         kind = os.fstat(self.file).st_mode
         if stat.S_ISDIR(kind):
@@ -65,18 +74,19 @@ class Recording:
             self.look(os.pread(self.file, LOOKED_AT, 0))
             self.speed()
 
-    def look(self, data):
-        """Sees how packets lie."""
+    def look(self, data: bytes) -> tuple[int, int]:
+        """Sees how packets lie, as form_of does."""
         if len(data) < PACKET:
             raise Unplayable(f"{self.path} has no packet")
-        self.form = form_of(data)
-        if self.form is None:
+        form = self.form = form_of(data)
+        if form is None:
             raise Unplayable(f"{self.path} is no transport stream: no bytes 0x47 are 188, 192 or 204 bytes apart")
-        size, at = self.form
+        size, at = form
         if size != PACKET or at:
             self.told.append(f"{self.path}: packets of {size} bytes, the first at byte {at}")
+        return form
 
-    def speed(self):
+    def speed(self) -> float:
         """The packets a second in the first ten seconds of a file, or the rate that was said."""
         if self.rate:
             return self.rate
@@ -87,36 +97,36 @@ class Recording:
                 break
         return packets / seconds
 
-    def length(self):
+    def length(self) -> float:
         """The seconds that the whole of a file takes."""
         if self.seconds is None:
             self.seconds = sum(seconds for _, seconds in self.runs())
         return self.seconds
 
-    def blocks(self, at=0):
+    def blocks(self, at: int = 0) -> Iterator[bytes]:
         """The packets from this byte on, as many as come at once; none where nothing of a pipe has come yet."""
-        rest, is_over = b"", False
+        rest, is_over, form = b"", False, self.form
         while not is_over:
             data = self.read(at, BLOCK)
             is_over = data == b""
             at += len(data or b"")
             rest += data or b""
-            if self.form is None and (is_over or len(rest) >= LOOKED_AT // 8):
-                self.look(rest)
-                rest = rest[self.form[1]:]
-            packets, rest = self.unwrapped(rest) if self.form else (b"", rest)
+            if form is None and (is_over or len(rest) >= LOOKED_AT // 8):
+                form = self.look(rest)
+                rest = rest[form[1]:]
+            packets, rest = self.unwrapped(rest, form[0]) if form else (b"", rest)
             yield packets
 
-    def read(self, at, count):
+    def read(self, at: int, count: int) -> bytes | None:
         """Bytes of the file from this place on, or what comes next through a pipe: None where nothing does now."""
         if not self.is_pipe:
             return os.pread(self.file, count, at)
         return os.read(self.file, count) if select.select([self.file], [], [], PAUSE)[0] else None
 
-    def unwrapped(self, data):
-        """The packets without what lies around them, and the bytes of one that isn't whole. Of 188 bytes all are as they stand."""
-        size, ahead = self.form[0], FORMS[self.form[0]]
-        whole = len(data) // size * size
+    @staticmethod
+    def unwrapped(data: bytes, size: int) -> tuple[bytes, bytes]:
+        """The packets, of so many bytes each, without what lies around them, and the bytes of one that isn't whole. Of 188 bytes all are as they stand."""
+        ahead, whole = FORMS[size], len(data) // size * size
         if size == PACKET:
             return data[:whole], data[whole:]
         packets, at = [], 0
@@ -129,7 +139,7 @@ class Recording:
                 at = found - ahead if found >= 0 else len(data)
         return b"".join(packets), data[at:]
 
-    def runs(self, within=None):
+    def runs(self, within: int | None = None) -> Iterator[tuple[bytes, float]]:
         """Runs of packets, each with the seconds that it takes: from one PCR to the next, or as the last ones where the clock makes a
         leap or begins anew. A stream without a clock in so many bytes can't be played."""
         begin = self.form[1] if self.form else 0
@@ -154,10 +164,12 @@ class Recording:
 class Pace:
     """The seconds that a packet takes, PCR by PCR."""
 
-    def __init__(self):
-        self.pid, self.last, self.pace, self.held, self.count, self.silent = None, None, None, b"", 0, 0
+    def __init__(self) -> None:
+        self.held, self.count, self.silent, self.last = b"", 0, 0, 0
+        self.pid: int | None = None
+        self.pace: float | None = None
 
-    def runs(self, block):
+    def runs(self, block: bytes) -> Iterator[tuple[bytes, float]]:
         """The runs that end in a block."""
         phase, begun = max(self.phase_of(block), 0), 0
         for at, pid, ticks, is_new in pcrs_of(block, phase):
@@ -176,12 +188,12 @@ class Pace:
         self.count += len(block)
 
     @staticmethod
-    def phase_of(block):
+    def phase_of(block: bytes) -> int:
         """Where the first packet of a block begins: at its front, but where bytes lie between that are none."""
         form = (PACKET, 0) if block[::PACKET].count(SYNC) > len(block) // PACKET * 0.9 else form_of(block)
         return form[1] if form and form[0] == PACKET else 0
 
-    def note(self, ticks, is_new, packets):
+    def note(self, ticks: int, is_new: bool, packets: int) -> None:
         """The clock goes on behind so many packets."""
         passed = (ticks - self.last) % clock.WRAP
         if not is_new and 0 < passed <= clock.LONGEST:
@@ -191,12 +203,12 @@ class Pace:
 class Player:
     """A recording that is played, in a loop or once."""
 
-    def __init__(self, recording, once):
+    def __init__(self, recording: Recording, once: bool) -> None:
         self.recording, self.once = recording, once or recording.is_pipe
         self.runs, self.run, self.given, self.ended = recording.runs(), b"", 0, False
         self.begun, self.length = 0.0, 0.0
 
-    def begin(self, now, seconds=0.0):
+    def begin(self, now: float, seconds: float = 0.0) -> None:
         """Plays from this moment on, from the first packet or from that which is due behind so many seconds."""
         self.begun, self.length = now, 0.0
         if self.recording.is_pipe:
@@ -209,7 +221,7 @@ class Player:
         self.begun = now - left
         self.given = int(len(self.run) / PACKET * left / self.length) if self.length else 0
 
-    def next_run(self, now):
+    def next_run(self, now: float) -> None:
         """Comes to the next run; the first one follows the last."""
         self.begun += self.length
         if self.recording.is_pipe and now - self.begun > LATE:
@@ -222,7 +234,7 @@ class Player:
         self.run, self.length = found or (b"", 0.0)
         self.given = 0
 
-    def due(self, now, most):
+    def due(self, now: float, most: int) -> bytes:
         """The packets that are due up to this moment, at most so many."""
         if not self.run and not self.ended:
             self.next_run(now)
