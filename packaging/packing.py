@@ -179,12 +179,17 @@ def preload_in(library):
     return os.path.join(library, "preload", "out", "preload.so")
 
 
+def unkept():
+    """The environment in which Python keeps nothing of what it compiles: the tree has what is packed alone."""
+    return {**os.environ, "PYTHONDONTWRITEBYTECODE": "1"}
+
+
 def build_preload(library):
     """Compiles what `serve` loads into programs: the server's first run does it."""
     stream = os.path.join(ROOT, "examples", "programs", "scan.ts")
     with tempfile.TemporaryDirectory() as folder:
         words = [os.path.join(library, "dvbemu-serve"), "--packets", "3000", "--report", os.path.join(folder, "report"), stream, "--", "true"]
-        ran = subprocess.run(words, capture_output=True, text=True, check=False)
+        ran = subprocess.run(words, capture_output=True, text=True, check=False, env=unkept())
     if ran.returncode or not os.path.exists(preload_in(library)):
         raise Refused(f"what `serve` loads can't be built, or the server doesn't run: {ran.stderr.strip()}")
 
@@ -219,7 +224,7 @@ def section_of(page, first, last):
 def help_of(library, *words):
     """A help, as lines that stay as they are."""
     asked = [os.path.join(library, words[0]), *words[1:], "--help"]
-    return "".join(f"    {line}\n" for line in subprocess.run(asked, stdout=subprocess.PIPE, text=True, check=True).stdout.split("\n"))
+    return "".join(f"    {line}\n" for line in subprocess.run(asked, stdout=subprocess.PIPE, text=True, check=True, env=unkept()).stdout.split("\n"))
 
 
 def pages_of(library):
@@ -416,8 +421,8 @@ def deb(root, path, proof):
         write(os.path.join(top, "DEBIAN", "control"), control)
         sums = [f"{sum_of(os.path.join(top, name), hashlib.md5)}  {name}\n" for name in sorted(files_in(top)) if is_packed(top, name)]
         write(os.path.join(top, "DEBIAN", "md5sums"), "".join(sums))
-        shutil.copy(os.path.join(HERE, "prerm"), os.path.join(top, "DEBIAN", "prerm"))
-        os.chmod(os.path.join(top, "DEBIAN", "prerm"), 0o755)
+        for name in "postinst", "prerm":
+            os.chmod(shutil.copy(os.path.join(HERE, name), os.path.join(top, "DEBIAN", name)), 0o755)
         subprocess.run(["find", top, "-type", "d", "-exec", "chmod", "0755", "{}", "+"], check=True)
         words = ["dpkg-deb", "--root-owner-group", "--build", top, path]
         subprocess.run(words, env={**os.environ, "SOURCE_DATE_EPOCH": str(proof.time)}, stdout=subprocess.DEVNULL, check=True)
