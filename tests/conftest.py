@@ -5,10 +5,12 @@ import gc
 import io
 import os
 import random
+import shutil
 import signal
 import subprocess
 import sys
 import tempfile
+import time
 from pathlib import Path
 from typing import Callable, NamedTuple
 from unittest import mock
@@ -27,7 +29,7 @@ for handler in HANDLERS.items():
 ROOT = Path(__file__).resolve().parent.parent
 EXAMPLES = ROOT / "examples"
 PROGRAM = str(ROOT / "dvbemu")
-SERVED = ROOT / "tools" / "checks" / "served.report"
+SERVED = ROOT / "tests" / "served.report"
 SERVER = ROOT / "crates" / "dvb_serve" / "out" / "dvb_serve"
 # The words that start a program, or are one.
 STARTS = {*command_line.PROVED, "serve", "calls", "test"}
@@ -188,3 +190,44 @@ def files_room(tmp_path_factory: pytest.TempPathFactory) -> Room:
         "tests/a.session": b"stream\n", "tests/a.report": EMPTY, "kept/head": EMPTY, "kept/batches": b"",
     })  # fmt: skip
     return made
+
+
+def needs(*names: str) -> None:
+    """Skips a test where one of these commands isn't there."""
+    missing = [name for name in names if shutil.which(name) is None]
+    if missing:
+        pytest.skip(f"{', '.join(missing)} isn't there")
+
+
+def comes(condition: Callable[[], object], seconds: float = 60) -> bool:
+    """Whether something comes in time."""
+    until = time.monotonic() + seconds
+    while not condition() and time.monotonic() < until:
+        time.sleep(0.1)
+    return bool(condition())
+
+
+@pytest.fixture(scope="session")
+def compiled(tmp_path_factory: pytest.TempPathFactory) -> Callable[..., str]:
+    """Programs of C: `compiled("calls.c", "-pthread")` is the path of one, of a source beside the tests."""
+
+    def made(source: str, *words: str) -> str:
+        needs("cc")
+        program = str(tmp_path_factory.mktemp("c") / Path(source).stem)
+        asked = ["cc", "-w", *words, "-o", program, str(ROOT / "tests" / source)]
+        done = subprocess.run(asked, capture_output=True, text=True, check=False, env={**os.environ, "LC_ALL": "C"})
+        if "No such file" in done.stderr:
+            pytest.skip("a header isn't there, as linux/dvb/dmx.h")
+        assert done.returncode == 0, done.stderr
+        return program
+
+    return made
+
+
+@pytest.fixture(scope="session")
+def server() -> Path:
+    """The proved server; a test that wants it is skipped where it isn't built."""
+    path = ROOT / "crates" / "dvb_serve" / "out" / "dvb_serve"
+    if not path.exists():
+        pytest.skip("the server isn't built")
+    return path

@@ -9,7 +9,7 @@ from conftest import EXAMPLES, ROOT
 from dvbemu.oracle import judge, second
 from packets import packet
 
-SERVED = (ROOT / "tools" / "checks" / "served.report").read_text()
+SERVED = (ROOT / "tests" / "served.report").read_text()
 STREAM = (EXAMPLES / "programs" / "scan.session").read_bytes().split(b"\nstream\n", 1)[1]
 # The first table that dvbv5-scan looks for.
 SCANNED = "feed 64\nc1 open h0\nc1 section n0 0 0 5 0=00/ff/00\nc1 poll n0\nfeed 192\nc1 poll n0\nfeed 64\nc1 read n0 4096\nc1 stop n0\n"

@@ -1,7 +1,7 @@
 """The nodes of the plain second program, fuzz/second.py, for long reports.
 
 The second program puts all bytes of a capture together at each read, works out all its sections anew at each pass, and tries each of
-them anew: what a call costs grows with what came before. Here that is kept, and the answers are the same: tools/checks/why compares them.
+them anew: what a call costs grows with what came before. Here that is kept, and the answers are the same: tests/test_why.py compares them.
 """
 from __future__ import annotations
 

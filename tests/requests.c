@@ -1,5 +1,5 @@
 /* Prints what linux/dvb/dmx.h says of the requests of a demux device: their numbers, the lengths of their structures and the
-   places of the fields, and a few structures as bytes. tools/checks/requests compares it with the table of crates/dmx_abi and with
+   places of the fields, and a few structures as bytes. tests/test_requests.py compares it with the table of crates/dmx_abi and with
    the tests of crates/tests_low. */
 #include <stddef.h>
 #include <stdio.h>

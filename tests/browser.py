@@ -1,4 +1,4 @@
-"""A headless Chromium that a check drives by its own protocol, over two pipes."""
+"""A headless Chromium that a test drives by its own protocol, over two pipes."""
 import base64
 import json
 import os

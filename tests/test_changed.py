@@ -1,13 +1,10 @@
-#!/usr/bin/env python3
-"""Tries what reads a report over lawful and changed reports: explain, picture, page, hint, and json there and back.
+"""What reads a report, over lawful and changed reports: explain, picture, page, hint, and json there and back.
 
-    changed [COUNT [FIRST]]
-
-The reports are those of sessions of fuzz/fuzz, by the plain second program, and COUNT changed ones (200 without it), each with one to three
-changes of fuzz/changes.py, or with another number, line or word. The seeds are FIRST, or 1, and those behind it. Over a lawful report each
-tool gives its answer. Over a changed one it does, or it names the line that is wrong; nothing else may come of it. What the reader takes is
-a report for the program's `check` too, and what it refuses is none there either, but for what docs/BEHAVIOUR.md rules out and `check` tells
-as another fault; of more than 200 it is asked about each twentieth. The last line is `N passed, M failed`.
+The reports are those of sessions of fuzz/fuzz, by the plain second program, and changed ones, each with one to three changes of
+fuzz/changes.py, or with another number, line or word; CHANGED_COUNT and CHANGED_FIRST in the environment name how many and the first of
+their seeds, 200 and 1 without. Over a lawful report each tool gives its answer. Over a changed one it does, or it names the line that is
+wrong; nothing else may come of it. What the reader takes is a report for the program's `check` too, and what it refuses is none there
+either, but for what docs/BEHAVIOUR.md rules out and `check` tells as another fault; of more than 200 it is asked about each twentieth.
 """
 import importlib.machinery
 import importlib.util
@@ -16,27 +13,23 @@ import os
 import random
 import re
 import subprocess
-import sys
-import traceback
-from collections import Counter
 from functools import lru_cache
 
-HERE = os.path.dirname(os.path.realpath(__file__))
-ROOT = os.path.join(HERE, "..", "..")
-sys.path[1:1] = [os.path.join(HERE, "..", "lib"), os.path.join(ROOT, "fuzz"), os.path.join(HERE, "..", "..", "python", "src")]
-sys.dont_write_bytecode = True
-
 import changes
-from dvbemu import objects
+import pytest
+from checks import asked_of
+from conftest import PROGRAM, ROOT
+from dvbemu import objects, reports
+from dvbemu.commands import hint
 from dvbemu.explain import played
-from dvbemu import reports
+from dvbemu.explain.told import Part, page as explained
 from dvbemu.oracle import second
-from checks import PROGRAM, Tally, asked_of, see_built
 from dvbemu.picture.drawing import picture
 from dvbemu.picture.sheet import page
-from dvbemu.explain.told import Part, page as explained
 
 COUNT, EACH, ASKED = 200, 10, 20
+ASKED_COUNT, FIRST = int(os.environ.get("CHANGED_COUNT", COUNT)), int(os.environ.get("CHANGED_FIRST", 1))
+SEEDS = range(FIRST, FIRST + ASKED_COUNT)
 NUMBERS = [0, 1, 7, 8, 31, 32, 64, 65, 188, 8191, 8192, 65535, 65536, 2**32 - 1, 2**32, 299999999999, 2**64 - 1, 2**64]
 WORDS = """c8 c12 feed end pass read poll data again passed ended=2 keep detach attach:- attach:5,4 input=dvr input=frontend owner=feed
 owner=c9 ENOMEM EINVAL 0=00/00/00 3=00/3e/3e""".split()
@@ -103,19 +96,19 @@ end
 
 def script(path):
     """A script of this repository as a module."""
-    loader = importlib.machinery.SourceFileLoader(os.path.basename(path), os.path.join(ROOT, path))
+    loader = importlib.machinery.SourceFileLoader(os.path.basename(path), str(ROOT / path))
     module = importlib.util.module_from_spec(importlib.util.spec_from_loader(loader.name, loader))
     loader.exec_module(module)
     return module
 
 
-FUZZ, HINT = script("fuzz/fuzz"), importlib.import_module("dvbemu.commands.hint")
+FUZZ = script("fuzz/fuzz")
 
 
 # ------ the reports
 
 
-@lru_cache(1)
+@lru_cache(32)
 def lawful(seed):
     """A session with a script without a fault, and its report."""
     while True:
@@ -170,6 +163,13 @@ def changed(seed, text):
     return text
 
 
+@lru_cache(32)
+def made_of(seed):
+    """A session, its report, and that one changed."""
+    session, report = lawful(1 + seed // EACH)
+    return session, report, changed(seed, report)
+
+
 # ------ what is made of them
 
 
@@ -178,59 +178,70 @@ def read(text):
     return reports.read(reports.text_of(io.BytesIO(text.encode("latin-1"))))
 
 
-def there_and_back(text):
+def there_and_back(text, _):
     """The report of the JSON Lines that a report is."""
     return "".join(line + "\n" for line in objects.back(objects.texts_of(read(text))))
 
 
-def tools_of(text, session):
-    """What each tool makes of a report and its session."""
-    return {
-        "json": lambda: there_and_back(text),
-        "explain": lambda: explained(read(text), Part()),
-        "picture": lambda: picture(read(text), "changed"),
-        "page": lambda: page(read(text), "changed"),
-        "hint": lambda: HINT.page(read(text), HINT.packets_of(session, read(text))),
-    }
+# What each tool makes of a report and its session.
+TOOLS = {
+    "json": there_and_back,
+    "explain": lambda text, _: explained(read(text), Part()),
+    "picture": lambda text, _: picture(read(text), "changed"),
+    "page": lambda text, _: page(read(text), "changed"),
+    "hint": lambda text, session: hint.page(read(text), hint.packets_of(session, read(text))),
+}
+LINE = r"line \d+: |no session of this report"
 
 
-def fault_of(make):
+def fault_of(make, *given):
     """What a tool makes, and None; or nothing, and what it tells of the text."""
     try:
-        return make(), None
+        return make(*given), None
     except (reports.NotAReport, objects.NoObjects, played.NotPlayed) as fault:
         return None, str(fault)
 
 
-def try_report(tally, name, text, session, is_lawful, counts):
-    """A report by each of the tools."""
-    for tool, make in tools_of(text, session).items():
-        try:
-            made, fault = fault_of(make)
-        except Exception:  # pylint: disable=broad-except
-            tally.count(False, f"changed: {name}: {tool}: {traceback.format_exc(-2)}")
-            continue
-        counts[tool] += made is not None
-        right = made is not None if is_lawful else bool(made or re.match(r"line \d+: |no session of this report", fault or ""))
-        right = right and (tool != "json" or made in (None, text))
-        tally.count(right, f"changed: {name}: {tool}: {fault or 'other bytes come back'}")
+@pytest.mark.parametrize("tool", TOOLS)
+@pytest.mark.parametrize("seed", [seed for seed in SEEDS if seed % EACH == 0])
+def test_lawful(seed, tool):
+    session, report, _ = made_of(seed)
+    made, fault = fault_of(TOOLS[tool], report, session)
+    assert fault is None and made is not None
+    assert tool != "json" or made == report
 
 
-def asked(program, text):
-    """The program's `check`, which has begun to look whether a text is a report."""
-    with open(os.memfd_create("asked"), "w+b") as file:
-        file.write(asked_of(text.encode("latin-1"), b"stream\n"))
-        file.seek(0)
-        return subprocess.Popen([program, "check"], stdin=file, stdout=subprocess.DEVNULL, stderr=subprocess.PIPE)
+@pytest.mark.parametrize("tool", TOOLS)
+@pytest.mark.parametrize("seed", SEEDS)
+def test_changed(seed, tool):
+    session, _, text = made_of(seed)
+    made, fault = fault_of(TOOLS[tool], text, session)
+    assert made or re.match(LINE, fault or "")
+    assert tool != "json" or made in (None, text)
 
 
-def try_reader(tally, name, text, checking):
-    """Whether the program takes a text for a report where the reader does."""
-    told = checking.communicate()[1].decode()
-    _, fault = fault_of(lambda: read(text))
+@pytest.fixture(scope="module")
+def program():
+    """The path of the program."""
+    told = subprocess.run([PROGRAM, "check"], env={**os.environ, "DVBEMU_TELL": "1"}, stdin=subprocess.DEVNULL, capture_output=True, check=True)
+    return told.stdout.decode().strip()
+
+
+def try_reader(program, text):
+    """The program takes a text for a report where the reader does; what the reader tells."""
+    told = subprocess.run([program, "check"], input=asked_of(text.encode("latin-1"), b"stream\n"), capture_output=True, check=False).stderr.decode()
+    _, fault = fault_of(read, text)
     is_text = not re.match(r"dvbemu: report line \d+: text\n", told)
-    right = is_text == (fault is None) or is_text and any(words in fault for words in RULED_OUT)
-    tally.count(right, f"changed: {name}: the reader tells {fault}, and the program {told}")
+    assert is_text == (fault is None) or is_text and any(words in fault for words in RULED_OUT), (fault, told)
+    return fault
+
+
+@pytest.mark.parametrize("seed", [seed for seed in SEEDS if ASKED_COUNT <= COUNT or seed % ASKED == 0])
+def test_reader(program, seed):
+    _, report, text = made_of(seed)
+    try_reader(program, text)
+    if seed % EACH == 0:
+        try_reader(program, report)
 
 
 def with_line(line):
@@ -240,63 +251,46 @@ def with_line(line):
     return f"{head}{parts[line.partition(' ')[0]]}\n{tail}"
 
 
-def try_numbers(tally, program):
-    """Each number that a report has: the greatest of its bits is taken, and the next one isn't. So it is of lines of another form."""
-    filled = re.sub(r"<(\d+)>", lambda bits: str(2 ** int(bits[1]) - 1), WIDE)
-    texts = [("the greatest numbers", filled, True)]
-    for found in re.finditer(r"<(\d+)>", WIDE):
-        text = WIDE[: found.start()] + str(2 ** int(found[1])) + WIDE[found.end() :]
+def greatest(text):
+    """A text in which each number is the greatest one of its bits."""
+    return re.sub(r"<(\d+)>", lambda bits: str(2 ** int(bits[1]) - 1), text)
+
+
+def too_great():
+    """Reports in which one number is the next one, and those of another form."""
+    for place, found in enumerate(re.finditer(r"<(\d+)>", WIDE)):
         line = WIDE.count("\n", 0, found.start()) + 1
-        texts.append((f"line {line} with 2^{found[1]}", re.sub(r"<(\d+)>", lambda bits: str(2 ** int(bits[1]) - 1), text), False))
-    texts += [(line[:60], with_line(line), False) for line in NO_LINES]
-    for name, text, is_report in texts:
-        _, fault = fault_of(lambda text=text: read(text))
-        tally.count((fault is None) == is_report, f"changed: {name}: {fault}")
-        try_reader(tally, name, text, asked(program, text))
+        text = greatest(WIDE[: found.start()] + str(2 ** int(found[1])) + WIDE[found.end() :])
+        yield pytest.param(text, id=f"number {place}, of line {line}, is 2^{found[1]}")
+    for line in NO_LINES:
+        yield pytest.param(with_line(line), id=line[:60])
 
 
-def try_by_hand(tally):
-    """Reports that no program writes: each is drawn; the page, which has what explain tells too, names the line of the first."""
-    for name, text, pages in ("untold", UNTOLD, 0), ("crossed", CROSSED, 1):
-        counts = Counter()
-        try_report(tally, name, text, b"stream\n", False, counts)
-        tally.count((counts["picture"], counts["page"], counts["explain"]) == (1, pages, pages), f"changed: {name}: {dict(counts)}")
+def test_greatest_numbers(program):
+    assert try_reader(program, greatest(WIDE)) is None
 
 
-def try_others(tally):
-    """Texts that are no reports, but something else that dvbemu knows."""
-    for text, wanted in OTHERS:
-        _, fault = fault_of(lambda text=text: read(text))
-        tally.count(fault.endswith(f"; {wanted}") if wanted else fault.startswith("line 1: ") and ";" not in fault.replace("know; it", ""),
-                    f"changed: {text[:20]!r}: {fault}")  # fmt: skip
+@pytest.mark.parametrize("text", too_great())
+def test_line_of_no_report(program, text):
+    assert try_reader(program, text) is not None
 
 
-def built_program():
-    """The path of the program."""
-    told = subprocess.run([PROGRAM, "check"], env={**os.environ, "DVBEMU_TELL": "1"}, stdin=subprocess.DEVNULL, capture_output=True, check=True)
-    return told.stdout.decode().strip()
+@pytest.mark.parametrize("text, pages", [pytest.param(UNTOLD, 0, id="untold"), pytest.param(CROSSED, 1, id="crossed")])
+@pytest.mark.parametrize("tool", TOOLS)
+def test_report_that_no_program_writes(text, pages, tool):
+    """It is drawn; the page, which has what explain tells too, names the line of the first."""
+    made, fault = fault_of(TOOLS[tool], text, b"stream\n")
+    assert made or re.match(LINE, fault or "")
+    assert tool != "json" or made in (None, text)
+    wanted = {"picture": 1, "page": pages, "explain": pages}
+    assert (made is not None) == wanted.get(tool, made is not None)
 
 
-def main():
-    """The status."""
-    see_built()
-    tally, counts, program = Tally(), Counter(), built_program()
-    count, first = (int(sys.argv[place]) if len(sys.argv) > place else usual for place, usual in ((1, COUNT), (2, 1)))
-    try_numbers(tally, program)
-    try_by_hand(tally)
-    try_others(tally)
-    for seed in range(first, first + count):
-        session, report = lawful(1 + seed // EACH)
-        texts = [(f"report {seed}, changed", changed(seed, report))] + [(f"report {seed}", report)] * (seed % EACH == 0)
-        for name, text in texts:
-            checking = asked(program, text) if count <= COUNT or seed % ASKED == 0 else None
-            try_report(tally, name, text, session, text is report, counts)
-            if checking:
-                try_reader(tally, name, text, checking)
-    print(f"of {count:,} changed reports and {len(range(-first % EACH, count, EACH)):,} lawful ones: "
-          + ", ".join(f"{tool} {counts[tool]:,}" for tool in tools_of("", b"")))  # fmt: skip
-    return tally.end()
-
-
-if __name__ == "__main__":
-    sys.exit(main())
+@pytest.mark.parametrize("text, wanted", OTHERS)
+def test_text_that_is_no_report(text, wanted):
+    """What it is where dvbemu knows it."""
+    _, fault = fault_of(read, text)
+    if wanted:
+        assert fault.endswith(f"; {wanted}")
+    else:
+        assert fault.startswith("line 1: ") and ";" not in fault.replace("know; it", "")

@@ -1,25 +1,15 @@
-#!/usr/bin/env python3
-"""Tries tools/why over right reports, over a wrong one of each kind, and where nothing can be said.
+"""`dvbemu why` over right reports, over a wrong one of each kind, and where nothing can be said.
 
 The sentences were worked out by hand from the rules of docs/BEHAVIOUR.md, and those of the reports of ../examples stand beside them,
 NAME.why. What is looked for behind the answer of `check`, as in long reports, is the same; and the nodes that play these again
-(python/src/dvbemu/quick.py) answer as those of the second program over each session of examples/rows. The last line is `N passed, M failed`.
+(python/src/dvbemu/quick.py) answer as those of the second program over each session of examples/rows.
 """
-import glob
-import os
-import subprocess
-import sys
-import tempfile
-
-HERE = os.path.dirname(os.path.realpath(__file__))
-sys.path[1:1] = [os.path.join(HERE, "..", *names) for names in (["lib"], ["..", "fuzz"], ["..", "examples"], ["..", "python", "src"])]
-sys.dont_write_bytecode = True
-
-from dvbemu import quick
-from dvbemu import reasons
+import pytest
 import rows
+from checks import asked_of
+from conftest import EXAMPLES, examples
+from dvbemu import quick, reasons
 from dvbemu.oracle import second
-from checks import EXAMPLES, PROGRAM, Tally, asked_of, bytes_of, changed_reports, example, files, options_of
 
 RIGHT = "right: it is a report of a run of this session"
 # What is changed in the report of an example, and what is told of it.
@@ -108,81 +98,108 @@ end
 """
 MISLED = "line 16: node 1, place 2: again ended=1; the rules give again ended=0"
 
-
-def told(report, session, packet=188):
-    """What tools/why tells of a report, given as bytes, and its status."""
-    with tempfile.TemporaryDirectory() as folder:
-        paths = [os.path.join(folder, name) for name in ("report", "session")]
-        for path, text in zip(paths, (report, session)):
-            with open(path, "wb") as file:
-                file.write(text)
-        return ran(*([] if packet == 188 else ["--packet", str(packet)]), *paths)
+MISLED_READ = READ.replace(b"again ended=0", b"again ended=1")
 
 
-def ran(*words):
-    """What tools/why tells on both its ends, and its status."""
-    child = subprocess.run([PROGRAM, "why", *words], capture_output=True, check=False)
-    return child.stdout.decode(), child.stderr.decode(), child.returncode
+def bytes_of(name, ending):
+    """The bytes of an example."""
+    return (EXAMPLES / (name + ending)).read_bytes()
 
 
-def is_told(report, session, sentence, packet=188):
-    """Whether this sentence is told of a report."""
-    return told(report, session, packet) == (sentence + "\n", "", 0 if sentence == RIGHT else 1)
+def packet_of(name):
+    """What a packet takes up in a session of an example: its words are `steps --batch B`, or `steps --batch B --packet P`."""
+    path = EXAMPLES / f"{name}.words"
+    words = path.read_text().split() if path.exists() else []
+    return words[words.index("--packet") + 1] if "--packet" in words else "188"
 
 
-def is_found(report, session, sentence):
-    """Whether this sentence comes of what `check` tells of a report."""
-    checked = subprocess.run([PROGRAM, "check"], input=asked_of(report, session), capture_output=True, check=False)
-    return checked.stdout == b"yes\n" if sentence == RIGHT else str(reasons.wrong(session, report, 188, checked.stderr)) == sentence
+def changed_of(name, old, new):
+    """The report of an example in which a text is replaced."""
+    report = bytes_of(name, ".report")
+    changed = report.replace(old.encode(), new.encode(), 1)
+    assert changed != report
+    return changed
+
+
+@pytest.fixture
+def told(cli, tmp_path):
+    """What `why` tells of a report and its session, which are given as bytes."""
+
+    def made(report, session, packet="188"):
+        for name, text in ("report", report), ("session", session):
+            (tmp_path / name).write_bytes(text)
+        words = [] if packet == "188" else ["--packet", packet]
+        return cli("why", *words, str(tmp_path / "report"), str(tmp_path / "session"))
+
+    return made
+
+
+def is_told(sentence):
+    """How `why` ends that tells this sentence."""
+    return 0 if sentence == RIGHT else 1, sentence + "\n", ""
+
+
+@pytest.mark.parametrize("name", examples(".session"))
+def test_report_of_an_example(told, name):
+    assert told(bytes_of(name, ".report"), bytes_of(name, ".session"), packet_of(name)) == is_told(RIGHT)
+
+
+@pytest.mark.parametrize("name", examples(".changed"))
+def test_changed_report(told, name):
+    # (its session is that whose name stands in front of the first `-`)
+    sentence = bytes_of(name, ".why").decode().removesuffix("\n")
+    assert told(bytes_of(name, ".changed"), bytes_of(name.partition("-")[0], ".session")) == is_told(sentence)
+
+
+@pytest.mark.parametrize("name, old, new, sentence", WRONG)
+def test_wrong(told, name, old, new, sentence):
+    assert told(changed_of(name, old, new), bytes_of(name, ".session")) == is_told(sentence)
+
+
+@pytest.mark.parametrize("name, old, new, sentence", WRONG)
+def test_wrong_behind_check(cli, name, old, new, sentence):
+    report, session = changed_of(name, old, new), bytes_of(name, ".session")
+    checked = cli("check", stdin=asked_of(report, session))
+    if sentence == RIGHT:
+        assert checked.out == "yes\n"
+    else:
+        assert str(reasons.wrong(session, report, 188, checked.err.encode())) == sentence
+
+
+@pytest.mark.parametrize("report, sentence", [(READ, RIGHT), (MISLED_READ, MISLED)])
+def test_client_that_is_misled(told, report, sentence):
+    assert told(report, READS) == is_told(sentence)
+
+
+def test_session_with_a_fault(told):
+    status, out, err = told(READ, b"c0 strat n0\nstream\n")
+    assert (status, out) == (2, "")
+    assert "script line 1: command" in err
+
+
+@pytest.mark.parametrize("words", [f"{EXAMPLES} none", "", "--packet 192 report session"])
+def test_wrong_words(cli, words):
+    assert cli("why", *words.split())[:2] == (2, "")
 
 
 def reported(session, batch, nodes):
     """The report of a session whose nodes are these; or its fault."""
-    second.Demux, second.Dvr = nodes
-    try:
-        return second.report(session, batch)
-    except second.Fault as fault:
-        return str(fault)
+    with pytest.MonkeyPatch.context() as patch:
+        patch.setattr(second, "Demux", nodes[0])
+        patch.setattr(second, "Dvr", nodes[1])
+        try:
+            return second.report(session, batch)
+        except second.Fault as fault:
+            return str(fault)
 
 
-def try_nodes(tally):
-    """The nodes for long reports."""
-    plain = second.Demux, second.Dvr
-    for path in sorted(glob.glob(os.path.join(glob.escape(EXAMPLES), "rows", "*.rows"))):
-        for number, session in enumerate(rows.read_rows(bytes_of(path).decode())):
-            given, batch = bytes(session.input), (1, 3, 64)[number % 3]
-            same = reported(given, batch, quick.NODES) == reported(given, batch, plain)
-            tally.count(same, f"{path}: {session.title}: the nodes for long reports answer otherwise")
+def sessions():
+    """The sessions of examples/rows, and their batches."""
+    for path in sorted(EXAMPLES.glob("rows/*.rows")):
+        for number, session in enumerate(rows.read_rows(path.read_text())):
+            yield pytest.param(bytes(session.input), (1, 3, 64)[number % 3], id=f"{path.stem}: {session.title}")
 
 
-def main():
-    tally = Tally()
-    try_nodes(tally)
-    for name in files(".session"):
-        case = example(name)
-        packet = options_of(case.words)[1]
-        tally.count(is_told(case.report, case.session, RIGHT, packet), f"{name}: its report isn't right")
-    for name, report, session in changed_reports():
-        sentence = bytes_of(os.path.join(EXAMPLES, name + ".why")).decode().removesuffix("\n")
-        tally.count(is_told(report, session, sentence), f"{name}.changed: {told(report, session)}")
-    for name, old, new, sentence in WRONG:
-        case = example(name)
-        changed = case.report.replace(old.encode(), new.encode(), 1)
-        same = changed != case.report and is_told(changed, case.session, sentence)
-        tally.count(same, f"{name} with {new!r} for {old!r}: {told(changed, case.session)}")
-        tally.count(is_found(changed, case.session, sentence), f"{name} with {new!r} for {old!r}, behind check")
-    tally.count(is_told(READ, READS, RIGHT), f"a report of two reads: {told(READ, READS)}")
-    misled = READ.replace(b"again ended=0", b"again ended=1")
-    tally.count(is_told(misled, READS, MISLED), f"a client that was misled: {told(misled, READS)}")
-    faulty = told(READ, b"c0 strat n0\nstream\n")
-    tally.count(faulty[::2] == ("", 2) and "script line 1: command" in faulty[1], f"a session with a fault: {faulty}")
-    absent = ran(HERE, "none")
-    tally.count(absent[::2] == ("", 2), f"a folder as a report: {absent}")
-    tally.count(ran()[::2] == ("", 2), f"no words: {ran()}")
-    length = ran("--packet", "192", "report", "session")
-    tally.count(length[::2] == ("", 2), f"packets of 192 bytes: {length}")
-    return tally.end()
-
-
-if __name__ == "__main__":
-    sys.exit(main())
+@pytest.mark.parametrize("session, batch", sessions())
+def test_nodes_for_long_reports(session, batch):
+    assert reported(session, batch, quick.NODES) == reported(session, batch, (second.Demux, second.Dvr))

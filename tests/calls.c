@@ -1,4 +1,4 @@
-/* A small receiver, which makes each call on its two devices: for tools/checks/calls. Its words are the paths that it opens. */
+/* A small receiver, which makes each call on its two devices: for tests/test_calls.py. Its words are the paths that it opens. */
 #include <fcntl.h>
 #include <poll.h>
 #include <pthread.h>

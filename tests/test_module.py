@@ -1,0 +1,357 @@
+"""The module of python/: the lines that Script builds, reports as objects, what `steps`, `run` and `check` say, what `serve` gives, also
+with recordings at their frequencies and with two adapters, and its end where the process that asked for it is killed. All runs as by
+`python3 -W error`. The lines and the values that are wanted stand here, by docs/BEHAVIOUR.md. Each function has type hints, and mypy finds
+no fault.
+"""
+import ast
+import glob
+import os
+import shutil
+import signal
+import subprocess
+import sys
+import tempfile
+
+import dvbemu
+import pytest
+from conftest import EXAMPLES, PROGRAM, ROOT, comes, examples, needs
+from stations import Station
+
+pytestmark = pytest.mark.filterwarnings("error")
+
+PYTHON = ROOT / "python" / "src"
+# The modules that programs import.
+TYPED = "__init__", "adapter", "calls", "program", "pytest_plugin", "report", "script"
+TUNER = str(ROOT / "serve" / "tuner.py")
+STREAM = str(EXAMPLES / "programs" / "scan.ts")
+# The services of two stations, each at its frequency.
+SERVICES = {474_000_000: ("Alpha", "Beta"), 482_000_000: ("Gamma", "Delta")}
+PAT = "00b0151234c10000000000100101f0000102f00138e33188"
+LINES = """\
+feed 3
+c2 open n4
+c2 section n4 16 500 1 0=40/ff/00 3=06/3e/3e
+c2 section n4 0 0 5 0=00/ff/00 1=12/ff/00 2=34/ff/00
+c2 start n4
+c2 stop n4
+c2 size n4 1880
+c2 read n4 188
+c2 readw n4 188
+c2 drain n4 188
+c2 poll n4
+c2 close n4
+tick 7
+c0 open h1
+c0 pes h1 8192 frontend tsdemux_tap 20 4
+c0 pes h1 256 dvr tap 4 258
+c0 add h1 257
+c0 remove h1 257
+c0 ioctl h1 c0106f32 01000000000000000000000000000000
+c0 open dvr
+c0 write dvr 4701
+c0 section n1 4096 0 5 0=02/ff/00
+"""
+# What isn't a script's line: a call of Script or of a device that raises a ValueError.
+WRONG = [
+    lambda script: script.feed(0), lambda script: script.client(8), lambda script: script.client(0).open("demux32"),
+    lambda script: script.client(0).open("h32"), lambda script: script.client(0).open("frontend0"), lambda script: script.lines("c0 pes n0 1 x tap 20 4"),
+    lambda script: script.client(0).open("demux0").set_filter(0, filter=bytes(17)), lambda script: script.client(0).open("demux0").set_filter(65536),
+    lambda script: script.client(0).open("demux0").set_filter(0, table_id=256), lambda script: script.client(0).open("demux0").set_filter(0, tid=1),
+    lambda script: script.client(0).open("demux0").read(65537), lambda script: script.client(0).open("demux0").write(b"G"),
+    lambda script: script.client(0).open("demux0").set_filter(0, b"\2", b"\xff", table_id=2), lambda script: script.lines("stream"),
+]  # fmt: skip
+# Arguments of another type than a call takes: it raises a TypeError, which says what it takes and what was given.
+MISTYPED = [
+    (lambda demux: demux.set_filter(0, [0], [255]), "filter: bytes are expected, got [0]"),
+    (lambda demux: demux.set_filter(0, b"\0", "\xff"), "mask: bytes are expected, got '\xff'"),
+    (lambda demux: demux.set_filter(0, b"\0", b"\xff", 0), "mode: bytes are expected, got 0"),
+    (lambda demux: demux.set_filter("0"), "a PID: a whole number is expected, got '0'"),
+    (lambda demux: demux.set_filter(0, timeout=0.5), "timeout: a whole number is expected, got 0.5"),
+    (lambda demux: demux.set_filter(0, flags="CHECK_CRC"), "flags: a whole number is expected, got 'CHECK_CRC'"),
+    (lambda demux: demux.set_pes_filter(256, "tsdemux_tap"), "output: an Output is expected, as DMX_OUT_TSDEMUX_TAP, got 'tsdemux_tap'"),
+    (lambda demux: demux.set_pes_filter(256, input="dvr"), "input: an Input is expected, as DMX_IN_FRONTEND, got 'dvr'"),
+    (lambda demux: demux.set_pes_filter(256, pes_type=None), "pes_type: a whole number is expected, got None"),
+    (lambda demux: demux.read("188"), "count: a whole number is expected, got '188'"),
+    (lambda demux: demux.client.open("dvr0").write("G"), "data: bytes are expected, got 'G'"),
+    (lambda demux: demux.client.open(0), "device: a string is expected, got 0"),
+    (lambda demux: demux.client.script.lines(b"c0 open n0"), "text: a string is expected, got b'c0 open n0'"),
+    (lambda demux: demux.client.script.feed(1.0), "packets: a whole number is expected, got 1.0"),
+]  # fmt: skip
+# A test that is killed while it has a device and two programs that find it, of which one was started by the other.
+KILLED = """\
+import sys, dvbemu
+with dvbemu.serve(sys.argv[1], packets=3000) as adapter:
+    child = adapter.start(["sh", "-c", "sleep 600 & exec sleep 600"])
+    print(adapter.env["DVBEMU_DIR"], flush=True)
+    sys.stdin.read()
+"""
+
+
+def built():
+    """A script with each call."""
+    script = dvbemu.Script().feed(3)
+    one = script.client(2).open("demux4")
+    one.set_filter(16, bytes([0x40, 0, 0, 6]), bytes([0xFF, 0, 0, 0x3E]), bytes([0, 0, 0, 0x3E]), timeout=500, flags=dvbemu.DMX_CHECK_CRC)
+    one.set_filter(0, table_id=0, table_id_extension=0x1234)
+    one.start()
+    one.stop()
+    one.set_buffer_size(1880)
+    one.read(188)
+    one.read(188, waits=True)
+    one.drain(188)
+    one.poll()
+    one.close()
+    other = script.tick(7).client(0).open("h1")
+    other.set_pes_filter(0x2000)
+    other.set_pes_filter(256, dvbemu.DMX_OUT_TAP, input=dvbemu.DMX_IN_DVR, pes_type=dvbemu.PesType.DMX_PES_PCR0, flags=dvbemu.DMX_ONESHOT | dvbemu.KEEP)
+    other.add_pid(257)
+    other.remove_pid(257)
+    other.get_stc(1)
+    script.client(0).open("/dev/dvb/adapter0/dvr0").write(b"\x47\x01")
+    return script.lines("c0 section demux1 0x1000 0 CHECK_CRC+IMMEDIATE_START table_id=0x02")
+
+
+def test_lines_of_a_script():
+    assert str(built()) == LINES
+
+
+@pytest.mark.parametrize("call", WRONG)
+def test_wrong_call(call):
+    with pytest.raises(ValueError, match="."):
+        call(dvbemu.Script())
+
+
+@pytest.mark.parametrize("call, wanted", MISTYPED)
+def test_mistyped_call(call, wanted):
+    demux = dvbemu.Script().client(0).open("demux0")
+    with pytest.raises(TypeError) as wrong:
+        call(demux)
+    assert str(wrong.value) == wanted
+
+
+def test_bytearray():
+    script = dvbemu.Script()
+    script.client(0).open("demux0").set_filter(0, bytearray(b"\0"), bytearray(b"\xff"), flags=5)
+    assert str(script) == "c0 open n0\nc0 section n0 0 0 5 0=00/ff/00\n"
+
+
+# ------ reports of examples/ as objects: what their replies are is worked out in the texts beside them
+
+
+def loaded(name):
+    """The report of an example."""
+    return dvbemu.Report.load(EXAMPLES / (name + ".report"))
+
+
+@pytest.mark.parametrize("name", examples(".report"))
+def test_entries(name):
+    text = (EXAMPLES / (name + ".report")).read_bytes()
+    lines = [f"{entry.place} {entry.who} {entry.step} {entry.call.text} = ".encode() for node in loaded(name).nodes for entry in node]
+    assert [line for line in lines if line not in text] == []
+    assert len(lines) == text.count(b" = ")
+
+
+def test_arguments():
+    call = loaded("programs/scan").node("n0").calls()[1].call
+    assert call.arguments == {"pid": 0, "timeout": 0, "flags": 5, "at": 0, "bytes": {0: (0, 255, 0)}}
+
+
+def test_head():
+    scan = loaded("programs/scan")
+    assert (scan.packets, scan.skipped, scan.rest, scan.read_fault) == (253, 0, 0, False)
+
+
+def test_first_read():
+    assert loaded("programs/scan").node("n0").reads()[0].hex() == PAT
+
+
+def test_outcome():
+    assert loaded("programs/scan").outcome(3) == dvbemu.Outcome(3, 0, 1, "done")
+
+
+def test_losses():
+    assert loaded("rules/overflow").node("n0").losses() == [dvbemu.Overflow((0, 564), 2, 188, 0)]
+
+
+def test_timeout():
+    replies = [entry.reply for entry in loaded("rules/timeout").node("n0").calls() if entry.call.name == "read"]
+    assert dvbemu.TimedOut(5, 105, 100) in [reply for reply in replies if not isinstance(reply, dvbemu.Data)]
+
+
+def test_node_that_nobody_called():
+    with pytest.raises(KeyError, match="called were n0"):
+        loaded("programs/scan").node("n31")
+
+
+# ------ `steps`, `run`, `check` and `explain`
+
+
+@pytest.fixture
+def script():
+    """A script that reads the PAT."""
+    made = dvbemu.Script()
+    demux = made.client(0).open("demux0")
+    demux.set_filter(0, table_id=0)
+    demux.read(4096, waits=True)
+    return made
+
+
+def test_steps(script):
+    assert dvbemu.steps(script, STREAM, batch=1).node("n0").data().hex() == PAT
+
+
+def test_run(script):
+    with open(STREAM, "rb") as file:
+        assert dvbemu.run(script, file.read()).check(script, STREAM).is_right
+
+
+def test_check_of_a_right_report(script):
+    report = dvbemu.steps(script, STREAM, batch=1)
+    assert report.check(str(script).encode(), STREAM)
+    assert report.check(script, STREAM).reason == ""
+
+
+def test_check_of_a_wrong_report(script):
+    text = dvbemu.steps(script, STREAM, batch=1).text
+    verdict = dvbemu.check(text.replace(b"data 00b0", b"data 00b1"), script, STREAM)
+    assert not verdict
+    assert "the rules give data 00b0" in verdict.reason and verdict.reason.startswith("line ")
+
+
+def test_explain(script):
+    assert "table_id" in dvbemu.steps(script, STREAM, batch=1).explain()
+
+
+@pytest.mark.parametrize("ending", [b"", b"\n", b"\nstream", b"\nstream\n"])
+def test_steps_as_the_command(tmp_path, ending):
+    text, path = b"c0 open n0" + ending, tmp_path / "script"
+    path.write_bytes(text)
+    told = subprocess.run([PROGRAM, "steps", path, STREAM], stdout=subprocess.PIPE, check=True).stdout
+    report = dvbemu.steps(text, STREAM)
+    assert (report.text, report.skipped) == (told, 0)
+
+
+def test_fault_of_a_script():
+    with pytest.raises(dvbemu.ScriptFault, match="script line 2: command") as fault:
+        dvbemu.steps(b"c0 open n0\nc0 foo n0\n", STREAM)
+    assert fault.value.status == 3
+
+
+def test_text_that_is_no_report():
+    with pytest.raises(dvbemu.NotAReport, match="line 2"):
+        dvbemu.Report.parse(b"dvbemu 1\n")
+
+
+# ------ `serve`
+
+
+def test_serve(server, tmp_path):
+    """A device for a program that opens it, which is ended with it where it runs on."""
+    with dvbemu.serve(STREAM, packets=3000) as adapter:
+        reader = "import os; os.close(os.open('/dev/dvb/adapter0/demux0', os.O_RDWR))"
+        ran = adapter.run([sys.executable, "-c", reader], cwd=tmp_path, timeout=60, capture_output=True)
+        left = adapter.start(["sleep", "600"])
+    assert left.wait(60) == -signal.SIGTERM
+    assert ran.returncode == 0, ran
+    assert not os.path.exists(adapter.env["DVBEMU_DIR"])
+    assert [entry.call.name for node in adapter.report.nodes for entry in node.calls()] == ["open", "close"]
+    assert len(adapter.reports) == 1
+
+
+def test_stream_that_is_not_there(server):
+    with pytest.raises(dvbemu.NoAdapter, match="no-such.ts"), dvbemu.serve("no-such.ts", packets=3000):
+        pass
+
+
+@pytest.fixture
+def stations(tmp_path):
+    """The recordings of two stations, by their frequencies."""
+    found = {}
+    for number, (hertz, names) in enumerate(SERVICES.items(), 1):
+        found[hertz] = str(tmp_path / f"{names[0]}.ts")
+        with open(found[hertz], "wb") as file:
+            file.write(Station(number, names, list(SERVICES)).stream(2))
+    return found
+
+
+def heard(adapter, *words):
+    """What a program that tunes says."""
+    return adapter.run([TUNER, *words], timeout=60, capture_output=True, text=True).stdout.split("\n")[:-1]
+
+
+def test_frequencies(server, stations):
+    (first, one), (second, other) = stations.items()
+    with dvbemu.serve(tune={str(first): one, str(second): other}) as adapter:
+        told = heard(adapter, str(first), str(second), "498000000")
+    assert told == [f"{first} Alpha Beta", f"{second} Gamma Delta", "498000000 status 0"]
+    assert all(name in adapter.report.node("n0").data() for name in (b"Beta", b"Gamma"))
+
+
+def test_two_adapters(server, stations, tmp_path, monkeypatch):
+    """Each has its report, and beside their folder there is nothing."""
+    (first, one), (_, other) = stations.items()
+    place = tmp_path / "place"
+    place.mkdir()
+    monkeypatch.setattr(tempfile, "tempdir", str(place))
+    with dvbemu.serve(one, adapters=[other]) as adapter:
+        told = heard(adapter, str(first), "adapter", "1", str(first))
+        left = os.listdir(place)
+    assert left == []
+    assert told == [f"{first} Alpha Beta", f"{first} Gamma Delta"]
+    texts = [report.node("n0").data() for report in adapter.reports]
+    assert [[name in text for name in (b"Beta", b"Gamma")] for text in texts] == [[True, False], [False, True]]
+
+
+def processes(name, wanted):
+    """The processes of which a file in /proc has these bytes."""
+    found = []
+    for path in glob.glob(f"/proc/[0-9]*/{name}"):
+        try:
+            with open(path, "rb") as file:
+                found += [path] * (os.fsencode(wanted) in file.read().split(b"\0"))
+        except OSError:
+            pass
+    return found
+
+
+def test_killed(server, tmp_path):
+    """What is killed leaves no process and no folder."""
+    stream = shutil.copy(STREAM, tmp_path / "killed.ts")
+    words = [sys.executable, "-W", "error", "-B", "-c", KILLED, str(stream)]
+    with subprocess.Popen(words, env={**os.environ, "PYTHONPATH": str(PYTHON)}, stdin=subprocess.PIPE, stdout=subprocess.PIPE) as test:
+        pipes = test.stdout.readline().decode().strip()
+        bound = f"DVBEMU_DIR={pipes}"
+        try:
+            assert os.path.isdir(pipes)
+            assert comes(lambda: len(processes("environ", bound)) >= 2)
+        finally:
+            test.kill()
+            test.wait()
+    is_left = lambda: processes("environ", bound) + processes("cmdline", str(stream))  # noqa: E731
+    assert comes(lambda: not is_left()), is_left()
+    assert comes(lambda: not os.path.exists(os.path.dirname(pipes))), pipes
+
+
+# ------ types
+
+
+def unhinted(path):
+    """The functions of a file without a type for an argument or for what they give."""
+    with open(path, encoding="utf-8") as file:
+        for found in ast.walk(ast.parse(file.read())):
+            if isinstance(found, ast.FunctionDef):
+                arguments = [one for one in [*found.args.args, *found.args.kwonlyargs] if one.arg not in ("self", "cls")]
+                if found.returns is None or any(one.annotation is None for one in arguments):
+                    yield f"{os.path.basename(path)}: {found.name}"
+
+
+@pytest.mark.parametrize("name", TYPED)
+def test_hints(name):
+    assert list(unhinted(PYTHON / "dvbemu" / f"{name}.py")) == []
+
+
+def test_mypy(tmp_path):
+    """By the settings of python/pyproject.toml, which name the parts that have types."""
+    needs("mypy")
+    ran = subprocess.run(["mypy", "--cache-dir", tmp_path], cwd=PYTHON.parent, capture_output=True, text=True, check=False)
+    assert ran.returncode == 0, ran.stdout + ran.stderr
