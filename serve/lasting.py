@@ -36,6 +36,17 @@ def try_once(room):
     room.is_right("a stream that is played once")
 
 
+def try_last_bell(room):
+    """The last bells ring behind the stream's end: here that of a node which has no filter, so that no packet rings it."""
+    script = "dd if=/dev/dvb/adapter0/demux0 iflag=nonblock count=1 2> read; test -s \"$DVBEMU_DIR/bell.0\" && echo early; " \
+        "for i in $(seq 100); do test -s \"$DVBEMU_DIR/bell.0\" && exec echo rung; sleep 0.1; done"
+    room.stream = room.path("nulls")
+    with open(room.stream, "wb") as file:
+        file.write(AHEAD * NULL)
+    out, status = room.run("sh", "-c", script, air=["--once", "--packets", RATE, room.stream])
+    room.want((out, status) == ("rung\n", 0), f"the bells behind the stream's end, status {status}", out)
+
+
 def try_full(room):
     """Where a file can't be written the program is served on, and that is told at the end; no report is made of such a folder."""
     folder, server = room.path("full"), room.path("a server")
@@ -81,4 +92,4 @@ def try_stopped(room):
     all_passed(room, out, status, "a program beside one that is stopped")
 
 
-PARTS = try_once, try_full, try_old, try_many, try_stopped
+PARTS = try_once, try_last_bell, try_full, try_old, try_many, try_stopped
