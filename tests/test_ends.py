@@ -240,6 +240,16 @@ def test_a_hang_up_behind_the_end():
     assert (ran.returncode, ran.stderr) == (-signal.SIGHUP, b"")
 
 
+def told_by(child):
+    """What a process tells that has to end now."""
+    try:
+        return child.communicate(timeout=ENDS)[1]
+    except subprocess.TimeoutExpired:
+        os.killpg(child.pid, signal.SIGKILL)
+        raise
+
+
+
 @pytest.mark.parametrize("number", range(24))
 def test_a_signal_of_a_group(files_room, number):
     """A hang-up of a whole group, at any time: no line, and the program has ended too."""
@@ -248,7 +258,7 @@ def test_a_signal_of_a_group(files_room, number):
                           stderr=subprocess.PIPE, start_new_session=True) as child:  # fmt: skip
         time.sleep(0.06 + random.Random(number).random() * 0.2)
         os.killpg(child.pid, name)
-        told = child.stderr.read()
+        told = told_by(child)
     assert child.returncode in (-name, 0) and told == b""
 
 

@@ -6,6 +6,7 @@ with line and word."""
 import struct
 
 import pytest
+import test_calls
 from conftest import EXAMPLES
 from dvbemu import naming
 from dvbemu.commands import calls
@@ -95,7 +96,7 @@ def test_plain(path):
 @pytest.mark.parametrize("written", ["PLAIN", "wanted"])
 def test_plain_of_calls(written):
     """What `calls` writes of a program, plain and with numbers and bytes."""
-    script = getattr(pytest.importorskip("test_calls"), written)
+    script = getattr(test_calls, written)
     script = (script if written == "PLAIN" else script()).encode().removesuffix(b"stream\n")
     assert script.count(b"\n") > 20 and naming.plain_script(script) == script
 
