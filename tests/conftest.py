@@ -39,6 +39,11 @@ ENDS = 60
 PYTHONS = sorted({sys.executable, *(os.path.join(folder, "python3") for folder in os.environ["PATH"].split(os.pathsep))})
 EMPTY = b"dvbemu 1\npackets=0 skipped=0 rest=0\nend\n"
 
+# (what a shell or nohup starts in the background passes these over, and so would all that is started here)
+for number, handler in ((signal.SIGHUP, signal.SIG_DFL), (signal.SIGINT, signal.default_int_handler), (signal.SIGQUIT, signal.SIG_DFL)):
+    if signal.getsignal(number) == signal.SIG_IGN:
+        signal.signal(number, handler)
+
 # (each command starts `python3`: the one that runs this is there at once, and no shim that looks for one)
 os.environ["PATH"] = os.pathsep.join([os.path.dirname(sys.executable), os.environ["PATH"]])
 

@@ -277,7 +277,8 @@ def test_a_signal_of_the_wrapper(files_room, name):
                 children = children if "python" in file.read() else ""
         time.sleep(0.1)
         child.send_signal(name)
-        assert (child.stdout.read(), child.stderr.read(), child.wait()) == (b"", b"", -name)
+        assert child.wait(ENDS) == -name
+        assert (child.stdout.read(), child.stderr.read()) == (b"", b"")
 
 
 def test_signals_that_are_passed_over(files_room):
