@@ -21,7 +21,7 @@ sys.dont_write_bytecode = True
 from checks import ROOT, Tally
 
 DOCUMENTS = "BEHAVIOUR.md", "MADE.md"
-PROGRAMS = "second.py", "judge.py", "made.py", "fuzz"
+PROGRAMS = "python/src/dvbemu/oracle/second.py", "python/src/dvbemu/oracle/judge.py", "fuzz/made.py", "fuzz/fuzz"
 LINE = re.compile(r"^( *# RULES: )([0-9a-f]{8}) (.+)$", re.M)
 # The lines under a rule that say where it stands, with the line above them that names it, and those that go on with one of them.
 PLACES = re.compile(r"(?:^[^\n]*:\n)?(?:^- (?:Defined|Done by|Shown by|Must fail): .*\n(?:^  .*\n)*)+", re.M)
@@ -49,25 +49,25 @@ def look_up(tally):
     """Each section is named in a program of this folder, with the checksum that it has."""
     wanted, named = sections(), set()
     for program in PROGRAMS:
-        for _, checksum, heading in LINE.findall(text_of(HERE, program)):
+        for _, checksum, heading in LINE.findall(text_of(ROOT, program)):
             named.add(heading)
             if heading not in wanted:
-                tally.count(False, f"fuzz/{program}: the rules have no section '{heading}'")
+                tally.count(False, f"{program}: the rules have no section '{heading}'")
             else:
                 same = wanted[heading] == checksum
-                tally.count(same, f"'{heading}' has changed: read it, follow it in fuzz/{program}, then fuzz/rules.py --accept")
+                tally.count(same, f"'{heading}' has changed: read it, follow it in {program}, then fuzz/rules.py --accept")
     for heading in wanted:
-        tally.count(heading in named, f"the section '{heading}' of the rules is named in no program of fuzz/")
+        tally.count(heading in named, f"the section '{heading}' of the rules is named in none of these programs")
 
 
 def accept():
     """Writes the checksum of each section that is named anew."""
     wanted = sections()
     for program in PROGRAMS:
-        text = text_of(HERE, program)
+        text = text_of(ROOT, program)
         accepted = LINE.sub(lambda line: f"{line[1]}{wanted.get(line[3], line[2])} {line[3]}", text)
         if accepted != text:
-            with open(os.path.join(HERE, program), "w", encoding="utf-8") as file:
+            with open(os.path.join(ROOT, program), "w", encoding="utf-8") as file:
                 file.write(accepted)
 
 
