@@ -8,7 +8,7 @@ import time
 import pytest
 from conftest import EXAMPLES
 from dvbemu.explain import offered
-from dvbemu.oracle import second
+from oracle import second
 from packets import PES, PMT, PMTS, WRONG, in_packets, packet, session_of
 
 

@@ -6,7 +6,7 @@ import re
 
 import pytest
 from conftest import EXAMPLES, ROOT
-from dvbemu.oracle import judge, second
+from oracle import judge, second
 from packets import packet
 
 SERVED = (ROOT / "tests" / "served.report").read_text()
