@@ -50,7 +50,7 @@ struct device {
 struct table {
 	pthread_mutex_t one; /* goes round a request and its reply, and what is done about it */
 	int adapter, is_gone, is_asking;
-	ino_t ask_ino, tell_ino;
+	ino_t ask_ino, tell_ino, own_ino; /* of the pipes, and of this */
 	struct device devices[MOST_DEVICES];
 };
 
