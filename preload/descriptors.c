@@ -31,6 +31,8 @@ static long told(long result)
 	return -1;
 }
 
+static int is_device(int fd) { return find(fd, &(struct at){ NULL, 0 }); }
+
 /* ------ open and close */
 
 /* whether a program may open a device so: one that has given up root's rights may not, as of a kernel's */
@@ -215,6 +217,62 @@ EXPORT ssize_t readv(int fd, const struct iovec *parts, int count)
 	return all;
 }
 
+/* ------ reads at a place: a device keeps its place, and looks at none */
+
+static off_t seek(struct device *device, off_t by, int whence)
+{
+	if (whence < SEEK_SET || whence > SEEK_HOLE)
+		return -EINVAL;
+	if (device->kind == FRONTEND)
+		return 0;
+	if (whence == SEEK_DATA || whence == SEEK_HOLE)
+		return -ENXIO;
+	off_t place = by + (whence == SEEK_CUR ? device->position : 0);
+	return place < 0 ? -EINVAL : (device->position = place);
+}
+
+EXPORT off_t lseek(int fd, off_t by, int whence)
+{
+	struct at at;
+	init();
+	return find(fd, &at) ? told(seek(device_at(at), by, whence)) : NEXT(lseek)(fd, by, whence);
+}
+
+EXPORT ssize_t pread(int fd, void *into, size_t count, off_t from)
+{
+	init();
+	return !is_device(fd) ? NEXT(pread)(fd, into, count, from) : from < 0 ? told(-EINVAL) : read(fd, into, count);
+}
+
+EXPORT ssize_t preadv2(int fd, const struct iovec *parts, int count, off_t from, int flags)
+{
+	init();
+	if (!is_device(fd))
+		return NEXT(preadv2)(fd, parts, count, from, flags);
+	return flags & ~RWF_HIPRI ? told(-EOPNOTSUPP) : from < -1 ? told(-EINVAL) : readv(fd, parts, count);
+}
+
+EXPORT ssize_t preadv(int fd, const struct iovec *parts, int count, off_t from)
+{
+	init();
+	return !is_device(fd) ? NEXT(preadv)(fd, parts, count, from) : from < 0 ? told(-EINVAL) : readv(fd, parts, count);
+}
+
+EXPORT ssize_t pwrite(int fd, const void *from, size_t count, off_t to)
+{
+	init();
+	return is_device(fd) ? write(fd, from, count) : NEXT(pwrite)(fd, from, count, to);
+}
+
+EXPORT ssize_t __pread_chk(int fd, void *into, size_t count, off_t from, size_t room);
+EXPORT ssize_t __pread_chk(int fd, void *into, size_t count, off_t from, size_t room) { return (void)room, pread(fd, into, count, from); }
+SAME(lseek64, lseek)
+SAME(pread64, pread)
+SAME(preadv64, preadv)
+SAME(preadv64v2, preadv2)
+SAME(pwrite64, pwrite)
+EXPORT ssize_t __pread64_chk(int, void *, size_t, off64_t, size_t) __attribute__((alias("__pread_chk")));
+
 EXPORT ssize_t write(int fd, const void *from, size_t count)
 {
 	struct at at;
@@ -224,9 +282,7 @@ EXPORT ssize_t write(int fd, const void *from, size_t count)
 	return NEXT(write)(fd, from, count);
 }
 
-/* whether it is a device, or one of two is: these give no pages to pipes and files */
-static int is_device(int fd) { return find(fd, &(struct at){ NULL, 0 }); }
-
+/* (a device gives no pages to pipes and files) */
 EXPORT ssize_t splice(int from, off64_t *at, int to, off64_t *there, size_t count, unsigned flags)
 {
 	init();

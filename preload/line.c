@@ -144,6 +144,12 @@ void give(struct line *line, struct pause *pause)
 
 /* ------ lines */
 
+static ino_t ino_of(int fd)
+{
+	struct stat now;
+	return syscall(SYS_fstat, fd, &now) ? 0 : now.st_ino;
+}
+
 static int make_table(struct line *line, int adapter)
 {
 	pthread_mutexattr_t shared;
@@ -158,13 +164,20 @@ static int make_table(struct line *line, int adapter)
 	for (struct mine *mine = line->mine; mine < &line->mine[MOST_DEVICES]; mine++)
 		mine->rings = mine->lock = mine->bell = mine->known = -1;
 	line->table->adapter = adapter;
+	line->table->own_ino = ino_of(fd);
 	pthread_mutexattr_init(&shared);
 	pthread_mutexattr_setpshared(&shared, PTHREAD_PROCESS_SHARED);
 	pthread_mutexattr_setrobust(&shared, PTHREAD_MUTEX_ROBUST);
 	return pthread_mutex_init(&line->table->one, &shared);
 }
 
-/* a line is done with where its server has gone and this process has none of its devices any more */
+/* whether the pipes of a line are closed in this process, past the preload */
+static int is_cut(const struct line *line)
+{
+	return line->ask >= 0 && (!is_object(line->ask, line->table->ask_ino) || !is_object(line->tell, line->table->tell_ino));
+}
+
+/* a line is done with where its server has gone, or it is cut, and this process has none of its devices any more */
 static int is_free(struct line *line)
 {
 	if (!line->table)
@@ -172,11 +185,11 @@ static int is_free(struct line *line)
 	for (int i = 0; i < MOST_DEVICES; i++)
 		if (line->mine[i].rings >= 0)
 			return 0;
-	if (!line->table->is_gone)
+	if (!line->table->is_gone && !is_cut(line))
 		return 0;
-	let_go(line->ask);
-	let_go(line->tell);
-	let_go(line->memory);
+	let_go(is_object(line->ask, line->table->ask_ino) ? line->ask : -1);
+	let_go(is_object(line->tell, line->table->tell_ino) ? line->tell : -1);
+	let_go(ino_of(line->memory) == line->table->own_ino ? line->memory : -1);
 	/* (a thread may still wait by the table, so that stays) */
 	line->ask = line->tell = line->memory = -1;
 	return 1;
@@ -187,7 +200,7 @@ struct line *line_to(int adapter)
 {
 	struct line *unused = NULL;
 	for (struct line *line = lines; line < &lines[MOST_LINES]; line++) {
-		if (line->table && line->table->adapter == adapter && !line->table->is_gone)
+		if (line->table && line->table->adapter == adapter && !line->table->is_gone && !is_cut(line))
 			return line;
 		if (!unused && is_free(line))
 			unused = line;
@@ -216,12 +229,6 @@ void line_lost(struct line *line)
 /* ------ coming in */
 
 static int open_raw(const char *path, int flags) { return (int)syscall(SYS_openat, AT_FDCWD, path, flags | O_CLOEXEC); }
-
-static ino_t ino_of(int fd)
-{
-	struct stat now;
-	return syscall(SYS_fstat, fd, &now) ? 0 : now.st_ino;
-}
 
 /* tells a name, in a line of its own whatever stands in front of it, and again as long as others fill the pipe */
 static int knock(const char *folder, const char *name)
@@ -282,7 +289,7 @@ static int sit_down(struct line *line, const char *tell)
 
 static int put(struct line *line, const void *bytes, size_t count)
 {
-	if (!is_object(line->ask, line->table->ask_ino) || !is_object(line->tell, line->table->tell_ino))
+	if (is_cut(line))
 		return -1;
 	for (const char *from = bytes; count;) {
 		long n = syscall(SYS_write, line->ask, from, count);

@@ -9,8 +9,9 @@
 #include <stdint.h>
 #include <sys/types.h>
 
-/* a call of the C library that stands in the place of the library's own, and that one */
+/* a call of the C library that stands in the place of the library's own, another name of it, and the library's own */
 #define EXPORT __attribute__((visibility("default")))
+#define SAME(other, name) EXPORT __typeof__(other) other __attribute__((alias(#name)));
 #define NEXT(name)                                                                                                      \
 	({                                                                                                              \
 		static __typeof__(&name) found_;                                                                        \
@@ -42,13 +43,14 @@ struct device {
 	uint32_t turn; /* rises where the device may have something: who reads waits for that */
 	long due;      /* when the filter's timeout is over; 0: it has none */
 	ino_t ino;     /* of its pipe */
+	off_t position;
 };
 
 /* What the processes of a line share: those that were forked, and what they have become by exec. */
 struct table {
 	pthread_mutex_t one; /* goes round a request and its reply, and what is done about it */
 	int adapter, is_gone, is_asking;
-	ino_t ask_ino, tell_ino;
+	ino_t ask_ino, tell_ino, own_ino; /* of the pipes, and of this */
 	struct device devices[MOST_DEVICES];
 };
 
@@ -131,10 +133,11 @@ int watch_runs(void);
 /* exec.c */
 void inherit(void);
 
-/* tree.c: whether a path lies in /dev/dvb, also by links, and where it stands in the tree for that; and what such a place is */
+/* tree.c: whether a path lies in /dev/dvb, also by links, and where it stands in the tree for that; what such a place is, and a device's */
 int led(int there, const char *path, char *into);
 int leads(int there, const char *path, char *into);
 int kind_of(const char *place, int *adapter);
+void place_of(struct at at, char *into);
 
 /* frontend.c: whether an event waits to be told; an ioctl, which gives 0 or a negative error; a lock of who may tune */
 int frontend_lock(int adapter);

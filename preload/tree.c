@@ -158,6 +158,13 @@ int kind_of(const char *place, int *adapter)
 	return NONE;
 }
 
+/* the place in the tree of a device */
+void place_of(struct at at, char *into)
+{
+	static const char *const names[] = { [FRONTEND] = "frontend0", [DEMUX] = "demux0", [DVR] = "dvr0" };
+	snprintf(into, PATH, "%s/dev/dvb/adapter%d/%s", folders[0], at.line->table->adapter, names[device_at(at)->kind]);
+}
+
 /* ------ the C library's calls */
 
 /* a path as it is, or its place in the tree */
@@ -186,14 +193,19 @@ static int stat_in(int there, const char *path, struct stat *told, int flags)
 	return result;
 }
 
+/* a descriptor of a device is told as its path is, or where that has gone by its pipe */
 EXPORT int fstat(int fd, struct stat *told)
 {
+	char into[PATH];
 	struct at at;
 	init();
-	int result = NEXT(fstat)(fd, told);
-	if (!result && find(fd, &at))
-		tell(told, at.line->table->adapter, device_at(at)->kind);
-	return result;
+	if (!find(fd, &at))
+		return NEXT(fstat)(fd, told);
+	place_of(at, into);
+	if (NEXT(fstatat)(AT_FDCWD, into, told, 0) && NEXT(fstat)(fd, told))
+		return -1;
+	tell(told, at.line->table->adapter, device_at(at)->kind);
+	return 0;
 }
 
 EXPORT int fstatat(int there, const char *path, struct stat *told, int flags)
@@ -245,12 +257,14 @@ EXPORT int statx(int there, const char *restrict path, int flags, unsigned int m
 	int adapter = 0, kind = NONE;
 	struct at at;
 	init();
-	int is_led = (flags & AT_SYMLINK_NOFOLLOW ? led : leads)(there, path, into);
+	int is_own = !*path && flags & AT_EMPTY_PATH && find(there, &at), is_led = is_own || (flags & AT_SYMLINK_NOFOLLOW ? led : leads)(there, path, into);
+	if (is_own)
+		place_of(at, into);
 	int result = NEXT(statx)(is_led ? AT_FDCWD : there, is_led ? into : path, flags, mask, told);
+	if (is_own && result)
+		result = NEXT(statx)(there, "", flags, mask, told);
 	if (is_led)
 		kind = kind_of(into, &adapter);
-	else if (!*path && flags & AT_EMPTY_PATH && find(there, &at))
-		kind = device_at(at)->kind, adapter = at.line->table->adapter;
 	if (!result && kind) {
 		told->stx_mode = S_IFCHR | 0660;
 		told->stx_rdev_major = MAJOR;

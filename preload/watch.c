@@ -29,7 +29,10 @@ static int is_late;
 /* the watcher that begins has come */
 static sem_t has_come;
 
-int watch_runs(void) { return __atomic_load_n(&runs, __ATOMIC_SEQ_CST) || is_ending || getpid() != self; }
+/* whether it can be woken: somebody may have closed its pipe past the preload */
+static int is_whole(void) { return is_object(wake[0], wake_ino) && is_object(wake[1], wake_ino); }
+
+int watch_runs(void) { return (__atomic_load_n(&runs, __ATOMIC_SEQ_CST) && is_whole()) || is_ending || getpid() != self; }
 
 /* The file of a bell, as inotify names it; -1 where there is none, and then the device is looked at from time to time. */
 int bell_of(struct at at)
@@ -165,8 +168,8 @@ static int turn(int number, int told, struct pollfd *all, nfds_t *count, long *t
 	char bytes[64];
 	enter(&pause);
 	int goes_on = runs == number;
-	if (goes_on && !is_object(wake[0], wake_ino)) {
-		/* (somebody has closed it past the preload; the next call on a device begins anew) */
+	if (goes_on && !is_whole()) {
+		/* (the next call on a device begins anew) */
 		watch_stopped();
 		goes_on = 0;
 	}
@@ -271,6 +274,8 @@ void watch(void)
 {
 	struct pause pause;
 	enter(&pause);
+	if (runs && getpid() == self && (!is_whole() || (bells >= 0 && !has_bells())))
+		watch_stopped();
 	if (runs || (getpid() == self && !is_ending && begin()))
 		watch_changed();
 	leave(&pause);

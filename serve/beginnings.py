@@ -143,7 +143,7 @@ def try_unseen(room):
     for flags, wanted in ([], None), (["-static"], "is linked statically"), (["-static-pie"], "is linked statically"), (["-DGO"], "is made by Go"):
         built = subprocess.call(["cc", *flags, "-o", plain, source])
         why = None if built else unseen_as(plain)
-        room.want(not built and (why == wanted or wanted and why.startswith(wanted)), f"a program by {flags}", why)
+        room.want(not built and str(why).startswith(str(wanted)), f"a program by {flags}", why)
     subprocess.call(["cc", "-static", "-o", plain, source])
     out = ran([SERVE, "--keep", "none", "--packets", RATE, room.stream, "--", plain]).stdout
     said = f"dvbemu serve: {plain} is linked statically: it will not see the emulated adapter\n"

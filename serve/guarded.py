@@ -15,6 +15,12 @@ SLOW = "200"
 NOT_BY_VALGRIND = ("-numbers_of_the_preload", "-few_descriptors", "-a_high_number", "-by_io_uring", "-by_vfork",
                    "-bad_pointers", "-another_process_sees_the_lock")  # fmt: skip
 NOT_OVER_SANITIZERS = "-by_the_shell", "-small_stacks"
+# A preload of somebody else, whose stat is by its stat64, as fakeroot's calls are by others.
+OTHER = """#include <dlfcn.h>
+#include <sys/stat.h>
+int stat(const char *path, struct stat *told) { return stat64(path, (struct stat64 *)told); }
+int stat64(const char *path, struct stat64 *told) { return ((__typeof__(&stat64))dlsym(RTLD_NEXT, "stat64"))(path, told); }
+"""
 ADDRESSES, BOTH = ["-g", "-fsanitize=address"], ["-g", "-fsanitize=address,undefined", "-fno-sanitize-recover=undefined"]
 SANITIZED = "ASAN_OPTIONS=verify_asan_link_order=0:detect_leaks=0"
 FOUR = 4
@@ -78,4 +84,19 @@ def try_namespaces(room):
         room.is_right(f"programs by {words[0]}")
 
 
-PARTS = try_valgrind, try_sanitizers, try_namespaces
+def try_other_preloads(room):
+    """Another preload in front, which leads calls to one another, and fakeroot."""
+    source, other, script = room.path("other.c"), room.path("other.so"), "LD_PRELOAD=\"$1:$LD_PRELOAD\" exec \"$0\" stat_of_a_device"
+    with open(source, "w", encoding="ascii") as file:
+        file.write(OTHER)
+    made = ran(["cc", "-O2", "-D_GNU_SOURCE", "-Wall", "-Wextra", "-shared", "-fPIC", source, "-o", other, "-ldl"])
+    room.want(not made.returncode, "another preload is built", made.stdout)
+    for words in ["sh", "-c", script, cases_of(room), other], ["fakeroot", cases_of(room), "stat_of_a_device", "sections"]:
+        if not shutil.which(words[0]):
+            skipped(f"{words[0]} isn't there")
+            continue
+        out, status = room.run(*words, keep="none", rate=SLOW)
+        room.want(status == 0 and is_passed(out), f"own calls by {words[0]} and another preload, status {status}", out)
+
+
+PARTS = try_valgrind, try_sanitizers, try_namespaces, try_other_preloads

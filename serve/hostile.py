@@ -96,18 +96,18 @@ def try_others(room):
     with tempfile.TemporaryDirectory() as place:
         # (one of root's that is closed to others isn't taken)
         os.chmod(place, 0o755)
-        paths = {name: os.path.join(place, f"dvbemu-{name}") for name in ("file", "link", "plain", "other", "kept")}
+        paths = {name: os.path.join(place, f"dvbemu-{name}") for name in ("file", "link", "plain", "mine", "other", "kept")}
         with open(paths["file"], "w", encoding="ascii") as file:
             file.write("mine")
-        for name in "plain", "other", "kept":
+        # (what marks a wrapper's folder, in another user's and behind a link; and a file of the same name that is somebody's own)
+        for name, text in ("plain", None), ("mine", b"mine"), ("other", MARK), ("kept", MARK):
             os.mkdir(paths[name])
-        # (what marks a wrapper's folder, in another user's and behind a link)
-        for name in "other", "kept":
-            with open(os.path.join(paths[name], "held"), "wb") as file:
-                file.write(MARK)
+            if text:
+                with open(os.path.join(paths[name], "held"), "wb") as file:
+                    file.write(text)
         os.rename(paths["kept"], os.path.join(place, "kept"))
         os.symlink(os.path.join(place, "kept"), paths["link"])
-        for name in "file", "link", "plain", "other":
+        for name in "file", "link", "plain", "mine", "other":
             aged(paths[name], NOBODY if name == "other" else None)
         aged(os.path.join(place, "kept"))
         before = {name for name in sorted(os.listdir(place)) if name != "dvbemu-other" or os.geteuid() == 0}

@@ -48,6 +48,16 @@ static void closed_past_the_library(void)
 	want(read(other, bytes, 4) == 4 && bytes[0] != 0, "and a read of it is a file's");
 }
 
+static void all_closed_past_the_library(void)
+{
+	for (int i = 0; i < 12; i++) {
+		close(pat(0));
+		want(!syscall(SYS_close_range, 3, ~0U, 0), "all are closed");
+		struct pollfd one = { pat(0), POLLIN, 0 };
+		want(poll(&one, 1, LATE_MS / 4) == 1 && is_pat(one.fd), "a device behind that is watched");
+	}
+}
+
 static int nodes_free(int *fds)
 {
 	int count = 0;
@@ -313,7 +323,7 @@ static void what_a_device_has_not(void)
 }
 
 const struct one descriptors[] = { CASE(doubled), CASE(moved_to_a_number), CASE(replaced_by_dup2), CASE(closed_by_fclose),
-				   CASE(closed_past_the_library), ALONE(each_close_frees_the_node), CASE(close_range_of_all),
+				   CASE(closed_past_the_library), CASE(all_closed_past_the_library), ALONE(each_close_frees_the_node), CASE(close_range_of_all),
 				   CASE(a_loop_of_closes), CASE(numbers_of_the_preload), CASE(closed_twice), CASE(few_descriptors),
 				   CASE(a_high_number), CASE(flags_of_descriptors), CASE(in_a_forked_child), CASE(in_a_daemon),
 				   ALONE(a_daemons_close_frees), CASE(by_exec), ALONE(by_the_shell), CASE(by_spawn),

@@ -36,6 +36,25 @@ static void fstat_of_a_device(void)
 	want(!fstat(open("/dev/null", O_RDONLY), &told) && major(told.st_rdev) == 1, "fstat of another");
 }
 
+/* cp and others see by these whether a path and a descriptor are the same file */
+static void one_file_by_path_and_descriptor(void)
+{
+	static const char *const all[] = { DEMUX, RECORDER, TUNER };
+	struct stat by_path, by_number, other;
+	struct statx more, told;
+	ino_t last = 0;
+	for (int i = 0; i < 3; i++, last = by_path.st_ino) {
+		int fd = i == 1 ? recorder(O_RDONLY) : open(all[i], O_RDONLY);
+		want(!stat(all[i], &by_path) && !fstat(fd, &by_number), all[i]);
+		want(by_path.st_dev == by_number.st_dev && by_path.st_ino == by_number.st_ino && by_path.st_ino != last, "a device and an inode");
+		want(by_path.st_rdev == by_number.st_rdev && by_path.st_mode == by_number.st_mode && by_path.st_nlink == by_number.st_nlink, "the rest too");
+		want(!statx(AT_FDCWD, all[i], 0, STATX_BASIC_STATS, &told) && told.stx_ino == by_path.st_ino, "statx by path");
+		want(!statx(fd, "", AT_EMPTY_PATH, STATX_BASIC_STATS, &more) && more.stx_ino == told.stx_ino &&
+		     more.stx_dev_major == told.stx_dev_major && more.stx_dev_minor == told.stx_dev_minor, "and by descriptor");
+		want(!fstatat(fd, "", &other, AT_EMPTY_PATH) && other.st_ino == by_path.st_ino && other.st_dev == by_path.st_dev, "fstatat too");
+	}
+}
+
 static void stat_by_its_older_names(void)
 {
 	int (*by_path)(int, const char *, struct stat *) = (__typeof__(by_path))dlsym(RTLD_DEFAULT, "__xstat64");
@@ -176,6 +195,6 @@ static void other_files(void)
 }
 
 const struct one paths[] = { CASE(stat_of_a_device), CASE(statx_of_a_device), CASE(fstat_of_a_device),
-			     CASE(stat_by_its_older_names), CASE(access_to_a_device),
+			     CASE(one_file_by_path_and_descriptor), CASE(stat_by_its_older_names), CASE(access_to_a_device),
 			     CASE(folders_are_read), CASE(patterns), CASE(attributes), CASE(open_from_a_folder), CASE(open_from_the_working_folder), CASE(slashes_and_dots),
 			     CASE(links), CASE(real_paths), CASE(flags_of_open), CASE(other_files), { 0 } };

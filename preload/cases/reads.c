@@ -78,6 +78,23 @@ static void in_parts(void)
 	want(readv(all, parts, 3) == 3 * PACKET && bytes[2 * PACKET] == 0x47, "readv");
 }
 
+/* A place in the file is kept and means nothing, as of a kernel's demux: default_llseek, and for a frontend noop_llseek. */
+static void at_a_place(void)
+{
+	struct iovec parts[2] = { { bytes, 8 }, { bytes + 8, 4088 } };
+	int fd = pat(0), tune = open(TUNER, O_RDONLY);
+	want(lseek(fd, 0, SEEK_CUR) == 0 && lseek(fd, 5, SEEK_SET) == 5 && lseek(dup(fd), 2, SEEK_CUR) == 7 && lseek(fd, 0, SEEK_END) == 0, "lseek");
+	want(lseek(fd, -1, SEEK_SET) < 0 && errno == EINVAL && lseek(fd, 0, 77) < 0 && errno == EINVAL, "EINVAL where there is no such place");
+	want(lseek(fd, 0, SEEK_DATA) < 0 && errno == ENXIO && lseek(tune, 9, SEEK_SET) == 0, "no data behind any, and none of a frontend");
+	want(pread(fd, bytes, 4096, 700) > 8 && !bytes[0] && lseek(fd, 0, SEEK_CUR) == 0, "pread gives a section");
+	want(preadv(fd, parts, 2, 700) >= 8 && !bytes[0] && is_pat(fd), "preadv");
+	want(preadv2(fd, parts, 1, -1, 0) == 8 && !bytes[0], "preadv2");
+	want(preadv2(fd, parts, 1, -1, RWF_NOWAIT) < 0 && errno == EOPNOTSUPP, "EOPNOTSUPP for a flag");
+	want(pread(fd, bytes, 10, -1) < 0 && errno == EINVAL && preadv(fd, parts, 1, -1) < 0 && errno == EINVAL, "EINVAL for a place below 0");
+	want(pwrite(fd, bytes, 10, 0) < 0 && errno == EINVAL, "pwrite is EINVAL, as write is");
+	want(pread(tune, bytes, 10, 0) < 0 && errno == EINVAL, "and all of a frontend");
+}
+
 static void one_recorder(void)
 {
 	int all = recorder(O_RDONLY);
@@ -196,6 +213,6 @@ static void without_bells(void)
 }
 
 const struct one reads[] = { CASE(sections), CASE(nothing_waits), CASE(before_a_filter), CASE(a_timeout), CASE(an_overflow),
-			     CASE(all_bytes_of_the_recorder), CASE(by_few_bytes), CASE(what_is_there), CASE(in_parts), CASE(one_recorder),
+			     CASE(all_bytes_of_the_recorder), CASE(by_few_bytes), CASE(what_is_there), CASE(in_parts), CASE(at_a_place), CASE(one_recorder),
 			     CASE(payloads), CASE(requests_that_it_has_not), CASE(bad_pointers), CASE(a_thread_is_cancelled),
 			     CASE(closed_by_another_thread), CASE(many_threads), CASE(threads_that_open), ALONE(without_bells), { 0 } };

@@ -17,7 +17,7 @@ CRATE = os.path.join(TOP, "crates", "dvb_serve")
 OWN_SERVER, IN_HASTE = os.path.join(CRATE, "out", "dvb_serve"), os.path.join(CRATE, "out", "haste", "dvb_serve")
 PRELOAD = os.path.join(TOP, "preload", "out", "preload.so")
 PARTS = "descriptors", "device", "exec", "frontend", "line", "kept", "tree", "udev", "wait", "watch"
-FLAGS = "-O2", "-Wall", "-Wextra", "-shared", "-fPIC", "-fvisibility=hidden"
+FLAGS = "-O2", "-Wall", "-Wextra", "-shared", "-fPIC", "-fvisibility=hidden", "-Wl,-Bsymbolic-functions"
 
 
 class Stopped(Exception):
