@@ -82,7 +82,8 @@ class Capture(Answered):
     lines of the reads that found nothing before the first packet passed; it is None once something else is found, or a later read is made.
     `held` is how many bytes its reads would have given at least, had no Overflow come, `over` the Overflow that came last, `known` how many
     bytes had come when so much of the stream had passed, where a reply last told that, and `loops` says that the last read wasn't the last
-    call of its command. `lengths` has those of the sections that were read, the last one at the end. Of a dvr node's capture `tapped` says
+    call of its command. `lag` is how many bytes at most came while reads waited that wouldn't have had to, had no Overflow come, so that they
+    would have come later then, and `waits` says that such a read waits. `lengths` has those of the sections that were read, the last one at the end. Of a dvr node's capture `tapped` says
     whether a tap was attached, and `dry` has the lines of the reads that found nothing."""
 
     def __init__(self, client: int, line: int, passed: int, passes: int, is_late: bool) -> None:
@@ -94,15 +95,22 @@ class Capture(Answered):
         self.clear, self.clear_passes = passed, passes
         self.early: list[int] | None = []
         self.held, self.known, self.loops, self.tapped = 0, (0, passed), False, False
+        self.lag, self.waits = 0, False
         self.over: Stumble | None = None
         self.dry: list[int] = []
 
     def hold(self, least: int, most: int, count: int) -> int:
         """Takes a read of at most so many bytes, of a capture to which at least and at most so many had come: tells how many a buffer has to
         hold that no Overflow comes to this read."""
+        if self.waits:
+            self.lag, self.waits = self.lag + most - self.answered, False
         wanted = max(0, most - self.held)
-        self.held = min(least, self.held + count)
+        self.held = max(self.held, min(least - self.lag, self.held + count))
         return wanted
+
+    def hold_all(self) -> None:
+        """All that has come would have been read too, had no Overflow come."""
+        self.held, self.lag, self.waits = self.answered, 0, False
 
     def most(self, passed: int, size: int, is_section: bool) -> int:
         """How many bytes may have come by now, where so much of the stream has passed, and no Overflow is told: no more than the buffer holds,

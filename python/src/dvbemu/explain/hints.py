@@ -74,6 +74,8 @@ def size_words(stumble: Stumble) -> str:
         return f"an Overflow that no reading in time avoids, only a greater size: {item}"
     what = "what came" if facts["times"] == 1 else f"all that came, at {facts['times']:,} Overflows"
     held = f"; one of {facts['wanted']} would have held {what}" if 0 < facts["wanted"] <= LARGEST_SIZE else ""
+    if facts.get("unsure"):
+        held = "; no size is named, since reads waited behind it, and let packets pass sooner than they would have with a greater buffer"
     if held and facts["batch"]:
         held += f"; a batch of up to {facts['batch']} packets passes at once, and no client reads in between" + (
             ": set that size" if facts["served"] else ": set that size, or try `--batch 1`")  # fmt: skip

@@ -50,6 +50,7 @@ if TYPE_CHECKING:
         skipped: int
         tapped: int
         times: int
+        unsure: bool
         wanted: int
         whole: int
         why: str
@@ -80,14 +81,15 @@ class Tap(NamedTuple):
 
 
 class Node(Walk):
-    """The state of a node that follows from the calls accepted so far, and counts of what came by."""
+    """The state of a node that follows from the calls accepted so far, and counts of what came by. `is_ahead` says that packets have passed
+    which wouldn't have yet, had no Overflow come."""
 
     filter: Filter | None
     capture: Capture | None
 
     def __init__(self, number: int, story: Story) -> None:
         super().__init__(number)
-        self.story, self.ended_by = story, ""
+        self.story, self.ended_by, self.is_ahead = story, "", False
         self.passed, self.passes, self.batch, self.calls, self.free_packets = 0, 0, 0, 0, 0
         self.end: int | None = None
         self.waiting: dict[int, Waiting] = {}
@@ -102,6 +104,8 @@ class Node(Walk):
         is_late = self.end is not None and not (self.filter and self.filter.is_played)
         if self.filter:
             self.filter.started = True
+        if self.is_ahead:
+            self.story.unsure.add(self.number)
         self.capture = Capture(int(entry.who[1]), self.story.line_of(entry), self.passed, self.passes, is_late)
         self.capture.tapped = bool(self.attached)
         if is_late:
@@ -111,6 +115,7 @@ class Node(Walk):
         """The capture ends, where there is one."""
         if self.capture and entry.act.startswith("size "):
             self.ended_by = "SetSize to another size has ended the capture"
+        self.is_ahead = self.is_ahead or self.capture is not None and self.capture.lag > 0
         self.tell(reply["drop"][1] > reply["drop"][0])
         self.story.leave_capture(self)
         if self.filter:
@@ -202,6 +207,9 @@ class Story:
         self.packets = {row.pid: row for row in report.pids}
         self.stumbles: dict[tuple[str, int | None, int | None, Hashable], Stumble] = {}
         self.first_moment, self.is_served, self.joints = first_moment(report), is_served(report), joints(report)
+        # Nodes where reads waited behind an Overflow, and those whose later captures would have begun at other packets without it.
+        self.waited: set[int] = set()
+        self.unsure: set[int] = set()
         self.is_misread = self.look_at_skipped()
         for number, entries in sorted(report.nodes.items()):
             node = Node(number, self)
@@ -261,9 +269,14 @@ class Story:
                     call.reason = "as a write does that completes no packet"
 
     def join_sizes(self) -> None:
-        """The size that is named holds what came at each Overflow of a client's node, of whatever kind each of them is."""
+        """The size that is named holds what came at each Overflow of a client's node, of whatever kind each of them is. None is named where
+        it can't be told which packets would have passed by then."""
+        over = {number for kind, _, number, _ in self.stumbles if kind in SIZES}
+        mixed = over & {number for client in self.clients.values() for number in client.waits}
         for (kind, client, node, subject), stumble in self.stumbles.items():
-            if kind in SIZES and stumble.facts["wanted"]:
+            if kind in SIZES and (node in self.unsure or node in self.waited and mixed - {node}):
+                stumble.facts.update({"wanted": 0, "unsure": True})
+            elif kind in SIZES and stumble.facts["wanted"]:
                 same = (self.stumbles.get((other, client, node, subject)) for other in SIZES)
                 stumble.facts["wanted"] = max(one.facts["wanted"] for one in same if one)
 
@@ -547,7 +560,7 @@ class Story:
         if reply["error"] == "timedout" and node.capture:
             node.capture.polled = line
         if not reply["readable"] and node.capture and self.is_served:
-            node.capture.held = node.capture.answered
+            node.capture.hold_all()
         found = reply["error"] == "overflow" or reply["readable"] == 1 and reply["error"] == "none"
         self.look(node, call, line, found, not reply["readable"])
 
@@ -614,8 +627,14 @@ class Story:
 
     # ------ overflows
 
-    @staticmethod
-    def hold_data(node: Node, client: Client, call: Call) -> None:
+    def hold(self, node: Node, call: Call, least: int, most: int) -> int:
+        """Takes a read of a capture to which at least and at most so many bytes had come, and tells how many a buffer has to hold."""
+        assert node.capture is not None
+        if node.capture.waits:
+            self.waited.add(node.number)
+        return node.capture.hold(least, most, act_of(call.entry)["count"] if node.gives_all() else 1)
+
+    def hold_data(self, node: Node, client: Client, call: Call) -> None:
         """Takes what a read gives: what more came has to be held too where, had no Overflow come, the reader would be behind."""
         capture, count = node.capture, act_of(call.entry)["count"]
         assert capture is not None and node.size is not None
@@ -623,25 +642,28 @@ class Story:
         is_bytes, wanted = node.gives_all(), 0
         if is_bytes and call.length() < count:
             capture.known = after, node.passed
-        if capture.held == capture.answered:
+        if capture.held == capture.answered and not capture.lag:
             capture.held = after
         else:
             has_place = is_bytes and not (node.filter and node.filter.is_played)
-            wanted = capture.hold(after, capture.most(node.passed, node.size, not has_place), count if is_bytes else 1)
+            wanted = self.hold(node, call, after, capture.most(node.passed, node.size, not has_place))
         if capture.over and capture.over.facts["wanted"]:
             capture.over.facts["wanted"] = max(capture.over.facts["wanted"], wanted + 1)
         capture.loops = not client.is_last(call.entry.step)
 
     def hold_again(self, node: Node, client: Client, call: Call) -> None:
         """Takes a read that found nothing. Who reads until it finds nothing would have read all; a single read in a script would have given
-        as much as it asks for."""
+        as much as it asks for, without a wait."""
         capture = node.capture
-        if capture:
-            capture.known = capture.answered, node.passed
-        if capture and (self.is_served or capture.loops and call.entry.step not in client.begins):
-            capture.held = capture.answered
-        elif capture:
-            capture.hold(capture.answered, capture.answered, act_of(call.entry)["count"] if node.gives_all() else 1)
+        if capture is None:
+            return
+        capture.known = capture.answered, node.passed
+        if self.is_served or capture.held == capture.answered or capture.loops and call.entry.step not in client.begins:
+            capture.hold_all()
+        elif client.is_last(call.entry.step):
+            self.hold(node, call, capture.answered, capture.answered)
+        else:
+            capture.waits = True
 
     def take_overflow(self, node: Node, client: Client, call: Call, line: int) -> None:
         """An Overflow that a read answered."""
@@ -659,7 +681,7 @@ class Story:
         found.facts["times"] += 1
         if capture:
             self.look_at_pace(node, client, call, found)
-            wanted = capture.hold(reply["span"][1], reply["span"][1], act_of(call.entry)["count"] if node.gives_all() else 1)
+            wanted = self.hold(node, call, reply["span"][1], reply["span"][1])
             found.facts["wanted"] = 0 if call.lost.kept else max(found.facts["wanted"], wanted + 1)
             capture.over, capture.loops, capture.known = found, not client.is_last(call.entry.step), (reply["span"][1], node.passed)
             capture.skip_to(reply["span"][1])
