@@ -1,34 +1,33 @@
-"""What tools/package and tools/install make, over the programs that are built here: whatever proved them, as packing is told. The package is
-unpacked, and README's first commands are run from it as another user, in an empty environment and folder, without the repository, with
-coreutils and python3 alone in the PATH, and so is each word; it is installed below a folder by dpkg, used, and removed again; apt finds what
-it needs; the same tree as a tar, and below a prefix; the manual; completion; lintian; the programs' libraries; the module and its wheel;
-what the packed pages link to and name in commands. A job of continuous integration, as docs/EVERYWHERE.md shows it, fetches and caches the
-package, with stand-ins for apt-get and pytest. What isn't whole is refused: a gate that has failed, has not ended or was one over another
-commit. Nothing outside a prefix is removed or written.
+"""What `make install`, `make tar` and `dpkg-buildpackage` make, over the programs that are built here. The package of Debian is unpacked, and
+README's first commands are run from it as another user, in an empty environment and folder, without the repository, with coreutils and python3
+alone in the PATH, and so is each word; it is installed below a folder by dpkg, used, and removed again; apt finds what it needs; the same
+tree as a tar, and below a prefix; the manual; completion; lintian; the programs' libraries; the module; what the packed pages link to and name
+in commands. A job of continuous integration, as docs/EVERYWHERE.md shows it, fetches and caches the package, with stand-ins for apt-get and
+pytest. A gate that has failed, has not ended or was one over another commit is refused.
 """
 import glob
+import hashlib
 import os
 import re
 import shutil
 import subprocess
 import sys
 import tempfile
+from pathlib import Path
 
+import proof
 import pytest
 from conftest import EXAMPLES, ROOT, needs
 
-sys.path.append(str(ROOT / "packaging"))
-import packing
-
-TOOLS = str(ROOT / "tools")
-OUT = [str(ROOT / "crates" / name / "out" / name) for name in ("dvbemu", "dvb_serve")]
+OUT = [f"crates/{name}/out/{name}" for name in ("dvbemu", "dvb_serve")]
+PRELOAD, DOC, LIBRARY = "preload/out/preload.so", "share/doc/dvbemu", "lib/dvbemu"
+STREAM = EXAMPLES / "programs" / "scan.ts"
 # What a run of the gate writes.
 COMMIT = "0123abcd" * 5
 HEAD = f"commit {COMMIT}\nrt: low_one proved\n124 passed, 0 failed (7 kept)\n"
-CHECKS = packing.checks_of_gate()
+CHECKS = proof.checks_of_gate()
 WHOLE = HEAD + "".join(f"== {name}\ntold: 1\n{number} passed, 0 failed\n" for number, name in enumerate(CHECKS, 3))
-VERSION = (ROOT / "VERSION").read_text().split()[0]
-PROOF = packing.Proof(VERSION, COMMIT, 1_790_000_000, "kit-of-this-check logic 0123456789abcdef", packing.gate_lines(WHOLE, COMMIT))
+VERSION, TOOLCHAIN = (ROOT / "VERSION").read_text().splitlines()[:2]
 # What Debian 12 has in its base, of the libraries that a program may ask for.
 BASE = r"linux-vdso|libc|libm|libgcc_s|ld-linux-x86-64|libpthread|libdl|librt"
 NOBODY = "65534"
@@ -78,98 +77,32 @@ NO_GATES = [
 ]
 
 
-def bytes_of(path):
-    """The bytes of a file."""
-    with open(path, "rb") as file:
-        return file.read()
-
-
 # ------ what is refused
 
 
 def test_lines_of_a_gate():
     told = ["rt ci: 124 passed, 0 failed (7 kept)", *(f"{name}: {number} passed, 0 failed" for number, name in enumerate(CHECKS, 3))]
-    assert len(told) >= 8
-    assert PROOF.gate == told
+    assert len(told) >= 4
+    assert proof.gate_lines(WHOLE, COMMIT) == told
 
 
 @pytest.mark.parametrize("text, wanted", NO_GATES)
 def test_gate_that_is_not_whole(text, wanted):
-    with pytest.raises(packing.Refused) as why:
-        packing.gate_lines(text, COMMIT)
+    with pytest.raises(proof.Refused) as why:
+        proof.gate_lines(text, COMMIT)
     assert wanted in str(why.value)
 
 
-def test_gate_that_is_not_there(tmp_path):
-    with pytest.raises(packing.Refused, match="No such file"):
-        packing.gate_of(str(tmp_path / "gate"), COMMIT)
-
-
-@pytest.mark.parametrize("name, before, behind", [("package", ["-o", "@"], []), ("install", [], ["@/prefix"])])
-def test_nothing_is_packed(tmp_path, name, before, behind):
-    """Behind a gate that has failed."""
-    packing.write(str(tmp_path / "gate"), WHOLE.replace(" 0 failed", " 1 failed"))
-    words = [word.replace("@", str(tmp_path)) for word in [*before, "--gate", "@/gate", *behind]]
-    ran = subprocess.run([os.path.join(TOOLS, name), *words], capture_output=True, text=True, check=False)
+@pytest.mark.parametrize("gate", ["gate", "missing"])
+def test_nothing_is_told(tmp_path, gate):
+    """Behind a gate that has failed, and without the file that is named."""
+    (tmp_path / "gate").write_text(WHOLE.replace(" 0 failed", " 1 failed"))
+    (tmp_path / "tree").mkdir()
+    words = [ROOT / "packaging" / "proof.py", "--gate", tmp_path / gate, tmp_path / "tree"]
+    ran = subprocess.run(words, capture_output=True, text=True, check=False)
     assert (ran.returncode, ran.stdout) == (1, "")
-    assert ran.stderr.startswith(f"tools/{name}: ")
-    assert os.listdir(tmp_path) == ["gate"]
-
-
-class Prefix:
-    """A prefix with sums of a file, a folder outside of it, to which a link of the prefix leads, and what is to be installed."""
-
-    def __init__(self, folder):
-        self.folder = str(folder)
-        self.new, self.prefix, self.outside = (os.path.join(folder, name) for name in ("new", "prefix", "outside"))
-        self.sums, self.right = os.path.join(self.prefix, packing.DOC, "SHA256SUMS"), f"{'0' * 64}  bin/first\n"
-        packing.write(os.path.join(self.new, "share", "file"), "")
-        for path in (os.path.join(self.outside, "victim"), os.path.join(self.outside, "dvbemu", "__pycache__", "kept"), os.path.join(self.prefix, "bin", "first")):
-            packing.write(path, "")
-        os.makedirs(os.path.join(self.prefix, "share", "doc", "a folder"))
-        os.symlink(self.outside, os.path.join(self.prefix, "share", "link"))
-        packing.write(self.sums, self.right)
-
-    def is_refused(self, name):
-        """Packing refuses a call, and everything stays."""
-        call = {"remove": lambda: packing.remove(self.prefix), "install": lambda: packing.install(self.new, self.prefix)}[name]
-        before = sorted(packing.files_in(self.folder))
-        with pytest.raises(packing.Refused) as why:
-            call()
-        assert str(why.value).startswith(self.prefix) and "\n" not in str(why.value)
-        assert sorted(packing.files_in(self.folder)) == before
-
-
-# Nothing outside a prefix is removed or written, and where that is asked for nothing is: by sums that name it, absolutely, by `..` or
-# through a link, and by a folder of the prefix that leads out of it.
-SUMS = [f"{'0' * 64}  ../outside/victim", f"{'0' * 64}  @/victim", f"{'0' * 64}  share/link/victim", f"{'0' * 64}  bin/..",
-        f"{'0' * 64}  share/doc/a folder", "0  bin/first", "bin/first", ""]  # fmt: skip
-
-
-@pytest.fixture
-def prefix(tmp_path):
-    return Prefix(tmp_path)
-
-
-@pytest.mark.parametrize("name", ["remove", "install"])
-@pytest.mark.parametrize("last", SUMS)
-def test_sums(prefix, last, name):
-    packing.write(prefix.sums, f"{prefix.right}{last.replace('@', prefix.outside)}\n")
-    prefix.is_refused(name)
-
-
-def test_library_that_leads_out(prefix):
-    os.symlink(prefix.outside, os.path.join(prefix.prefix, "lib"))
-    prefix.is_refused("remove")
-
-
-def test_share_that_leads_out(prefix):
-    shutil.rmtree(os.path.join(prefix.prefix, "share"))
-    os.symlink(prefix.outside, os.path.join(prefix.prefix, "share"))
-    prefix.is_refused("install")
-    ran = subprocess.run([os.path.join(TOOLS, "install"), "--remove", prefix.prefix], capture_output=True, text=True, check=False)
-    assert ran.returncode == 1
-    assert ran.stderr.startswith(f"tools/install: {prefix.prefix}: ")
+    assert ran.stderr.startswith("packaging/proof.py: ") and ran.stderr.count("\n") == 1
+    assert list((tmp_path / "tree").iterdir()) == []
 
 
 # ------ what is packed
@@ -184,22 +117,42 @@ def folder():
 
 
 @pytest.fixture(scope="module")
-def tree(folder):
-    """The tree that is packed."""
-    if not all(map(os.path.exists, OUT)):
+def source(folder):
+    """The repository's files and the programs that are built here, in a folder of their own; the programs aren't built anew (`make -o all`)."""
+    if not all((ROOT / name).exists() for name in OUT):
         pytest.skip("the programs aren't built")
-    made = os.path.join(folder, "tree")
-    packing.lay_out(made, packing.Programs(*OUT), PROOF)
+    if not (ROOT / PRELOAD).exists():
+        subprocess.run([ROOT / "dvbemu-serve", "--packets", "3000", "--keep", "none", STREAM, "--", "true"], check=True)
+    made = Path(folder, "build", "source")
+    names = subprocess.run(["git", "-C", ROOT, "ls-files", "-z"], stdout=subprocess.PIPE, text=True, check=True).stdout.split("\0")
+    for name in [*filter(None, names), *OUT, PRELOAD]:
+        if (ROOT / name).exists():
+            (made / name).parent.mkdir(parents=True, exist_ok=True)
+            shutil.copy2(ROOT / name, made / name, follow_symlinks=False)
     return made
 
 
+def make(source, *words):
+    """What make says."""
+    env = {**os.environ, "PYTHONDONTWRITEBYTECODE": "1", "SOURCE_DATE_EPOCH": "1790000000", "MAKEFLAGS": "-o all"}
+    ran = subprocess.run(words, cwd=source, env=env, capture_output=True, text=True, check=False)
+    assert ran.returncode == 0, ran.stdout + ran.stderr
+    return ran
+
+
 @pytest.fixture(scope="module")
-def deb(tree, folder):
+def tree(source):
+    """The tree that is installed."""
+    make(source, "make", "tree")
+    return str(source / "out" / "tree")
+
+
+@pytest.fixture(scope="module")
+def deb(source):
     """The package of Debian."""
-    needs("dpkg-deb", "/usr/bin/python3")
-    path = os.path.join(folder, f"dvbemu_{VERSION}_amd64.deb")
-    packing.deb(tree, path, PROOF)
-    return path
+    needs("dpkg-buildpackage", "dh_python3", "/usr/bin/python3")
+    make(source, "dpkg-buildpackage", "--build=binary", "--no-sign", "--no-check-builddeps")
+    return str(source.parent / f"dvbemu_{VERSION}_amd64.deb")
 
 
 @pytest.fixture(scope="module")
@@ -210,32 +163,59 @@ def unpacked(deb, folder):
     return os.path.join(place, "usr")
 
 
+def files_in(root):
+    """All files and links below a folder, as they are named from there."""
+    return sorted(str(path.relative_to(root)) for path in Path(root).rglob("*") if path.is_symlink() or path.is_file())
+
+
+def test_version():
+    """It stands in three places, the same in each."""
+    import dvbemu
+    assert dvbemu.__version__ == VERSION
+    assert (ROOT / "debian" / "changelog").read_text().startswith(f"dvbemu ({VERSION}) ")
+
+
 def test_proof(tree):
-    proof = bytes_of(os.path.join(tree, packing.DOC, "PROOF")).decode()
-    assert "kit-of-this-check" in proof
-    assert [line for line in PROOF.gate if f"    {line}" not in proof] == []
+    """The gate's sums, where a gate is told; else that none was."""
+    told = Path(tree, DOC, "PROOF").read_text()
+    assert TOOLCHAIN.removeprefix("proved with ") in told and proof.NO_GATE[0] in told
 
 
-def test_sums_of_the_tree(tree):
-    words = ["sha256sum", "--quiet", "-c", f"{packing.DOC}/SHA256SUMS"]
-    sums = subprocess.run(words, cwd=tree, capture_output=True, text=True, check=False)
+def test_proof_behind_a_gate(tmp_path):
+    for name in LIBRARY, DOC:
+        (tmp_path / name).mkdir(parents=True)
+    lines = proof.gate_lines(WHOLE, COMMIT)
+    proof.sign(tmp_path, VERSION, TOOLCHAIN, COMMIT, lines)
+    told = (tmp_path / DOC / "PROOF").read_text()
+    assert [line for line in lines if f"    {line}\n" not in told] == []
+    assert (tmp_path / LIBRARY / "VERSION").read_text() == f"{VERSION} (commit 0123abcd)\n{TOOLCHAIN}\n"
+
+
+@pytest.mark.parametrize("name", ["tree", "unpacked"])
+def test_sums(request, name):
+    """The sums of the files, and that these are all files but the package's own."""
+    root = request.getfixturevalue(name)
+    words = ["sha256sum", "--quiet", "-c", f"{DOC}/SHA256SUMS"]
+    sums = subprocess.run(words, cwd=root, capture_output=True, text=True, check=False)
     assert (sums.returncode, sums.stdout, sums.stderr) == (0, "", "")
+    listed = {line[66:] for line in Path(root, DOC, "SHA256SUMS").read_text().splitlines()}
+    others = {name for name in files_in(root) if not os.path.islink(os.path.join(root, name))} - listed
+    own = {f"{DOC}/SHA256SUMS", f"{DOC}/changelog.gz", f"{DOC}/copyright", "share/lintian/overrides/dvbemu"}
+    assert others - {one for one in others if one.startswith("share/python3/")} <= own
 
 
-@pytest.mark.parametrize("name", ["tools", "python/src/dvbemu/haste.py", "serve/check"])
+@pytest.mark.parametrize("name", ["tools", "tests", "python/src/dvbemu.egg-info/SOURCES.txt", "preload/cases"])
 def test_is_not_packed(tree, name):
-    assert os.path.join(packing.LIBRARY, name) not in set(packing.files_in(tree))
+    assert not os.path.exists(os.path.join(tree, LIBRARY, name))
 
 
 def test_nothing_is_packed_that_python_keeps(tree):
-    assert [name for name in packing.files_in(tree) if "__pycache__" in name] == []
+    assert [name for name in files_in(tree) if "__pycache__" in name] == []
 
 
 def test_libraries(tree):
     """None beyond Debian's base."""
-    library = os.path.join(tree, packing.LIBRARY)
-    programs = [os.path.join(library, os.path.relpath(path, ROOT)) for path in OUT]
-    words = ["ldd", *programs, packing.preload_in(library)]
+    words = ["ldd", *(os.path.join(tree, LIBRARY, name) for name in [*OUT, PRELOAD])]
     libraries = subprocess.run(words, stdout=subprocess.PIPE, text=True, check=True).stdout
     lines = [line for line in libraries.split("\n") if line.startswith("\t")]
     assert lines and [line for line in lines if not re.match(rf"\t(?:/lib64/)?(?:{BASE})\.so", line)] == []
@@ -243,9 +223,9 @@ def test_libraries(tree):
 
 def test_links(tree):
     """What the packed pages link to is packed, and each of examples/ that they name in a block of commands."""
-    doc, missing, links, examples = os.path.join(tree, packing.DOC), [], 0, 0
+    doc, missing, links, examples = os.path.join(tree, DOC), [], 0, 0
     for page in glob.glob(os.path.join(glob.escape(doc), "**", "*.md"), recursive=True):
-        text = bytes_of(page).decode()
+        text = Path(page).read_text()
         linked = re.findall(r"\]\((?!https?:)([^)#]+)", text)
         named = re.findall(r"(?<![\w/])examples/[\w./-]*\w", "".join(re.findall(r"^```.*?^```$", text, re.M | re.S)))
         paths = [*(os.path.join(os.path.dirname(page), link) for link in linked), *(os.path.join(doc, name) for name in named)]
@@ -258,7 +238,7 @@ def test_links(tree):
 @pytest.mark.parametrize("name, word", PAGES.items())
 def test_manual(tree, name, word):
     needs("pandoc", "man")
-    path = os.path.join(tree, packing.MAN, f"man{name[-1]}", f"{name}.gz")
+    path = os.path.join(tree, "share", "man", f"man{name[-1]}", f"{name}.gz")
     env = {**os.environ, "MANWIDTH": "80"}
     ran = subprocess.run(["man", "--warnings", "-l", path], env=env, capture_output=True, text=True, check=False)
     assert (ran.returncode, ran.stderr) == (0, "")
@@ -275,7 +255,7 @@ def test_completion_of_bash(tree):
 @pytest.mark.parametrize("typed, wanted", TYPED.items())
 def test_completion_of_zsh(tree, tmp_path, typed, wanted):
     needs("zsh")
-    packing.write(str(tmp_path / ".zshrc"), STARTED.replace("@", tree))
+    (tmp_path / ".zshrc").write_text(STARTED.replace("@", tree))
     words, env = ["zsh", "-f", "-c", TYPING.replace("@", typed)], {**os.environ, "ZDOTDIR": str(tmp_path)}
     assert wanted in subprocess.run(words, env=env, capture_output=True, text=True, timeout=60, check=False).stdout
 
@@ -327,7 +307,7 @@ def as_another(hiding, plain_path, unpacked, folder):
 
 def first_commands():
     """README's first commands, as they are where dvbemu is installed. In the place of a scanner that isn't there a reader opens a node."""
-    block = re.search(rf"^```console {SCANNER}\n(.*?)^```$", bytes_of(ROOT / "README.md").decode(), re.M | re.S)[1]
+    block = re.search(rf"^```console {SCANNER}\n(.*?)^```$", (ROOT / "README.md").read_text(), re.M | re.S)[1]
     commands = "\n".join(line[2:] for line in block.split("\n") if line.startswith("$ "))
     commands = commands.replace("./dvbemu", "dvbemu").replace("examples/", "@/share/doc/dvbemu/examples/")
     return commands if shutil.which(SCANNER) else re.sub(rf"-- {SCANNER} .*", f"-- {READER}", commands)
@@ -340,12 +320,12 @@ def test_first_commands(as_another):
     assert commands.count("\n") >= 2
     place, ran = as_another(FIRST.format(commands))
     assert ran.returncode == 0 and ran.stdout.endswith("yes\n"), ran
-    wanted = ["opens n0", "0123abcd", "kit-of-this-check", *(["sets a section filter on n0"] if SCANNER in commands else [])]
+    wanted = ["opens n0", TOOLCHAIN, *(["sets a section filter on n0"] if SCANNER in commands else [])]
     assert [words for words in wanted if words not in ran.stdout] == []
     assert [name for name in os.listdir(place) if name.startswith("dvbemu-")] == []
     place, ran = as_another(ALL)
     assert (ran.stdout, ran.stderr) == ("", "")
-    assert len(bytes_of(os.path.join(place, "words")).split()) >= 20
+    assert len(Path(place, "words").read_text().split()) >= 20
 
 
 @pytest.mark.alone
@@ -355,15 +335,7 @@ def test_module(unpacked):
     code = "import dvbemu; print(len(dvbemu.steps(b'c0 open n0\\nstream\\n').nodes), dvbemu.program.command_of('dvbemu'))"
     ran = subprocess.run(["/usr/bin/python3", "-W", "error", "-c", code], env={"PATH": "/usr/bin:/bin", "PYTHONPATH": packages},
                          capture_output=True, text=True, check=False)  # fmt: skip
-    assert ran.stdout.split() == ["1", os.path.join(unpacked, packing.LIBRARY, "dvbemu")], ran.stderr
-
-
-@pytest.mark.alone
-def test_wheel(unpacked, tmp_path):
-    """It is made of what is packed."""
-    name = packing.wheel_of(os.path.join(unpacked, packing.LIBRARY)).build_wheel(str(tmp_path))
-    assert name == f"dvbemu-{VERSION}-py3-none-any.whl"
-    assert os.listdir(tmp_path) == [name]
+    assert ran.stdout.split() == ["1", os.path.join(unpacked, LIBRARY, "dvbemu")], ran.stderr
 
 
 @pytest.mark.alone
@@ -376,7 +348,7 @@ def test_apt(deb):
 
 def integration():
     """The commands of a job of continuous integration, as docs/EVERYWHERE.md shows them."""
-    page = bytes_of(ROOT / "docs" / "EVERYWHERE.md").decode()
+    page = (ROOT / "docs" / "EVERYWHERE.md").read_text()
     return re.search(r"^```\n(.*?)^```$", page[page.index("\n## Continuous integration\n") :], re.M | re.S)[1]
 
 
@@ -384,30 +356,28 @@ def integration():
 def test_integration(deb, tmp_path):
     """A job of continuous integration: with nothing in its cache, with the package there, and with a package of another sum."""
     needs("curl")
-    bin_of_job, job = os.path.join(tmp_path, "noting"), os.path.join(tmp_path, "job")
+    bin_of_job, job = tmp_path / "noting", tmp_path / "job"
+    bin_of_job.mkdir()
+    job.mkdir()
     for name in "apt-get", "pytest":
-        packing.write(os.path.join(bin_of_job, name), NOTING)
-        os.chmod(os.path.join(bin_of_job, name), 0o755)
-    packing.write(os.path.join(job, "asked"), "")
-    right = packing.sum_of(deb)
+        (bin_of_job / name).write_text(NOTING)
+        (bin_of_job / name).chmod(0o755)
+    right = hashlib.sha256(Path(deb).read_bytes()).hexdigest()
     for packages, wanted, status in (os.path.dirname(deb), right, 0), ("/nowhere", right, 0), ("/nowhere", "0" * 64, 1):
         env = {"PATH": f"{bin_of_job}:{os.environ['PATH']}", "PACKAGES": f"file://{packages}", "SUM": wanted}
         ran = subprocess.run(["sh", "-e", "-c", integration()], cwd=job, env=env, capture_output=True, text=True, check=False)
         assert ran.returncode == status, (packages, ran)
-    asked = bytes_of(os.path.join(job, "asked")).decode().splitlines()
+    asked = Path(job, "asked").read_text().splitlines()
     wanted = ["apt-get update", f"apt-get install -y ./cache/{os.path.basename(deb)} ", "pytest "] * 2
     assert len(asked) == len(wanted) and all(map(str.startswith, asked, wanted)), asked
 
 
-def use(python):
-    """Imports the module of this folder as it is done by whoever may write there, so that Python keeps what it compiles."""
-    subprocess.run(["/usr/bin/python3", "-c", "import dvbemu.explain.told"], env={"PATH": "/usr/bin:/bin", "PYTHONPATH": python}, check=True)
-
-
-def has_kept(root):
-    """Whether Python has kept what it compiles, of the module and of the tools."""
-    kept = {os.path.dirname(name) for name in packing.files_in(root) if "__pycache__" in name}
-    return len(kept) >= 2
+@pytest.mark.alone
+@pytest.mark.parametrize("script, wanted", [("postinst", "py3compile -p dvbemu"), ("prerm", "py3clean -p dvbemu")])
+def test_modules_are_compiled(deb, script, wanted):
+    """Where the package is installed, for users who may not write there; and what Python keeps goes with it."""
+    told = subprocess.run(["dpkg-deb", "--info", deb, script], stdout=subprocess.PIPE, text=True, check=True).stdout
+    assert wanted in told
 
 
 @pytest.mark.alone
@@ -420,15 +390,13 @@ def test_removal(deb, tmp_path):
     for folder in os.path.join(state, "updates"), os.path.join(state, "info"), root:
         os.makedirs(folder)
     for name in "status", "available":
-        packing.write(os.path.join(state, name), "")
+        Path(state, name).touch()
     words = ["dpkg", "--admindir", state, "--instdir", root, "--force-depends", "--force-script-chrootless", "--log=/dev/null"]
     # (dpkg looks for its programs in the PATH, where a user's may lack those folders)
     env = {**os.environ, "PATH": f"{os.environ['PATH']}:/usr/sbin:/sbin"}
     ran = subprocess.run([*words, "--install", deb], env=env, capture_output=True, text=True, check=False)
     assert ran.returncode == 0, ran
     assert os.path.exists(os.path.join(root, "usr", "bin", "dvbemu"))
-    use(os.path.join(root, "usr", "lib", "python3", "dist-packages"))
-    assert has_kept(root)
     ran = subprocess.run([*words, "--purge", "dvbemu"], env=env, capture_output=True, text=True, check=False)
     assert ran.returncode == 0, ran
     assert os.listdir(root) == []
@@ -442,30 +410,29 @@ def test_lintian(deb):
     assert told.returncode == 0, told.stdout + told.stderr
 
 
-def test_prefix(tree, tmp_path):
+def test_prefix(source, tmp_path):
     """Installed below a folder, twice, and removed: a file that was there stays."""
-    place = os.path.join(tmp_path, "prefix")
-    packing.write(os.path.join(place, "bin", "other"), "")
-    packing.install(tree, place)
-    packing.install(tree, place)
-    ran = subprocess.run([os.path.join(place, "bin", "dvbemu"), "--version"], capture_output=True, text=True, check=False)
-    assert "0123abcd" in ran.stdout, ran
-    if os.path.exists("/usr/bin/python3"):
-        use(os.path.join(place, packing.LIBRARY, "python", "src"))
-    packing.remove(place)
-    assert list(packing.files_in(place)) == ["bin/other"]
-    with pytest.raises(packing.Refused, match="nothing is installed"):
-        packing.remove(place)
+    place = tmp_path / "a prefix"
+    (place / "bin").mkdir(parents=True)
+    (place / "bin" / "other").touch()
+    words = f"PREFIX={place}"
+    make(source, "make", "install", words)
+    make(source, "make", "install", words)
+    ran = subprocess.run([place / "bin" / "dvbemu", "--version"], capture_output=True, text=True, check=False)
+    assert ran.stdout.startswith(f"dvbemu {VERSION} (commit ") and TOOLCHAIN in ran.stdout, ran
+    subprocess.run([sys.executable, "-c", "import dvbemu.explain.told"], env={"PYTHONPATH": place / LIBRARY / "python" / "src"}, check=True)
+    make(source, "make", "uninstall", words)
+    assert files_in(place) == ["bin/other"]
 
 
-def test_tar(tree, tmp_path):
+def test_tar(source, tmp_path):
     """Unpacked in a folder with a blank in its name."""
-    path, other = os.path.join(tmp_path, "dvbemu.tar.gz"), os.path.join(tmp_path, "an other")
-    packing.tar(tree, path, PROOF)
+    make(source, "make", "tar")
+    path, other = source / "out" / f"dvbemu-{VERSION}.tar.gz", os.path.join(tmp_path, "an other")
     os.makedirs(other)
     subprocess.run(["tar", "-xzf", path, "-C", other], check=True)
     assert os.listdir(other) == [f"dvbemu-{VERSION}"]
     dvbemu = os.path.join(other, f"dvbemu-{VERSION}", "bin", "dvbemu")
     words = [dvbemu, "steps", "--batch", "1", EXAMPLES / "rules" / "overflow.session"]
     ran = subprocess.run(words, env={"PATH": "/usr/bin:/bin"}, capture_output=True, check=False)
-    assert ran.stdout == bytes_of(EXAMPLES / "rules" / "overflow.report"), ran.stderr
+    assert ran.stdout == (EXAMPLES / "rules" / "overflow.report").read_bytes(), ran.stderr

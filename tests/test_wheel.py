@@ -1,20 +1,17 @@
-"""The module of python/ installed by pip, into environments of its own, without a network: from the repository, as a wheel, and so that it
-stays where it is (-e). What is installed is imported from another folder under `python3 -W error`, finds the programs in the PATH, and
-pytest's plugin is known; it has all files of the module and pip's own sums fit; removed, nothing is left. Two wheels are the same bytes,
-and nothing is written beside the sources but what Python keeps of the one that builds them. What can't be made is refused with a reason: a
-sdist, and a wheel of a copy of python/ without the repository.
+"""The module of python/ installed by pip and Debian's setuptools, into environments of their own, without a network: from its folder, as a
+wheel, and so that it stays where it is (-e). What is installed is imported from another folder under `python3 -W error`, finds the programs in
+the PATH, and pytest's plugin is known; it has all files of the module; removed, nothing is left.
 """
-import importlib.util
 import os
 import shutil
 import subprocess
-import sys
 import zipfile
 
 import pytest
 from conftest import EXAMPLES, ROOT
 
-PYTHON, STREAM = ROOT / "python", EXAMPLES / "programs" / "scan.ts"
+PYTHON, STREAM = "/usr/bin/python3", EXAMPLES / "programs" / "scan.ts"
+NEEDED = "import setuptools, pip, venv, wheel"
 # What a test does with the module: it tells where it lies, which programs it calls, which version pip knows, and what a report
 # has.
 TRIES = """\
@@ -24,30 +21,33 @@ script = dvbemu.Script("c0 open demux0\\nc0 section n0 0 0 5 table_id=0\\nc0 rea
 report = dvbemu.steps(script, sys.argv[1])
 print(os.path.dirname(dvbemu.__file__))
 print(dvbemu.program.command_of("dvbemu"), dvbemu.program.command_of("dvbemu-serve"))
-print(known.version("dvbemu"), [entry.value for entry in known.entry_points(group="pytest11")])
+print(known.version("dvbemu"), [entry.value for entry in known.distribution("dvbemu").entry_points])
 print(report.node("n0").data()[:4].hex(), bool(report.check(script, sys.argv[1])))
 """
 
+
+@pytest.fixture
+def source(tmp_path):
+    """The folder python/, in which pip leaves what it builds."""
+    return shutil.copytree(ROOT / "python", tmp_path / "python", ignore=shutil.ignore_patterns("__pycache__", "build", "*.egg-info"))
+
+
+@pytest.fixture
+def environment(tmp_path):
+    """An environment that has Debian's setuptools."""
+    if not os.path.exists(PYTHON) or subprocess.run([PYTHON, "-c", NEEDED], stderr=subprocess.DEVNULL, check=False).returncode:
+        pytest.skip("python3-pip, python3-setuptools, python3-wheel and python3-venv aren't there")
+    path = tmp_path / "environment"
+    subprocess.run([PYTHON, "-m", "venv", "--system-site-packages", "--without-pip", path], check=True)
+    return path
 
 
 def pip(environment, *words):
     """What pip says of an environment."""
     own = {"PIP_DISABLE_PIP_VERSION_CHECK": "1", "PIP_NO_INDEX": "1", "PIP_CONFIG_FILE": os.devnull}
-    ran = subprocess.run([sys.executable, "-m", "pip", "--python", environment / "bin" / "python", *words],
+    ran = subprocess.run([PYTHON, "-m", "pip", "--python", environment / "bin" / "python", *words],
                          env={**os.environ, **own}, capture_output=True, text=True, check=False)  # fmt: skip
-    return ran.returncode, ran.stdout + ran.stderr
-
-
-@pytest.fixture
-def environment(tmp_path):
-    """An environment without pip; beside the sources nothing is written."""
-    if not all(map(importlib.util.find_spec, ("pip", "venv"))):
-        pytest.skip("pip or venv isn't there")
-    before = files_in(PYTHON)
-    path = tmp_path / "environment"
-    subprocess.run([sys.executable, "-m", "venv", "--without-pip", path], check=True)
-    yield path
-    assert files_in(PYTHON) == before
+    assert ran.returncode == 0, ran.stdout + ran.stderr
 
 
 def packages_of(environment):
@@ -72,51 +72,29 @@ def try_module(environment, folder, place):
     assert ran.stdout.split("\n")[:-1] == [os.path.join(place, "dvbemu"), programs, known, "00b01512 True"], ran.stderr
 
 
-def try_install(environment, folder, *words):
+def try_install(environment, folder, place, *words):
     """Installs the module, and removes it again."""
     packages = packages_of(environment)
     before = files_in(packages)
-    status, told = pip(environment, "install", *words)
-    assert status == 0, told
-    try_module(environment, folder, PYTHON / "src" if "-e" in words else packages)
-    status, told = pip(environment, "uninstall", "--yes", "dvbemu")
-    assert status == 0, told
+    pip(environment, "install", "--no-build-isolation", *words)
+    try_module(environment, folder, place or packages)
+    pip(environment, "uninstall", "--yes", "dvbemu")
     assert files_in(packages) == before
 
 
-@pytest.mark.parametrize("words", [[PYTHON], ["-e", PYTHON]], ids=["of the repository", "in its place"])
-def test_install(environment, tmp_path, words):
-    try_install(environment, tmp_path, *words)
+def test_install(environment, source, tmp_path):
+    try_install(environment, tmp_path, None, source)
 
 
-def test_wheel(environment, tmp_path):
-    """A wheel, twice, what it has, and its install."""
-    paths = []
-    for place in tmp_path / "one", tmp_path / "other":
-        status, told = pip(environment, "wheel", "--no-deps", "--wheel-dir", place, PYTHON)
-        assert status == 0, told
-        paths += place.iterdir()
-    one, other = paths
-    assert one.read_bytes() == other.read_bytes(), "two wheels differ"
+def test_install_in_its_place(environment, source, tmp_path):
+    try_install(environment, tmp_path, source / "src", "-e", source)
+
+
+def test_wheel(environment, source, tmp_path):
+    """A wheel, what it has, and its install."""
+    pip(environment, "wheel", "--no-build-isolation", "--no-deps", "--wheel-dir", tmp_path / "wheels", source)
+    (one,) = (tmp_path / "wheels").iterdir()
     with zipfile.ZipFile(one) as wheel:
         names = {name for name in wheel.namelist() if name.startswith("dvbemu/")}
-    assert names == {name for name in files_in(PYTHON / "src") if name.startswith("dvbemu/")}
-    try_install(environment, tmp_path, one)
-
-
-def test_sdist(tmp_path):
-    spec = importlib.util.spec_from_file_location("dvbemu_wheel", PYTHON / "making" / "dvbemu_wheel.py")
-    backend = importlib.util.module_from_spec(spec)
-    spec.loader.exec_module(backend)
-    with pytest.raises(backend.UnsupportedOperation, match="pip wheel"):
-        backend.build_sdist(str(tmp_path))
-
-
-@pytest.mark.parametrize("words", [[], ["-e"]], ids=["plain", "in its place"])
-def test_copy(environment, tmp_path, words):
-    """A copy of python/ alone: no wheel is made of it, and the last line that Python writes says what is missing, behind no traceback."""
-    copy = shutil.copytree(PYTHON, tmp_path / "alone")
-    status, told = pip(environment, "install", *words, copy)
-    assert status != 0
-    assert f"dvbemu: {tmp_path / 'VERSION'} is missing: the module is installed from the repository" in told
-    assert "Traceback" not in told
+    assert names == {name for name in files_in(source / "src") if name.startswith("dvbemu/")}
+    try_install(environment, tmp_path, None, one)

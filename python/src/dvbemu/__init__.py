@@ -21,6 +21,9 @@ whose `steps`, `run` and `check` are proved; this module is tested, and neither 
 import importlib
 from typing import TYPE_CHECKING, Any
 
+# The version, that of the file VERSION.
+__version__ = "0.4"
+
 if TYPE_CHECKING:
     from .adapter import Adapter, NoAdapter, serve
     from .calls import (
