@@ -20,7 +20,6 @@ ROOT = os.path.dirname(HERE)
 LIBRARY, DOC, MAN = os.path.join("lib", "dvbemu"), os.path.join("share", "doc", "dvbemu"), os.path.join("share", "man")
 # What isn't packed: what builds, proves and checks, and what is made.
 LEFT_OUT = {
-    "python": ("src/dvbemu/haste.py",),
     "preload": ("cases", "out"),
 }
 MADE = "__pycache__", "out"
@@ -29,6 +28,11 @@ DOCUMENTS = "README.md", "CONTRIBUTING.md", "LICENSE", "bench/README.md", "examp
 GATE = os.path.join(ROOT, ".ci", "run")
 # Who a package is from, where whoever packs doesn't say: the project has no address, and none can be below `.invalid` (RFC 2606).
 AUTHORS = "dvbemu authors", "nobody@dvbemu.invalid"
+# The pages of the manual that are parts of docs/BEHAVIOUR.md: what each is, and the headings where it begins and ends.
+PAGES = [
+    ("dvbemu-script", "the lines of a script of dvbemu", "### The script", "### Requests by their numbers"),
+    ("dvbemu-report", "the lines of a report of dvbemu", "### The report", "### A report that is checked"),
+]
 # The last line of each of the gate's parts.
 SUM = re.compile(r"(\d+) passed, (\d+) failed\b.*")
 
@@ -113,7 +117,7 @@ def built(name):
     path = os.path.join(ROOT, "crates", name, "out", name)
     if os.path.exists(path):
         os.remove(path)
-    if subprocess.call([os.path.join(ROOT, "tools", "build"), "--program", name], stdin=subprocess.DEVNULL):
+    if subprocess.call([os.path.join(ROOT, "dvbemu"), "build", name], stdin=subprocess.DEVNULL, stdout=subprocess.DEVNULL):
         raise Refused(f"{name} can't be proved and built")
     return path
 
@@ -221,42 +225,22 @@ def section_of(page, first, last):
     return "\n\n".join(block for block in part.strip().split("\n\n")[1:] if "- Defined:" not in block)
 
 
-def help_of(library, *words):
-    """A help, as lines that stay as they are."""
-    asked = [os.path.join(library, words[0]), *words[1:], "--help"]
-    return "".join(f"    {line}\n" for line in subprocess.run(asked, stdout=subprocess.PIPE, text=True, check=True, env=unkept()).stdout.split("\n"))
-
-
-def pages_of(library):
-    """The pages of the manual in Markdown: the name and the section of each, what it is, and its text."""
-    listed = help_of(library, "dvbemu")
-    words = re.findall(r"^ {6}([a-z]+) {2,}", listed, re.M)
-    each = "".join(f"\n# {word}\n\n{help_of(library, 'dvbemu', word)}" for word in words)
-    asked, written = "dvbemu-script(5), dvbemu-report(5), dvbemu-serve(1)", "dvbemu(1)"
-    script = section_of("BEHAVIOUR.md", "### The script", "### Requests by their numbers")
-    report = section_of("BEHAVIOUR.md", "### The report", "### A report that is checked")
-    return [
-        ("dvbemu", 1, "/dev/dvb/adapter0 without a card, for tests", f"# DESCRIPTION\n\n{listed}{each}\n# SEE ALSO\n\n{asked}\n"),
-        ("dvbemu-serve", 1, "run DVB programs, as they are, on a recording",
-         f"# DESCRIPTION\n\n{help_of(library, 'dvbemu-serve')}\n# SEE ALSO\n\n{written}\n"),
-        ("dvbemu-script", 5, "the lines of a script of dvbemu", f"# DESCRIPTION\n\n{script}\n\n# SEE ALSO\n\n{written}\n"),
-        ("dvbemu-report", 5, "the lines of a report of dvbemu", f"# DESCRIPTION\n\n{report}\n\n# SEE ALSO\n\n{written}\n"),
-    ]  # fmt: skip
-
-
 def write_manual(root, proof):
-    """The pages of the manual, by pandoc; where it is missing that is told."""
+    """The pages of the manual and the completion of shells: those of the words, and by pandoc, where it is there, those of script and report."""
+    library = os.path.join(root, LIBRARY)
+    words = [sys.executable, "-m", "dvbemu.manual", os.path.join(root, "share")]
+    subprocess.run(words, env={**unkept(), "PYTHONPATH": os.path.join(library, "python", "src")}, check=True)
     if shutil.which("pandoc") is None:
-        print("pandoc isn't there: no page of the manual is made", file=sys.stderr)
+        print("pandoc isn't there: the pages of the script and the report aren't made", file=sys.stderr)
         return
-    for name, section, what, text in pages_of(os.path.join(root, LIBRARY)):
-        page = f"# NAME\n\n{name} - {what}\n\n{text}"
-        words = ["pandoc", "-s", "-f", "markdown-smart", "-t", "man", "-M", f"title={name.upper()}", "-M", f"section={section}",
+    for name, what, first, last in PAGES:
+        page = f"# NAME\n\n{name} - {what}\n\n# DESCRIPTION\n\n{section_of('BEHAVIOUR.md', first, last)}\n\n# SEE ALSO\n\ndvbemu(1)\n"
+        words = ["pandoc", "-s", "-f", "markdown-smart", "-t", "man", "-M", f"title={name.upper()}", "-M", "section=5",
                  "-M", f"footer=dvbemu {proof.version}"]  # fmt: skip
         made = subprocess.run(words, input=page.encode(), stdout=subprocess.PIPE, check=True).stdout
         # (a table of pandoc's is as wide as a terminal of 80 columns, without the margin)
         made = re.sub(rb"w\((\d+[.]\d)n\)", lambda found: b"w(%.1fn)" % (0.9 * float(found[1])), made)
-        write_compressed(os.path.join(root, MAN, f"man{section}", f"{name}.{section}.gz"), made)
+        write_compressed(os.path.join(root, MAN, "man5", f"{name}.5.gz"), made)
 
 
 def write_compressed(path, data):
@@ -267,17 +251,13 @@ def write_compressed(path, data):
 
 
 def link_commands(root):
-    """The commands in bin, and their completion."""
+    """The commands in bin."""
     os.makedirs(os.path.join(root, "bin"), exist_ok=True)
     for name in "dvbemu", "dvbemu-serve":
         link = os.path.join(root, "bin", name)
         if os.path.lexists(link):
             os.remove(link)
         os.symlink(os.path.join("..", LIBRARY, name), link)
-    for name, to in (("bash", "bash-completion/completions/dvbemu"), ("zsh", "zsh/vendor-completions/_dvbemu")):
-        path = os.path.join(root, "share", to)
-        os.makedirs(os.path.dirname(path), exist_ok=True)
-        shutil.copyfile(os.path.join(HERE, f"completion.{name}"), path)
 
 
 def files_in(root):
