@@ -15,14 +15,14 @@ programs = crates/dvbemu/out/dvbemu crates/dvb_serve/out/dvb_serve
 modules = $(shell cd python && find src -name '*.py' -o -name '*.typed' -o -name '*.css' -o -name '*.js')
 
 all:
-	tools/build --program dvbemu
-	tools/build --program dvb_serve
+	./dvbemu build dvbemu
+	./dvbemu build dvb_serve
 	./dvbemu-serve --packets 3000 --keep none examples/programs/scan.ts -- true
 
 # What is installed. lib/dvbemu has the repository's folders, so that the commands find one another there as here.
 tree: all
 	rm -rf $(tree)
-	mkdir -p $(library)/python $(doc) $(tree)/bin $(tree)/share/bash-completion/completions $(tree)/share/zsh/vendor-completions
+	mkdir -p $(library)/python $(doc) $(tree)/bin
 	cp --parents dvbemu dvbemu-serve crates.txt preload/*.[ch] preload/out/preload.so $(programs) $(library)
 	cd python && cp --parents $(modules) ../$(library)/python
 	cd python && python3 -W ignore -c 'import setuptools; setuptools.setup()' -q egg_info --egg-base ../$(library)/python/src
@@ -30,9 +30,8 @@ tree: all
 	cp --parents *.md LICENSE bench/README.md examples/README.md docs/*.md docs/*.json $(doc)
 	cp -r --parents examples/programs examples/reports examples/rules examples/tests $(doc)
 	ln -s ../lib/dvbemu/dvbemu ../lib/dvbemu/dvbemu-serve $(tree)/bin
-	cp packaging/completion.bash $(tree)/share/bash-completion/completions/dvbemu
-	cp packaging/completion.zsh $(tree)/share/zsh/vendor-completions/_dvbemu
-	packaging/manual $(library)/dvbemu $(tree)/share/man
+	PYTHONPATH=python/src python3 -B -m dvbemu.manual $(tree)/share
+	packaging/manual $(tree)/share/man
 	packaging/proof.py $(GATE:%=--gate %) $(tree)
 
 install: tree

@@ -7,7 +7,7 @@ import subprocess
 import tempfile
 import time
 
-from dvbemu.server.building import built_server
+from dvbemu.build import built_server
 from programs import packets_of
 from room import HERE, SERVE, TOP, bytes_of, ran, without_hints
 from stations import NULL, RATE, Station
@@ -22,8 +22,8 @@ NAMES = ("Alpha", "Beta"), ("Gamma", "Delta"), ("Epsilon", "Zeta")
 SECONDS, ENDS, OLD = 2, 3, 3600
 # dvbemu-serve, which ends with a word where it would build.
 UNBUILT = """import sys
-from dvbemu.server import building
-building.build_preload = building.built_server = lambda: sys.exit("built")
+from dvbemu import build
+build.build_preload = build.built_server = lambda: sys.exit("built")
 from dvbemu.cli import begin
 begin("", "serve", *sys.argv[1:])
 """
@@ -217,7 +217,7 @@ def try_faults(room):
         (["--tune", f"474000000:DVBX={path}"], "DVBX is none of"), (["--tune", path], "is expected"),
         (["--channels", path], "are wanted, and it is no text"), (["--channels", "wrong"], "are wanted, and line 2 is '474000000:DVBT a.ts'"),
         (["--report", "-", "--adapter", path, "--adapter", path], "--report FILE"),
-        (["--packets", "0", path], "is expected"), ([], "STREAM is missing"),
+        (["--packets", "0", path], "is expected"), ([], "arguments are required: STREAM"),
         (["--tune", f"474000000:DVBT:H={path}"], "has no polarisation"),
         (["--keep", "none", "--played", "/nowhere/p", path], "/nowhere/p: No such file"),
         (["--keep", "none", "--played", path, path], "is the recording: give --played another name"),

@@ -6,7 +6,7 @@ import shlex
 import shutil
 import tempfile
 
-from dvbemu.server.building import FLAGS, PARTS as SOURCES
+from dvbemu.build import FLAGS, PARTS as SOURCES
 from room import HERE, TOP, calls_of, cases_of, is_passed, passes, ran
 
 # The packets a second; what valgrind keeps for itself or does otherwise (vfork is a fork there), and pointers that are bad on purpose;

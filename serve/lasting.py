@@ -4,7 +4,7 @@ import os
 import shlex
 import subprocess
 
-from dvbemu.server.building import built_server
+from dvbemu.build import built_server
 from room import HERE, PACKET, RATE, TOP, bytes_of, calls_of, is_passed
 
 BAD = os.path.join(HERE, "bad.py")

@@ -92,7 +92,7 @@ def run_here(*argv: str, stdin: bytes | str = b"") -> Result:
         stdout=io.TextIOWrapper(out, "utf-8", "surrogateescape"),
         stderr=io.TextIOWrapper(err, "utf-8", "backslashreplace", write_through=True),
     ):
-        status = standard.status_of(command_line.teller_of(argv), command_line.main, "", *argv)
+        status = standard.status_of(command_line.teller_of(argv), command_line.main, *argv)
     # (some commands leave what they have made to the end of their process)
     gc.enable()
     return Result(status or 0, *(end.getvalue().decode(errors="surrogateescape") for end in (out, err)))
@@ -195,6 +195,18 @@ def files_room(tmp_path_factory: pytest.TempPathFactory) -> Room:
         "tests/a.session": b"stream\n", "tests/a.report": EMPTY, "kept/head": EMPTY, "kept/batches": b"",
     })  # fmt: skip
     return made
+
+
+def all_of(end: int) -> str:
+    """All that comes from a pipe or a terminal until its end."""
+    said = b""
+    try:
+        while more := os.read(end, 65536):
+            said += more
+    except OSError:
+        pass
+    os.close(end)
+    return said.decode()
 
 
 def needs(*names: str) -> None:

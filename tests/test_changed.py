@@ -209,8 +209,7 @@ def test_changed(seed, tool):
 @pytest.fixture(scope="module")
 def program():
     """The path of the program."""
-    told = subprocess.run([PROGRAM, "check"], env={**os.environ, "DVBEMU_TELL": "1"}, stdin=subprocess.DEVNULL, capture_output=True, check=True)
-    return told.stdout.decode().strip()
+    return subprocess.run([PROGRAM, "build", "dvbemu"], capture_output=True, text=True, check=True).stdout.strip()
 
 
 def try_reader(program, text):

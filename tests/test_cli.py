@@ -13,20 +13,20 @@ import time
 
 import pytest
 from conftest import ENDS, PROGRAM, SERVER
-from dvbemu import cli, tool
+from dvbemu import cli
+from dvbemu import tool as form
 
 WORDS = [*cli.PROVED, *cli.TOOLS]
-# With no word behind them: the status over an empty standard input, and the beginning of what is told.
+# With no word behind them: the status over an empty standard input, and the beginning of what is told, or the words that are missing.
 ALONE = {
     "steps": (3, "dvbemu: script line 1: nostream"), "run": (3, "dvbemu: script line 1: nostream"),
-    "check": (3, "dvbemu: script line 0: number"), "make": (2, "dvbemu: N is missing"), "selftest": (2, "dvbemu: N is missing"),
+    "check": (3, "dvbemu: script line 0: number"), "make": (2, "N"), "selftest": (2, "N"),
     "explain": (1, "dvbemu explain: standard input: line 1: expected"), "picture": (1, "dvbemu picture: standard input: line 1: expected"),
     "bytes": (1, "dvbemu bytes: standard input: line 1: expected"), "pace": (1, "dvbemu pace: standard input: fewer than two PCRs"),
     "json": (1, "dvbemu json: standard input: line 1: expected"), "page": (1, "dvbemu page: standard input: line 1: expected"),
-    "hint": (2, "dvbemu hint: REPORT and SESSION are missing"), "serve": (2, "dvbemu serve: STREAM and COMMAND are missing"),
-    "words": (0, ""), "why": (2, "dvbemu why: REPORT and SESSION are missing"), "test": (2, "dvbemu test: PATH is missing"),
-    "session": (2, "dvbemu session: REPORT and STREAM are missing"), "merge": (2, "dvbemu merge: FOLDER is missing"),
-    "packet": (2, "dvbemu packet: PID, COUNTER, KIND and BYTES are missing"), "calls": (2, "dvbemu calls: PROGRAM is missing"),
+    "hint": (2, "REPORT, SESSION"), "serve": (2, "STREAM, COMMAND; -- stands in front of COMMAND"), "words": (0, ""),
+    "why": (2, "REPORT, SESSION"), "test": (2, "PATH"), "session": (2, "REPORT, STREAM"), "merge": (2, "FOLDER"),
+    "packet": (2, "PID, COUNTER, KIND, BYTES"), "calls": (2, "PROGRAM"), "build": (2, "PROGRAM"),
 }  # fmt: skip
 # A word in the place of which a file stands, and the status where that isn't there, is a folder, or has random bytes. Those that read no
 # file take it for a number.
@@ -37,14 +37,14 @@ READS = {
     "hint {} session": (1, 1, 1), "hint report {}": (1, 1, 1), "bytes {}": (1, 1, 1), "why {} session": (2, 2, 1), "why report {}": (2, 2, 2),
     "session {} session": (1, 1, 1), "session report {}": (1, 1, 1), "pace {}": (1, 1, 1), "words {}": (1, 1, 0), "merge {}": (1, 1, 1),
     "test {}": (1, 1, 1), "calls {}": (127, 127, 127), "packet {} 0 payload 00": (2, 2, 2), "packet 0 0 payload {}": (1, 1, 1),
-    "serve {} -- true": (1, 1, 1), "serve --channels {} -- true": (1, 1, 1),
+    "serve {} -- true": (1, 1, 1), "serve --channels {} -- true": (1, 1, 1), "build {}": (2, 2, 2),
 }  # fmt: skip
 # Those that write: what they are given by standard input.
 WRITES = {
     "steps -": "session", "run -": "session", "make 7": None, "selftest 7": None, "explain": "report", "picture": "report", "page": "report",
     "json": "report", "hint - session": "report", "bytes": "report", "session - stream": "served", "words": "session", "pace --rate 1000": "stream",
     "packet 0 0 payload 00": None, "why - session": "report", "test a.session": None, "check - session": "report", "calls true": None,
-    "merge kept": None, "serve --help": None, "--help": None, "--version": None,
+    "merge kept": None, "build dvbemu": None, "serve --help": None, "--help": None, "--version": None,
 }  # fmt: skip
 # Those that are done by the program alone.
 OWN = "make 7", "selftest 7"
@@ -58,7 +58,7 @@ WAITS = (
 REPORTS = "why", "explain", "picture", "page", "json", "hint", "bytes", "session", "check -"
 BEGINS = {"check": b"report 9\n", "json --back": b"{"}
 # Those that wait for a reader, and for a program that has begun.
-FULL = "make 7", "selftest 7", "packet 0 0 payload 00", "merge kept"
+FULL = "make 7", "selftest 7", "packet 0 0 payload 00", "merge kept", "build dvbemu"
 READY = "-- sh -c echo${IFS}ready>&2;exec${IFS}sleep${IFS}600"
 BEGUN = f"calls {READY}", f"serve --packets 1500 --report r stream {READY}"
 INTERRUPTED = [line for line in WAITS if not line.startswith("serve ")]
@@ -110,22 +110,22 @@ def test_help(files_room, word):
     status, out, told = files_room.quick(f"{word} --help")
     page = out.decode()
     assert (status, told) == (0, "") and page.startswith(f"usage: dvbemu {word}")
-    assert all(re.search(rf"^{part} +\S", page, re.M) for part in tool.PARTS)
+    assert all(re.search(rf"^{part} +\S", page, re.M) for part in form.PARTS)
     assert max(map(len, page.split("\n"))) <= 145
 
 
 @pytest.mark.parametrize("line", [*(f"{word} --version" for word in WORDS), "--version", "version", "-V"])
 def test_version(files_room, line):
     status, out, _ = files_room.quick(line)
-    assert (status, out.decode()) == (0, tool.version() + "\n")
+    assert (status, out.decode()) == (0, form.version() + "\n")
 
 
 @pytest.mark.parametrize("word", WORDS)
 def test_unknown_option(files_room, word):
     status, out, told = files_room.quick(f"{word} --nothing")
-    first, usage = (told.split("\n") + [""])[:2]
-    assert (status, out) == (2, b"") and re.match(r"dvbemu.*: unknown option --nothing", first)
-    assert usage.startswith(f"usage: dvbemu {word}") and is_quiet(usage)
+    usage, wrong = told.splitlines()
+    assert (status, out) == (2, b"") and usage.startswith(f"usage: dvbemu {word}") and is_quiet(usage)
+    assert re.match(rf"dvbemu {word}: error: (unrecognized arguments: --nothing|the following arguments are required: )", wrong)
 
 
 def test_help_of_all(files_room):
@@ -137,7 +137,17 @@ def test_help_of_all(files_room):
 @pytest.mark.parametrize("word, status, line", [(word, *wanted) for word, wanted in ALONE.items()], ids=ALONE)
 def test_no_word(files_room, word, status, line):
     found = files_room.quick(word)
-    assert found[:2] == (status, b"") and found.err.startswith(line) and is_quiet(found.err)
+    assert found[:2] == (status, b"") and is_quiet(found.err)
+    if status == 2:
+        assert found.err.endswith(f"\ndvbemu {word}: error: the following arguments are required: {line}\n")
+    else:
+        assert found.err.startswith(line)
+
+
+def test_a_word_that_has_moved(monkeypatch, tool):
+    monkeypatch.setitem(cli.MOVED, "told", "`explain REPORT SESSION` tells it")
+    status, out, told = tool("told", "r", "s")
+    assert (status, out) == (2, "") and told.startswith("usage: dvbemu WORD ..") and told.endswith("\ndvbemu: error: `explain REPORT SESSION` tells it\n")
 
 
 # ------ a file that isn't there, a folder, and random bytes

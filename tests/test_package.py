@@ -43,7 +43,7 @@ dvbemu hint out/r @/share/doc/dvbemu/examples/programs/scan.ts > told || echo hi
 dvbemu why out/scan.report out/scan.session > told || echo why: $?
 """
 # The pages of the manual, and a word of each.
-PAGES = {"dvbemu.1": "explain", "dvbemu-serve.1": "--packets", "dvbemu-script.5": "drain", "dvbemu-report.5": "overflow"}
+PAGES = {"dvbemu.1": "explain", "dvbemu-serve.1": "--packets", "dvbemu-json.1": "--back", "dvbemu-script.5": "drain", "dvbemu-report.5": "overflow"}
 COMPLETE = """\
 . @/share/bash-completion/completions/dvbemu
 COMP_WORDS=(dvbemu expl) COMP_CWORD=1; _dvbemu; echo "${COMPREPLY[*]}"
@@ -51,7 +51,7 @@ COMP_WORDS=(dvbemu steps --ba) COMP_CWORD=2; _dvbemu; echo "${COMPREPLY[*]}"
 """
 # What is typed at a zsh, a tabulator behind a part of a word, and what dvbemu says of the whole word.
 STARTED = "path=(@/bin $path); fpath=(@/share/zsh/vendor-completions $fpath); autoload -Uz compinit; compinit -u -D"
-TYPED = {"expl\\t--nope": "explain: unknown option --nope", "steps --ba\\t": "--batch wants a value"}
+TYPED = {"expl\\t--nope": "explain: error: unrecognized arguments: --nope", "steps --ba\\t": "--batch: expected one argument"}
 TYPING = """\
 zmodload zsh/zpty
 zpty z "zsh -i"

@@ -11,7 +11,7 @@ import sys
 from typing import NamedTuple
 
 import pytest
-from conftest import EMPTY, EXAMPLES, PROGRAM, ROOT
+from conftest import EMPTY, EXAMPLES, PROGRAM, ROOT, all_of
 
 SCAN = str(EXAMPLES / "programs" / "scan")
 REPORT, SESSION = ((EXAMPLES / "programs" / f"scan{ending}").read_bytes() for ending in (".report", ".session"))
@@ -27,7 +27,7 @@ import sys
 sys.path.insert(0, sys.argv[1])
 from dvbemu import cli, progress
 progress.FIRST = 0.01
-cli.begin("", "merge", sys.argv[2])
+cli.begin("merge", sys.argv[2])
 """
 
 
@@ -55,18 +55,6 @@ CASES = [
     Case("steps", [PROGRAM, "steps", "-"], b"# a line\n" * 900 + b"c0 opne n0\nstream\n", rf"dvbemu: {BYTES} *", 3),
     Case("check", [PROGRAM, "check", "-", SCAN + ".session"], REPORT, rf"dvbemu: {BYTES} *"),
 ]  # fmt: skip
-
-
-def all_of(end):
-    """All that comes from a pipe or a terminal until its end."""
-    said = b""
-    try:
-        while more := os.read(end, 65536):
-            said += more
-    except OSError:
-        pass
-    os.close(end)
-    return said.decode()
 
 
 def told_by(case, on_terminal=True, all_there=False):

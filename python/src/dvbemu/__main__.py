@@ -4,4 +4,4 @@ import sys
 from .cli import begin
 
 if __name__ == "__main__":
-    begin("", *sys.argv[1:])
+    begin(*sys.argv[1:])

@@ -1,9 +1,8 @@
-"""The words of `dvbemu` that the program over standard input doesn't do: help, files, wrong words, and the tools.
+"""The command line: the table of its words, help, wrong words, and the words of the proved program.
 
-The wrapper `dvbemu` starts this where its words aren't just those of the proved program, nor those of `steps` over small files. `steps`,
-`run` and `check` with files give the program what the files hold, by its standard input: what it writes and its status are its own, but
-that `check` with files has the status 1 where the answer is no, and that a file that can't be read to its end is told by its name, with
-the status 1; where a signal has ended it that is told, with 128 and its number. The other words are the tools beside this.
+`steps`, `run` and `check` with files give the program what the files hold, by its standard input: what it writes and its status are its
+own, but that `check` with files has the status 1 where the answer is no, and that a file that can't be read to its end is told by its name,
+with the status 1; where a signal has ended it that is told, with 128 and its number. The other words are the modules of `commands`.
 """
 from __future__ import annotations
 
@@ -13,23 +12,18 @@ import signal
 import sys
 from typing import TYPE_CHECKING
 
-from . import tool
-from . import inputs
-from . import progress
-from . import spawned
 from . import standard
+from . import tool
 
 if TYPE_CHECKING:
     from argparse import Namespace
-    from types import FrameType
     from typing import Iterable, Iterator, NoReturn, Sequence
 
-# The program's path, where the wrapper has seen that it is built.
-built: list[str] = []
+    from . import child
+    from . import inputs
+    from . import progress
+
 BATCH, PACKET = "[--batch B]", "[--packet P]"
-# The signals that may end this before the program has.
-ENDS = {signal.SIGHUP, signal.SIGINT, signal.SIGQUIT, signal.SIGTERM, signal.SIGUSR1, signal.SIGUSR2, signal.SIGALRM, signal.SIGVTALRM,
-        signal.SIGPROF, signal.SIGXCPU, signal.SIGIO, signal.SIGPWR}  # fmt: skip
 # The words of the proved program: what stands behind each, and what it does.
 PROVED = {
     "steps": (f"{BATCH} {PACKET} [SCRIPT [STREAM ..]]", "does the calls of a script in their order, over the streams, and writes a report"),
@@ -38,24 +32,27 @@ PROVED = {
     "make": ("N", "writes the session of this number"),
     "selftest": (f"N {BATCH}", "runs the session of this number, and writes its sums"),
 }
-# The tools: the module of each, in `commands`, and what it does.
+# The tools, each a module of `commands`, and what it does.
 TOOLS = {
-    "serve": ("serve", "runs DVB programs, as they are, on a recording, and writes a report of their calls"),
-    "explain": ("explain", "tells a report in sentences, with hints"),
-    "picture": ("picture", "draws a report"),
-    "page": ("page", "writes a report as a page for a browser"),
-    "hint": ("hint", "why filters got nothing and what overflows lost, by a report and its stream"),
-    "json": ("json", "writes a report as JSON Lines, and back"),
-    "why": ("why", "what is wrong with a report: the line, what stands there, what the rules give"),
-    "bytes": ("bytes", "the bytes that were read from a node, as a file"),
-    "session": ("session", "makes a session of a report of `serve`, for `steps`"),
-    "test": ("test", "runs a folder of sessions, and compares their reports"),
-    "words": ("words", "writes a script with names and hexadecimal numbers as a plain one"),
-    "packet": ("packet", "makes packets of a section or a payload"),
-    "pace": ("pace", "writes a stream at the pace of its program clock, for `run`"),
-    "calls": ("calls", "writes the calls of a program on a real adapter as a script"),
-    "merge": ("merge", "makes the report of a folder of `serve --keep FOLDER`"),
+    "serve": "runs DVB programs, as they are, on a recording, and writes a report of their calls",
+    "explain": "tells a report in sentences, with hints",
+    "picture": "draws a report",
+    "page": "writes a report as a page for a browser",
+    "hint": "why filters got nothing and what overflows lost, by a report and its stream",
+    "json": "writes a report as JSON Lines, and back",
+    "why": "what is wrong with a report: the line, what stands there, what the rules give",
+    "bytes": "the bytes that were read from a node, as a file",
+    "session": "makes a session of a report of `serve`, for `steps`",
+    "test": "runs a folder of sessions, and compares their reports",
+    "words": "writes a script with names and hexadecimal numbers as a plain one",
+    "packet": "makes packets of a section or a payload",
+    "pace": "writes a stream at the pace of its program clock, for `run`",
+    "calls": "writes the calls of a program on a real adapter as a script",
+    "merge": "makes the report of a folder of `serve --keep FOLDER`",
+    "build": "proves and builds the program, or the server of `serve`, ahead of their first use",
 }
+# Words that there were, and where what they did is now.
+MOVED: dict[str, str] = {}
 STATUSES = "0; 1 where {}a file can't be read; 2 for wrong words; 3 where the script has a fault; 5 to 7 where reading, writing or " \
     "memory failed (docs/BEHAVIOUR.md, 'Statuses'); 128 and the number of a signal that has ended the program"
 READS = "{}a script, or a session that has its stream, and streams behind it; a script without its line `stream` gets it " \
@@ -70,7 +67,7 @@ def whole_help() -> str:
     lines += ["Proved, by the toolchain that --version names (docs/PROVED.md):"]
     lines += [f"  {word:9} {what}" for word, (_, what) in PROVED.items()]
     lines += ["", "Tested:"]
-    lines += [f"  {word:9} {what}" for word, (_, what) in TOOLS.items()]
+    lines += [f"  {word:9} {what}" for word, what in TOOLS.items()]
     lines += ["", "`dvbemu WORD --help` tells the rest: files, options, statuses, an example. `dvbemu --version` tells the version."]
     return "\n".join(lines) + "\n"
 
@@ -87,13 +84,26 @@ def command(word: str) -> tool.Command:
                 "status": STATUSES.format("the answer is no or "), "example": "dvbemu check my.report my.script my.ts"}  # fmt: skip
     words = tool.Command(word, usage, f"{what[0].upper()}{what[1:]}.", teller="dvbemu", **told)
     if word in ("steps", "run", "selftest"):
-        words.add_argument("--batch", type=tool.number(1, 64, True), metavar="B", help="the most packets of a batch, 1 to 64; without it, 64")
+        words.add_argument("--batch", action=tool.Once, type=tool.number(1, 64, True), metavar="B", help="the most packets of a batch, 1 to 64; without it, 64")
     if word in ("steps", "run", "check"):
-        words.add_argument("--packet", type=tool.choice(188, 204), metavar="P", help="the bytes that a packet takes up: 188, or 204")
+        words.add_argument("--packet", action=tool.Once, type=int, choices=(188, 204), metavar="P", help="the bytes that a packet takes up: 188, or 204")
         words.add_argument("files", metavar="FILE", nargs="*", help="the files, in the order of the usage")
     else:
         words.add_argument("number", metavar="N", type=tool.number(0, 2**64 - 1, True), help="the number of a session, below 2^64")
     return words
+
+
+def summary(word: str) -> str:
+    """What a word does, as one line."""
+    return PROVED[word][1] if word in PROVED else TOOLS[word]
+
+
+def parser(word: str) -> tool.Command:
+    """What reads the words behind a word, and has its help."""
+    if word in PROVED:
+        return command(word)
+    found: tool.Command = importlib.import_module(f"dvbemu.commands.{word}").command()
+    return found
 
 
 def plain(word: str, given: Namespace) -> list[str]:
@@ -105,83 +115,10 @@ def plain(word: str, given: Namespace) -> list[str]:
     return words
 
 
-def program_for(word: str) -> str | None:
-    """The program, which is proved or compiled where there is none; the wrapper where it can't be kept. None where that fails. Ends with
-    the status 7 where it would have too little stack."""
-    if (stack := spawned.stack()) < spawned.LEAST_STACK:
-        print(f"dvbemu: the stack may have {stack} KiB, and {spawned.LEAST_STACK} are wanted (ulimit -s)", file=sys.stderr)
-        sys.exit(standard.NO_MEMORY)
-    if built:
-        return built[0]
-    for _ in range(2):
-        path = spawned.told_by_wrapper(word, "1")
-        if path or path is None:
-            return path
-        if os.environ.get("DVBEMU_UNPROVED", "0") not in ("", "0"):
-            break
-    return spawned.DVBEMU
-
-
-def built_program() -> str | None:
-    """The program, where it is built, proved or in haste; else None."""
-    return built[0] if built else spawned.told_by_wrapper("steps", "built") or None
-
-
-class Run:
-    """The program over what is written to it: what it tells on standard error, on standard output where that is wanted, and its status.
-    A signal that ends this ends the program first: it never takes what came till then for the whole."""
-
-    def __init__(self, program: str, words: Sequence[str], takes_output: bool = False) -> None:
-        reader, self.input = os.pipe()
-        self.ends = {end: spawned.memory() for end in ((1, 2) if takes_output else (2,))}
-        # (one that comes while the program starts waits; what the caller passes over stays so)
-        mask = signal.pthread_sigmask(signal.SIG_BLOCK, ENDS)
-        self.child = spawned.started([program, *words], {0: reader, **self.ends}, spawned.environment(words[0]), setsigmask=mask)
-        os.close(reader)
-        for number in ENDS:
-            if signal.getsignal(number) != signal.SIG_IGN:
-                signal.signal(number, self.end)
-        signal.pthread_sigmask(signal.SIG_SETMASK, mask)
-        self.output, self.told = b"", b""
-
-    def kill(self) -> None:
-        """Ends the program, where that runs."""
-        if self.child:
-            os.kill(self.child, signal.SIGKILL)
-
-    def end(self, number: int, _frame: FrameType | None) -> NoReturn:
-        """Ends the program, and then this."""
-        self.kill()
-        os._exit(standard.end_by(number))
-
-    def feed(self, pieces: Iterable[bytes]) -> int:
-        """Gives the program all pieces, and waits until it has ended. Where a piece can't be read it is ended."""
-        signal.signal(signal.SIGPIPE, signal.SIG_IGN)
-        try:
-            for piece in pieces:
-                spawned.write(self.input, piece)
-        except BrokenPipeError:
-            # (a script with a fault isn't read to its end)
-            pass
-        except BaseException:
-            self.kill()
-            raise
-        finally:
-            os.close(self.input)
-            spawned.wait(self.child)
-            child, self.child = self.child, 0
-            status = spawned.ended(child)
-            signal.signal(signal.SIGPIPE, signal.SIG_DFL)
-        self.told, self.output = (spawned.bytes_of(self.ends[end]) if end in self.ends else b"" for end in (2, 1))
-        return status
-
-
-def started(words: Sequence[str], takes_output: bool = False) -> Run:
+def started(words: Sequence[str], takes_output: bool = False) -> child.Run:
     """The program, started with these words."""
-    program = program_for(words[0])
-    if program is None:
-        sys.exit(1)
-    return Run(program, words, takes_output)
+    from . import child  # pylint: disable=import-outside-toplevel
+    return child.Run(child.program(), words, takes_output)
 
 
 def ended(status: int) -> int:
@@ -191,12 +128,13 @@ def ended(status: int) -> int:
         return status
     if -status in (signal.SIGINT, signal.SIGPIPE):
         return standard.end_by(-status)
-    print(f"dvbemu: the program {spawned.how(status)}", file=sys.stderr)
+    print(f"dvbemu: the program was ended by signal {-status}", file=sys.stderr)
     return 128 - status
 
 
 def over_files(words: tool.Command, given: Namespace, word: str) -> int:
     """`steps` and `run` over files."""
+    from . import inputs, progress  # pylint: disable=import-outside-toplevel
     kept: list[bytes] = []
     try:
         files = inputs.opened(given.files)
@@ -216,7 +154,7 @@ def over_files(words: tool.Command, given: Namespace, word: str) -> int:
     return ended(status)
 
 
-def tell_more(status: int, run: Run, script: bytes, files: Sequence[inputs.Input], word: str) -> None:
+def tell_more(status: int, run: child.Run, script: bytes, files: Sequence[inputs.Input], word: str) -> None:
     """What a script's fault may be about, behind the program's lines; or that what was taken for a stream is likely none."""
     from . import faulty  # pylint: disable=import-outside-toplevel
     names = ["-" if file.is_standard else file.name for file in files]
@@ -235,6 +173,7 @@ def kept_head(pieces: Iterable[bytes], kept: list[bytes], work: progress.Work) -
 
 def check_files(words: tool.Command, given: Namespace) -> int:
     """`check` over files."""
+    from . import inputs, progress  # pylint: disable=import-outside-toplevel
     if len(given.files) == 1:
         words.error("the following arguments are required: SCRIPT")
     try:
@@ -271,54 +210,55 @@ def check_files(words: tool.Command, given: Namespace) -> int:
     return 1
 
 
+def direct(words: tool.Command, given: Namespace, word: str) -> NoReturn:
+    """The program takes the place of this process, and standard input is its own."""
+    from . import child  # pylint: disable=import-outside-toplevel
+    if "files" in given:
+        words.tell_waiting(f" ('dvbemu {word} --help' tells of files)")
+    path = child.program()
+    os.execve(path, [path, *plain(word, given)], child.environment(word))
+
+
 def done(word: str, behind: Sequence[str]) -> int:
-    """A word of the proved program: with files, with wrong words, or with a word that asks for its help."""
+    """A word of the proved program."""
     words = command(word)
     given = words.parse_args(behind)
     if not getattr(given, "files", None):
-        os.execv(spawned.DVBEMU, [spawned.DVBEMU, *plain(word, given)])
+        direct(words, given, word)
     return check_files(words, given) if word == "check" else over_files(words, given, word)
 
 
 def refuse(word: str | None) -> int:
     """Names a word that is none, and the nearest one; the status is 2."""
-    known = [*PROVED, *TOOLS, "--help", "--version"]
     if word is None:
-        told = "a word is missing"
+        told = "the following arguments are required: WORD"
+    elif word in MOVED:
+        told = MOVED[word]
     elif word.startswith("-"):
-        told = f"unknown option {word}{tool.nearest(word, known)}"
+        told = f"unrecognized arguments: {word}"
     elif os.path.isfile(word):
         told = f"unknown word {word}; for a file: dvbemu steps {word} .."
     else:
-        told = f"unknown word {word}{tool.nearest(word, known)}"
-    print(f"dvbemu: {told}\nusage: dvbemu WORD .., with one of the words {', '.join([*PROVED, *TOOLS])}; dvbemu --help tells them",
-          file=sys.stderr)  # fmt: skip
+        told = f"unknown word {word}{tool.nearest(word, [*PROVED, *TOOLS])}"
+    print(f"usage: dvbemu WORD .., with one of the words {', '.join([*PROVED, *TOOLS])}\ndvbemu: error: {told}", file=sys.stderr)
     return 2
 
 
-def run_tool(word: str, behind: Sequence[str]) -> int | None:
-    """Runs a tool."""
-    sys.argv = [word, *behind]
-    status: int | None = importlib.import_module(f"dvbemu.commands.{TOOLS[word][0]}").main()
-    return status
-
-
-def main(program: str, *words: str) -> int | None:
-    """Does what the words ask for. The wrapper names the program in front of them, where it has seen that this is built."""
-    built[:] = [program] if program else []
-    word = words[0] if words else None
-    if word == "help" and words[1:]:
-        return main(program, words[1], "--help")
+def main(*words: str) -> int | None:
+    """Does what the words ask for."""
+    word, *behind = words or (None,)
+    if word == "help" and behind:
+        return main(behind[0], "--help")
     if word in ("-h", "--help", "help"):
         sys.stdout.write(whole_help())
     elif word in ("--version", "version", "-V"):
         print(tool.version())
     elif word in PROVED:
-        return done(word, words[1:])
-    elif word in TOOLS and words[1:] == ("--version",):
-        print(tool.version())
+        return done(word, behind)
     elif word in TOOLS:
-        return run_tool(word, words[1:])
+        sys.argv = [word, *behind]
+        status: int | None = importlib.import_module(f"dvbemu.commands.{word}").main()
+        return status
     else:
         return refuse(word)
     return 0
@@ -329,6 +269,6 @@ def teller_of(words: Sequence[str]) -> str:
     return " ".join(["dvbemu", *(word for word in words[:1] if word in TOOLS)])
 
 
-def begin(program: str, *words: str) -> NoReturn:
+def begin(*words: str) -> NoReturn:
     """Does what the words ask for, and ends with its status."""
-    standard.run(teller_of(words), main, program, *words)
+    standard.run(teller_of(words), main, *words)

@@ -1,9 +1,10 @@
-"""How far long work is: one line on standard error that is renewed, behind the first second, and only where that is a terminal."""
+"""How far long work is: one line on standard error, renewed by a timer, behind the first second, and only where that is a terminal."""
 from __future__ import annotations
 
 import atexit
 import io
 import os
+import signal
 import stat
 import sys
 from typing import TYPE_CHECKING
@@ -19,7 +20,59 @@ if TYPE_CHECKING:
     from .tool import Command
 
 FIRST, EACH, WIDTH = 1.0, 0.5, 78
-LINES: list[Line] = []
+# Who tells of the work that is shown, and what; and what stands on the terminal. One of each, or none.
+work: list[tuple[str, Callable[[], str]]] = []
+shown: list[str] = []
+
+
+def write(line: str) -> None:
+    """Writes over the line. (This may come within any other write.)"""
+    os.write(2, f"\r{line[:WIDTH]:{WIDTH}}".encode(errors="replace"))
+
+
+def renew(*_: object) -> None:
+    """Writes the line anew."""
+    shown[:] = [f"{teller}: {text()}" for teller, text in work]
+    for line in shown:
+        write(line)
+
+
+def is_terminal(end: TextIO | None) -> bool:
+    """Whether one of the standard ends is a terminal."""
+    return end is not None and end.isatty()
+
+
+def show(teller: str, text: Callable[[], str]) -> None:
+    """Shows what `text` gives until the program or the work ends; nothing where standard error is no terminal."""
+    if is_terminal(sys.stderr):
+        work[:] = [(teller, text)]
+        signal.signal(signal.SIGALRM, renew)
+        signal.setitimer(signal.ITIMER_REAL, FIRST, EACH)
+        atexit.register(end)
+
+
+def show_beside(teller: str, text: Callable[[], str]) -> None:
+    """The same of work that writes as it goes: nothing where what it writes goes to a terminal too."""
+    if not is_terminal(sys.stdout):
+        show(teller, text)
+
+
+def end() -> None:
+    """Takes the line away, so that something else can be told."""
+    if work:
+        signal.setitimer(signal.ITIMER_REAL, 0)
+        signal.signal(signal.SIGALRM, signal.SIG_DFL)
+        work.clear()
+    if shown:
+        shown.clear()
+        write("")
+        os.write(2, b"\r")
+
+
+def clear() -> None:
+    """Takes the line away where what is written now goes to a terminal."""
+    if is_terminal(sys.stdout):
+        end()
 
 
 def bytes_text(count: int) -> str:
@@ -34,92 +87,20 @@ def read_text(count: int, size: int | None, has_ended: bool, what: str) -> str:
     return f"{bytes_text(count)}{f' of {bytes_text(size)}' if size else ''} read"
 
 
-class Line:
-    """The line, as long as the work goes on. `text` gives what it says."""
-
-    def __init__(self, teller: str, text: Callable[[], str]) -> None:
-        import threading  # pylint: disable=import-outside-toplevel
-        self.teller, self.text, self.over, self.shown = teller, text, threading.Event(), False
-        self.thread = threading.Thread(target=self.renew, daemon=True)
-        self.thread.start()
-
-    def renew(self) -> None:
-        """Shows the line, first behind a second."""
-        wait = FIRST
-        while not self.over.wait(wait):
-            self.write(f"{self.teller}: {self.text()}"[:WIDTH].ljust(WIDTH))
-            self.shown, wait = True, EACH
-
-    @staticmethod
-    def write(text: str) -> None:
-        """The line from its beginning."""
-        sys.stderr.write(f"\r{text}")
-        sys.stderr.flush()
-
-    def end(self) -> None:
-        """Takes the line away."""
-        if not self.over.is_set():
-            self.over.set()
-            self.thread.join()
-            if self.shown:
-                self.write(" " * WIDTH + "\r")
-
-
-def is_terminal(end: TextIO | None) -> bool:
-    """Whether one of the standard ends is a terminal."""
-    return end is not None and end.isatty()
-
-
-def show(teller: str, text: Callable[[], str]) -> None:
-    """Shows what `text` gives until the program or the work ends; nothing where standard error is no terminal."""
-    if not is_terminal(sys.stderr):
-        return
-    LINES.append(Line(teller, text))
-    atexit.register(end)
-
-
-def show_beside(teller: str, text: Callable[[], str]) -> None:
-    """The same of work that writes as it goes: nothing where what it writes goes to a terminal too."""
-    if not is_terminal(sys.stdout):
-        show(teller, text)
-
-
-def end() -> None:
-    """Takes the line away, so that something else can be told."""
-    while LINES:
-        LINES.pop().end()
-
-
-def clear() -> None:
-    """Takes the line away where what is written now goes to a terminal."""
-    if is_terminal(sys.stdout):
-        end()
-
-
-# ------ files
-
-
-class Counted(io.RawIOBase):
-    """A file whose bytes are counted as they are read."""
+class Counted(io.FileIO):
+    """An open file whose bytes are counted as they are read."""
 
     def __init__(self, file: BinaryIO) -> None:
-        super().__init__()
+        super().__init__(file.fileno(), closefd=False)
         self.file, self.count, self.has_ended = file, 0, False
         status = os.fstat(file.fileno())
         self.size = status.st_size if stat.S_ISREG(status.st_mode) else None
 
-    def readable(self) -> bool:
-        """It can be read."""
-        return True
-
-    def readinto(self, buffer: WriteableBuffer) -> int:
+    def readinto(self, buffer: WriteableBuffer) -> int | None:
         """Reads, and counts."""
-        room = memoryview(buffer).cast("B")
-        data: bytes = self.file.read1(len(room))  # type: ignore[attr-defined]  # (files of `words.opened` have it)
-        room[: len(data)] = data
-        self.count += len(data)
-        self.has_ended = not data
-        return len(data)
+        count = super().readinto(buffer)
+        self.count, self.has_ended = self.count + (count or 0), not count
+        return count
 
 
 def reading(words: Command, name: str | None, what: str) -> BinaryIO:

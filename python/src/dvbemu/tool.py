@@ -10,7 +10,6 @@ from __future__ import annotations
 
 import argparse
 import os
-import re
 import signal
 import sys
 from typing import TYPE_CHECKING
@@ -18,7 +17,7 @@ from typing import TYPE_CHECKING
 from . import progress
 
 if TYPE_CHECKING:
-    from typing import BinaryIO, Callable, Iterable, NoReturn, Sequence, TypeVar
+    from typing import BinaryIO, Callable, Iterable, NoReturn, TypeVar
 
     T = TypeVar("T")
 
@@ -43,16 +42,9 @@ def nearest(word: str, known: Iterable[str]) -> str:
     return f"; did you mean {found[0]}?" if found else ""
 
 
-def is_hasty() -> bool:
-    """Whether the program that runs is one that was compiled in haste, or will be."""
-    if os.environ.get("DVBEMU_UNPROVED", "0") in ("", "0"):
-        return False
-    from . import spawned  # pylint: disable=import-outside-toplevel
-    return (spawned.told_by_wrapper("steps", "built") or "haste/dvbemu").endswith("haste/dvbemu")
-
-
 def version() -> str:
     """The version of the file VERSION, the commit where there is one, and the toolchain that proved the program that runs."""
+    from . import build  # pylint: disable=import-outside-toplevel
     with open(os.path.join(ROOT, "VERSION"), encoding="utf-8") as file:
         number, proved = file.read().splitlines()[:2]
     commit = ""
@@ -63,7 +55,7 @@ def version() -> str:
             commit = subprocess.run(words, capture_output=True, text=True, check=False).stdout.strip()
         except OSError:
             pass
-    return f"dvbemu {number}" + (f" (commit {commit})" if commit else "") + f"\n{HASTY if is_hasty() else proved}"
+    return f"dvbemu {number}" + (f" (commit {commit})" if commit else "") + f"\n{HASTY if build.is_unproved() else proved}"
 
 
 class Version(argparse.Action):
@@ -72,6 +64,15 @@ class Version(argparse.Action):
     def __call__(self, parser: argparse.ArgumentParser, namespace: argparse.Namespace, values: object, option_string: str | None = None) -> NoReturn:
         print(version())
         parser.exit()
+
+
+class Once(argparse.Action):
+    """An option that stands once."""
+
+    def __call__(self, parser: argparse.ArgumentParser, namespace: argparse.Namespace, values: object, option_string: str | None = None) -> None:
+        if getattr(namespace, self.dest) is not None:
+            raise argparse.ArgumentError(self, "it stands twice")
+        setattr(namespace, self.dest, values)
 
 
 class Page(argparse.RawDescriptionHelpFormatter):
@@ -85,7 +86,7 @@ class Command(argparse.ArgumentParser):
     """A command: its word, the words behind that, what it does, and what it reads, writes and ends with, and an example."""
 
     # The statuses of all tools, behind their own.
-    others = "; 6 where standard output can't be written, 7 where memory is missing, 70 for a fault of the tool itself"
+    others = "; 6 where standard output can't be written; 7 where memory is missing; 70 for a fault of the tool itself"
 
     def __init__(self, word: str, usage: str, about: str, teller: str | None = None, **told: str) -> None:
         self.teller = teller or f"dvbemu {word}"
@@ -95,60 +96,22 @@ class Command(argparse.ArgumentParser):
         self.add_argument("-h", "--help", action="help", help="this text")
         self.add_argument("--version", action=Version, nargs=0, help="the version, its commit, and the toolchain that proved it")
 
+    def statuses(self) -> str:
+        """The exit statuses, and what they mean."""
+        return self.told["status"] + ("" if self.teller == "dvbemu" else self.others)
+
     def format_help(self) -> str:
         """The help, with what is told at its end."""
         import textwrap  # pylint: disable=import-outside-toplevel
-        told = {**self.told, "status": self.told["status"] + ("" if self.teller == "dvbemu" else self.others)}
+        told = {**self.told, "status": self.statuses()}
         rows = (textwrap.wrap(told[part], WIDTH - 9, break_on_hyphens=False) for part in PARTS)
         self.epilog = "\n".join(f"{part:8} " + "\n         ".join(row) for part, row in zip(PARTS, rows))
         return super().format_help()
-
-    def options(self) -> list[str]:
-        """The options that the command knows."""
-        return [name for action in self._actions for name in action.option_strings]
-
-    def parse_args(self, words: Sequence[str] | None = None) -> argparse.Namespace:  # type: ignore[override]  # (nobody gives a namespace)
-        """The words of the command line. An option that isn't known is told before a word that is missing."""
-        words = sys.argv[1:] if words is None else words
-        takes = {name for action in self._actions if action.nargs is None for name in action.option_strings}
-        gathers = {name for action in self._actions if isinstance(action.default, list) for name in action.option_strings}
-        runs = any(action.nargs == argparse.REMAINDER for action in self._actions)
-        place, seen = 0, set[str]()
-        while place < len(words) and words[place] != "--" and not (runs and words[place][:1] != "-"):
-            word, _, value = words[place].partition("=")
-            if re.match("-[^0-9]", word) and word not in self.options():
-                self.error(f"unrecognized arguments: {word}")
-            if word in takes - gathers and word in seen:
-                self.error(f"{word} stands twice")
-            seen.add(word)
-            place += 2 if word in takes and not value else 1
-        return super().parse_args(words)
-
-    def message(self, text: str) -> str:
-        """What argparse says of a wrong word, in the form of this project."""
-        if found := re.match(r"unrecognized arguments: (\S+)", text):
-            word = found[1].partition("=")[0]
-            return f"unknown option {word}{nearest(word, self.options())}" if word[:1] == "-" else f"one word too many: {found[1]}"
-        if found := re.match("the following arguments are required: (.*)", text):
-            *names, last = found[1].split(", ")
-            return f"{', '.join(names)} and {last} are missing" if names else f"{last} is missing"
-        if found := re.match(r"argument (\S+): expected (?:one|at least one) argument", text):
-            return f"{found[1]} wants a value"
-        if found := re.match(r"argument (\S+): invalid choice: '(.*)' \(choose from (.*)\)", text):
-            known = re.findall(r"[\w-]+", found[3])
-            return f"{found[1]} is one of {', '.join(known)}, and not {found[2]}{nearest(found[2], known)}"
-        if found := re.match(r"argument (\S+): not allowed with argument (\S+)", text):
-            return f"{found[1]} can't stand beside {found[2]}"
-        return re.sub(r"^argument (\S+): ", r"\1: ", text)
 
     def exit(self, status: int = 0, message: str | None = None) -> NoReturn:
         """Ends, behind a line of the message, where there is one."""
         progress.end()
         super().exit(status, message)
-
-    def error(self, message: str) -> NoReturn:
-        """Tells a wrong word, and how the command is used; the status is 2."""
-        self.exit(2, f"{self.teller}: {self.message(message)}\n{self.format_usage()}")
 
     def fail(self, text: object) -> NoReturn:
         """Tells what can't be done; the status is 1."""
@@ -171,10 +134,10 @@ class Command(argparse.ArgumentParser):
         self.tell_waiting()
         return sys.stdin.buffer
 
-    def tell_waiting(self) -> None:
+    def tell_waiting(self, more: str = "") -> None:
         """Tells on a terminal what is waited for."""
         if sys.stdin is not None and sys.stdin.isatty():
-            print(f"{self.teller}: reading standard input, which is a terminal; Ctrl-D ends it", file=sys.stderr)
+            print(f"{self.teller}: reading standard input, which is a terminal; Ctrl-D ends it{more}", file=sys.stderr)
 
     def bytes_of(self, name: str | None) -> bytes:
         """The bytes of a file, or of standard input for None and `-`."""
@@ -207,8 +170,3 @@ def number(least: int, most: int, is_plain: bool = False) -> Callable[[str], int
         return value
 
     return reader(read, f"a number from {least} to {most}")
-
-
-def choice(*values: int) -> Callable[[str], int]:
-    """A reader of one of these numbers."""
-    return reader({str(value): value for value in values}.__getitem__, " or ".join(map(str, values)))

@@ -246,7 +246,7 @@ def main() -> int:
     words = told.parse_args()
     words.program = words.program[words.program[:1] == ["--"] :]
     if not words.program:
-        told.error("PROGRAM is missing")
+        told.error("the following arguments are required: PROGRAM")
     if words.program[0].startswith("-"):
         told.error(f"unrecognized arguments: {words.program[0]}")
     # (Ctrl-C is for the program: what it has called until it ends is written)

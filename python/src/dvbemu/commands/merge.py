@@ -200,8 +200,8 @@ class Folder:
         yield self.end
 
 
-def main() -> None:
-    """Writes the report."""
+def command() -> tool.Command:
+    """The command and its words."""
     words = tool.Command(
         "merge",
         "FOLDER",
@@ -212,6 +212,12 @@ def main() -> None:
         example="dvbemu merge calls > my.report",
     )
     words.add_argument("folder", metavar="FOLDER", help="the folder")
+    return words
+
+
+def main() -> None:
+    """Writes the report."""
+    words = command()
     given = words.parse_args()
     try:
         sys.stdout.writelines(Folder(given.folder).report())

@@ -1,7 +1,7 @@
 """`dvbemu serve`: runs a command whose DVB programs find an emulated adapter that a recording feeds, and writes the report of all their
 calls. Its --help tells of the words.
 
-The server is dvb_serve, which the first call proves and builds (tools/build); the preload, preload/*.c, is built at the first call by cc.
+The server is dvb_serve, which the first call proves and builds; the preload, preload/*.c, is built at the first call by cc.
 """
 from __future__ import annotations
 
@@ -15,15 +15,15 @@ from typing import TYPE_CHECKING
 
 
 from .. import tool
+from ..build import Stopped, build_preload, built_server
 from ..server.adapters import Adapter, Folder, adopt
-from ..server.building import Stopped, build_preload, built_server
 from ..server.channels import LINE, SATELLITE, SYSTEMS, channels_of, lines_in
 from ..server.commands import Interrupted, Signals, end_all_but, run_command, unseen_as
 from ..server.recording import PACKET, Unplayable
 
 if TYPE_CHECKING:
     from argparse import Namespace
-    from typing import BinaryIO, Callable, List, Optional, Sequence, Tuple
+    from typing import BinaryIO, Callable, List, NoReturn, Optional, Sequence, Tuple
 
     from ..server.channels import Channel
 
@@ -78,11 +78,11 @@ class Serve(tool.Command):
     has_command = True
     others = "; 70 for a fault of `serve` itself"
 
-    def message(self, text: str) -> str:
-        return super().message(text) + ("" if self.has_command else "; -- stands in front of COMMAND")
+    def error(self, message: str) -> NoReturn:
+        super().error(message + ("" if self.has_command else "; -- stands in front of COMMAND"))
 
 
-def known_words() -> Serve:
+def command() -> Serve:
     """The command and its words: those in front of `--`."""
     words = Serve("serve", "[OPTION ..] [STREAM] -- COMMAND [WORD ..]", ABOUT, reads=READS, writes=WRITES, status=STATUS,
                   example="dvbemu serve --packets 3000 --report r my.ts -- dvbv5-scan -o channels dvbv5.conf")  # fmt: skip
@@ -287,8 +287,8 @@ def main() -> int:
     for end in range(3):
         # (where one is closed nothing else comes in its place in what is started either)
         os.set_inheritable(end, True)
-    known = known_words()
-    options, command = asked(sys.argv[1:], known)
+    known = command()
+    options, words = asked(sys.argv[1:], known)
     signal.signal(signal.SIGPIPE, signal.SIG_IGN)
     folder = None
     try:
@@ -302,7 +302,7 @@ def main() -> int:
             build_preload()
             server = built_server()
             folder = Folder(len(air))
-            status = serve(options, command, air, folder, outs, server)
+            status = serve(options, words, air, folder, outs, server)
         return status
     except Interrupted as fault:
         known.exit(fault.status, f"{known.teller}: {fault}\n")

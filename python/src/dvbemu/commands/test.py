@@ -7,14 +7,13 @@ kept must be one of a run of the session, as `check` says.
 from __future__ import annotations
 
 import os
+from concurrent.futures import ThreadPoolExecutor
 from typing import TYPE_CHECKING, NamedTuple
 
-from .. import tool
-from .. import cli
+from .. import child
 from .. import inputs
-from .. import shares
-from .. import spawned
 from .. import standard
+from .. import tool
 
 if TYPE_CHECKING:
     from argparse import Namespace
@@ -75,7 +74,7 @@ def command() -> tool.Command:
     )
     words.add_argument("--update", action="store_true", help="writes the reports that differ or are missing anew, and says which")
     words.add_argument("--batch", type=tool.number(1, 64, True), metavar="B", help="for tests without words of their own")
-    words.add_argument("--packet", type=tool.choice(188, 204), metavar="P", help="for tests without words of their own")
+    words.add_argument("--packet", type=int, choices=(188, 204), metavar="P", help="for tests without words of their own")
     words.add_argument("--jobs", metavar="LOG", help="tells of these jobs, and runs nothing")
     words.add_argument("paths", metavar="PATH", nargs="*", help="a folder, or a test")
     return words
@@ -111,27 +110,27 @@ def tests_of(words: tool.Command, given: Namespace) -> list[Test]:
 def ended(word: str, status: int, told: bytes) -> str:
     """How the program has ended, and what it told."""
     lines = told.decode(errors="replace").strip().split("\n")
-    return ": ".join(filter(None, [f"{word} {spawned.how(status)}", " ".join(map(str.strip, lines[:2]))]))
+    return ": ".join(filter(None, [f"{word} {child.how(status)}", " ".join(map(str.strip, lines[:2]))]))
 
 
 def written_by(program: str, test: Test, session: bytes) -> bytes:
     """The report that a test's session gives."""
     if test.words[0] not in ("steps", "run"):
         raise Failed(f"{test.path}.words: expected steps or run, found {test.words[0]}")
-    report, told, status = spawned.ran([program, *test.words], [session], spawned.environment(test.words[0]))
-    if status:
-        raise Failed(ended(" ".join(test.words), status, told))
-    return report
+    ran = child.ran([program, *test.words], [session])
+    if ran.returncode:
+        raise Failed(ended(" ".join(test.words), ran.returncode, ran.stderr))
+    return ran.stdout
 
 
 def checked(program: str, test: Test, session: bytes, report: bytes) -> tuple[bool, bytes]:
     """Whether `check` says yes of a report, and what it tells if it doesn't."""
     words = ["check", "--packet", str(test.packet())]
     asked = b"report %d\n" % len(report), report, session
-    answer, told, status = spawned.ran([program, *words], asked, spawned.environment("check"))
-    if status or answer not in (b"yes\n", b"no\n"):
-        raise Failed(ended("check", status, told))
-    return answer == b"yes\n", told
+    ran = child.ran([program, *words], asked)
+    if ran.returncode or ran.stdout not in (b"yes\n", b"no\n"):
+        raise Failed(ended("check", ran.returncode, ran.stderr))
+    return ran.stdout == b"yes\n", ran.stderr
 
 
 def cut(line: str, other: str) -> str:
@@ -214,17 +213,13 @@ def main() -> int:
     tests = tests_of(words, given)
     if not tests:
         words.fail(f"{', '.join(given.paths)}: there is no NAME.session and no NAME.script")
-    if (built := cli.program_for("steps")) is None:
-        return 1
-    program = built
+    program, failed = child.program(), 0
     print(f"1..{len(tests)}", flush=True)
-    told, failed = 0, 0
-    # (the texts first, so that at their end the processes are waited for)
-    for answer, test in zip(shares.done(tests, lambda test: tried(program, test, given.update)), tests):
-        text = answer or "-its process has ended before it had told of it"
-        told, failed = told + 1, failed + (text[:1] == "-")
-        print(f"{'not ' if text[:1] == '-' else ''}ok {told} - {test.name}")
-        print(f"# {text[1:]}\n" if text[1:] else "", end="", flush=True)
+    with ThreadPoolExecutor(len(os.sched_getaffinity(0))) as pool:
+        for number, (test, text) in enumerate(zip(tests, pool.map(lambda test: tried(program, test, given.update), tests)), 1):
+            failed += text[:1] == "-"
+            print(f"{'not ' if text[:1] == '-' else ''}ok {number} - {test.name}")
+            print(f"# {text[1:]}\n" if text[1:] else "", end="", flush=True)
     if failed:
         print(f"# {failed} of {len(tests)} failed")
     return 1 if failed else 0

@@ -13,7 +13,8 @@ from typing import TYPE_CHECKING
 
 from .. import tool
 from .. import inputs
-from .. import cli
+from .. import build
+from .. import child
 from .. import faulty
 from ..oracle import judge
 from .. import progress
@@ -41,7 +42,7 @@ def command() -> tool.Command:
         "session whose script has a fault",
         example="dvbemu why my.report my.script my.ts",
     )
-    words.add_argument("--packet", type=tool.choice(188, 204), default=188, metavar="P", help="the bytes that a packet takes up: 188 or 204")
+    words.add_argument("--packet", type=int, choices=(188, 204), default=188, metavar="P", help="the bytes that a packet takes up: 188 or 204")
     words.add_argument("report", metavar="REPORT", help="the report")
     words.add_argument("session", metavar="SESSION", nargs="+", help="the session, or its script and the streams behind that")
     return words
@@ -49,11 +50,11 @@ def command() -> tool.Command:
 
 def first_wrong(report: bytes, session: bytes, packet: int, work: progress.Work) -> Bad | str | None:
     """What is wrong first with a report; None where nothing is."""
-    program = cli.built_program() if len(report) >= LONG else None
+    program = build.found("dvbemu") if len(report) >= LONG else None
     work.begin(reasons.LOOKS)
     if program is None:
         return judge.first_wrong(session, report, packet=packet, look=work.at)
-    run = cli.Run(program, ["check", "--packet", str(packet)], True)
+    run = child.Run(program, ["check", "--packet", str(packet)], True)
     if run.feed([b"report %d\n" % len(report), report, session]) or run.output not in (b"yes\n", b"no\n"):
         return judge.first_wrong(session, report, packet=packet, look=work.at)
     return None if run.output == b"yes\n" else reasons.wrong(session, report, packet, run.told, work)

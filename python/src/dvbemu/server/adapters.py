@@ -15,7 +15,7 @@ import threading
 import time
 from typing import TYPE_CHECKING
 
-from .building import PRELOAD, Stopped
+from ..build import PRELOAD, Stopped
 from .channels import Front, systems_of
 from .clearing import watch_over
 from .feeder import Feeder

@@ -10,7 +10,7 @@ import subprocess
 import sys
 from typing import TYPE_CHECKING
 
-from .building import Stopped
+from ..build import Stopped
 from .clearing import VARIABLE, end_all, end_programs
 
 if TYPE_CHECKING:
