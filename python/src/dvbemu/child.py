@@ -1,8 +1,7 @@
-"""The proved program as a child: how much stack it gets, its environment, and a run over pieces of input."""
+"""The proved program as a child: its environment, and a run over pieces of input."""
 from __future__ import annotations
 
 import os
-import resource
 import signal
 import subprocess
 import sys
@@ -16,8 +15,6 @@ if TYPE_CHECKING:
     from types import FrameType
     from typing import BinaryIO, Iterable, NoReturn, Sequence
 
-# The bytes of stack that are usual, which the shell script gives too, and the KiB of it that the program wants at least.
-STACK, LEAST_STACK = 8 << 20, 256
 # Fresh memory comes in large pages, but for `run`, whose threads gain nothing by it, and where the caller sets it otherwise. The shell script
 # sets the same.
 SETTING = {"GLIBC_TUNABLES": "glibc.malloc.hugetlb=1"}
@@ -32,15 +29,7 @@ def environment(word: str) -> dict[str, str]:
 
 
 def program() -> str:
-    """The program, which is built where it isn't; it gets the stack that is usual, or as much as may be had. Ends where it can't be built, and
-    where there is too little stack, by which it would be ended by a signal."""
-    soft, hard = resource.getrlimit(resource.RLIMIT_STACK)
-    if soft != resource.RLIM_INFINITY and soft < STACK:
-        soft = STACK if hard == resource.RLIM_INFINITY else min(STACK, hard)
-        resource.setrlimit(resource.RLIMIT_STACK, (soft, hard))
-    if soft != resource.RLIM_INFINITY and soft // 1024 < LEAST_STACK:
-        print(f"dvbemu: the stack may have {soft // 1024} KiB, and {LEAST_STACK} are wanted (ulimit -s)", file=sys.stderr)
-        sys.exit(standard.NO_MEMORY)
+    """The program, which is built where it isn't. Ends where it can't be."""
     try:
         return build.path_of("dvbemu")
     except build.Stopped as why:
