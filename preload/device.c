@@ -20,7 +20,7 @@
 
 #include "preload.h"
 
-enum { ARGUMENT = 60, MOST_READ = 65536, PAUSE_NS = 10000000, LONG_S = 3600, MOST_TOKENS = 4096 };
+enum { MOST_READ = 65536, PAUSE_NS = 10000000, LONG_S = 3600 };
 
 struct device *device_at(struct at at) { return &at.line->table->devices[at.place]; }
 
@@ -111,31 +111,41 @@ static int place_in(struct line *line)
 	return -1;
 }
 
-/* this process has the other end of a device's pipe */
-void device_begin(struct line *line, int place, int rings)
+/* this process has the other end of a device's pipe, and the lock of its open */
+void device_begin(struct line *line, int place, int rings, int life)
 {
 	struct at at = { line, place };
-	line->mine[place] = (struct mine){ .ino = device_at(at)->ino, .rings = rings, .lock = -1, .known = -1 };
+	line->mine[place] = (struct mine){ .ino = device_at(at)->ino, .rings = rings, .lock = -1, .life = life, .known = -1 };
 	line->mine[place].bell = bell_of(at);
 }
 
-/* opens the node of a device, and fills its place: 0 or a negative error */
+/*
+ * Opens the node of a device, and fills its place, which this gives, or a negative error. The place is filled first, behind the lock of its
+ * open: so where this process is killed meanwhile others see what it has left.
+ */
 static int begin(struct line *line, int kind, int flags, int rings)
 {
 	struct pause pause;
 	struct reply reply = { 0 };
 	struct stat made;
 	take(line, &pause);
-	int place = place_in(line), error = place < 0 || syscall(SYS_fstat, rings, &made) ? -EMFILE : 0;
-	if (!error && kind != FRONTEND)
-		error = ask(line, kind == DEMUX ? OPEN_DEMUX : OPEN_DVR, 0, 0, NULL, 0, &reply, NULL);
+	int place = syscall(SYS_fstat, rings, &made) ? -1 : place_in(line), life = place < 0 ? -1 : lock_of(line, ++line->table->opens);
+	int error = place < 0 ? -EMFILE : 0;
+	struct device *device = &line->table->devices[place < 0 ? 0 : place];
 	if (!error) {
-		uint32_t node = kind == DVR ? 32 : reply.value;
 		/* (a thread that has waited here for a device which another closed still counts itself out) */
-		struct device *device = &line->table->devices[place];
-		*device = (struct device){ .kind = kind, .access = flags & O_ACCMODE, .node = node, .ino = made.st_ino,
-					   .turn = device->turn + 1, .readers = device->readers };
-		device_begin(line, place, rings);
+		*device = (struct device){ .access = flags & O_ACCMODE, .node = NO_NODE, .ino = made.st_ino, .turn = device->turn + 1,
+					   .readers = device->readers, .open = life < 0 ? 0 : line->table->opens };
+		__atomic_store_n(&device->kind, kind, __ATOMIC_SEQ_CST);
+		if (kind != FRONTEND)
+			error = ask(line, kind == DEMUX ? OPEN_DEMUX : OPEN_DVR, 0, 0, NULL, 0, &reply, NULL);
+		device->node = kind == DVR ? DVR_NODE : reply.value;
+	}
+	if (error) {
+		device->kind = place < 0 ? device->kind : NONE;
+		let_go(life);
+	} else {
+		device_begin(line, place, rings, life);
 		if (kind == DVR)
 			look((struct at){ line, place }, -1);
 	}
@@ -180,27 +190,54 @@ int device_open(int adapter, int kind, int flags)
 	return fd;
 }
 
-/* no descriptor of the device is left, in any process: its node is closed, by the first one that sees it */
-static void end(struct at at)
+static void close_node(struct at at)
 {
-	struct pause pause;
 	struct reply reply;
 	struct device *device = device_at(at);
+	if (device->kind != FRONTEND && !at.line->table->is_gone)
+		ask(at.line, CLOSE, device->node, 0, NULL, 0, &reply, NULL);
+	device->kind = NONE;
+	device->ino = 0;
+	device->state = QUIET;
+	ring(at);
+}
+
+/*
+ * No descriptor of the device is left, in any process: its node is closed, by the first one that sees it. Where this process has lost its own
+ * end, past the preload, it knows nothing of others.
+ */
+static void end(struct at at, int is_over)
+{
+	struct pause pause;
 	struct mine *mine = &at.line->mine[at.place];
 	take(at.line, &pause);
-	if (device->kind && device->ino == mine->ino) {
-		if (device->kind != FRONTEND && !at.line->table->is_gone)
-			ask(at.line, CLOSE, device->node, 0, NULL, 0, &reply, NULL);
-		device->kind = NONE;
-		device->ino = 0;
-		device->state = QUIET;
-		ring(at);
-	}
+	if (is_over && device_at(at)->kind && device_at(at)->ino == mine->ino)
+		close_node(at);
 	give(at.line, &pause);
 	bell_done(at);
 	let_go(mine->rings);
 	let_go(mine->lock);
-	mine->rings = mine->lock = mine->bell = mine->known = -1;
+	let_go(mine->life);
+	*mine = nothing;
+}
+
+/* whether a device is open that this process hasn't */
+int is_others(struct line *line, int place)
+{
+	struct device *device = &line->table->devices[place];
+	return __atomic_load_n(&device->kind, __ATOMIC_SEQ_CST) != NONE && (line->mine[place].rings < 0 || line->mine[place].ino != device->ino);
+}
+
+/* ends such a device where all that had it were killed */
+static void end_left(struct at at)
+{
+	struct pause pause;
+	if (!is_others(at.line, at.place) || is_locked(at.line, device_at(at)->open))
+		return;
+	take(at.line, &pause);
+	if (is_others(at.line, at.place) && !is_locked(at.line, device_at(at)->open))
+		close_node(at);
+	give(at.line, &pause);
 }
 
 /* ends the devices of which no descriptor is left, inside of `enter` */
@@ -208,13 +245,17 @@ void sweep_all(void)
 {
 	for (struct line *line = lines; line < &lines[MOST_LINES]; line++) {
 		struct pollfd all[MOST_DEVICES];
-		for (int i = 0; line->table && i < MOST_DEVICES; i++)
+		if (!line->table)
+			continue;
+		for (int i = 0; i < MOST_DEVICES; i++) {
 			all[i] = (struct pollfd){ line->mine[i].rings, 0, 0 };
-		if (!line->table || wait_raw(all, MOST_DEVICES, 0) < 1)
+			end_left((struct at){ line, i });
+		}
+		if (wait_raw(all, MOST_DEVICES, 0) < 1)
 			continue;
 		for (int i = 0; i < MOST_DEVICES; i++)
 			if (all[i].fd >= 0 && all[i].revents & (POLLERR | POLLNVAL))
-				end((struct at){ line, i });
+				end((struct at){ line, i }, !(all[i].revents & POLLNVAL));
 	}
 }
 
@@ -297,10 +338,9 @@ ssize_t device_read(int fd, struct at at, void *into, size_t count)
 	}
 }
 
-/* what a request has changed of a node */
-static void changed(int fd, struct at at, uint32_t number, const void *argument)
+/* notes what a request has changed of a node, and says whether it has begun to run */
+static int note(struct device *device, uint32_t number, const void *argument)
 {
-	struct device *device = device_at(at);
 	const struct dmx_sct_filter_params *section = argument;
 	const struct dmx_pes_filter_params *pes = argument;
 	int begins = number == DMX_START;
@@ -316,10 +356,36 @@ static void changed(int fd, struct at at, uint32_t number, const void *argument)
 	}
 	device->due = begins && device->timeout ? milliseconds() + device->timeout + 1 : number == DMX_STOP ? 0 : device->due;
 	device->state = UNKNOWN;
-	if (begins && !device->is_tap)
+	return begins;
+}
+
+/* a request has changed a node */
+static void changed(int fd, struct at at, uint32_t number, const void *argument)
+{
+	struct device *device = device_at(at);
+	if (note(device, number, argument) && !device->is_tap)
 		look(at, fd);
 	if (device->due)
 		watch_changed();
+}
+
+/* Somebody was killed: what was done of its last request is noted, and what is in a device's pipe is counted anew. */
+void devices_found(struct line *line, const struct request *asked, const struct reply *told)
+{
+	int is_done = !told->code, is_open = is_done && (asked->verb == OPEN_DEMUX || asked->verb == OPEN_DVR);
+	for (struct device *device = line->table->devices; device < &line->table->devices[MOST_DEVICES]; device++) {
+		int is_node = device->kind == DEMUX || device->kind == DVR;
+		if (is_node && device->node == NO_NODE) {
+			device->node = device->kind == DVR ? DVR_NODE : told->value;
+			device->kind = is_open ? device->kind : NONE;
+		} else if (is_node && device->node == asked->node && asked->verb == CLOSE) {
+			device->kind = NONE;
+		} else if (is_node && device->node == asked->node && asked->verb == IOCTL && is_done) {
+			note(device, asked->number, asked->argument);
+		}
+		device->state = UNKNOWN;
+		device->tokens += 2;
+	}
 }
 
 /* what lies between the fields of a structure is no part of a request, and may never have been written */

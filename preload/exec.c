@@ -46,8 +46,8 @@ static void keep_lines(int keeps)
 		keep(line->memory, keeps);
 		keep(line->ask, keeps);
 		keep(line->tell, keeps);
-		for (int i = 0; i < MOST_DEVICES; i++)
-			keep(line->mine[i].rings, keeps), keep(line->mine[i].lock, keeps);
+		for (struct mine *mine = line->mine; mine < &line->mine[MOST_DEVICES]; mine++)
+			keep(mine->rings, keeps), keep(mine->lock, keeps), keep(mine->life, keeps);
 	}
 }
 
@@ -96,6 +96,9 @@ static int is_table(int fd)
 	return n == (long)sizeof memory - 1 && !memcmp(name, memory, sizeof memory - 1);
 }
 
+/* Where it stands: the table at its beginning, and the lock of an open at its byte; -1 where it is neither. */
+static long stands_at(int fd) { return is_table(fd) ? syscall(SYS_lseek, fd, 0, SEEK_CUR) : -1; }
+
 /* a pipe of the line is the line's own, the other end of a device, or a device */
 static void inherit_pipe(struct line *line, int fd)
 {
@@ -108,10 +111,28 @@ static void inherit_pipe(struct line *line, int fd)
 		if (!device->kind || !is_object(fd, device->ino))
 			continue;
 		if ((syscall(SYS_fcntl, fd, F_GETFL) & O_ACCMODE) == O_WRONLY)
-			device_begin(line, i, high(fd));
+			device_begin(line, i, high(fd), -1);
 		else
 			mark(fd);
 	}
+}
+
+static int is_of(const struct line *line, int fd)
+{
+	struct stat now;
+	return !syscall(SYS_fstat, fd, &now) && now.st_ino == line->table->own_ino;
+}
+
+/* a lock is that of a device which has come too, or it is of no use here */
+static void inherit_lock(int fd, int tables)
+{
+	for (struct line *line = lines; line < &lines[tables]; line++)
+		for (int i = 0; i < MOST_DEVICES; i++)
+			if (line->mine[i].rings >= 0 && line->table->devices[i].open == stands_at(fd) && is_of(line, fd)) {
+				line->mine[i].life = high(fd);
+				return;
+			}
+	syscall(SYS_close, fd);
 }
 
 /* finds the lines and devices that were left open */
@@ -121,7 +142,7 @@ void inherit(void)
 	for (int i = 0; i < count; i++) {
 		struct stat now;
 		struct line *line = &lines[tables];
-		if (tables == MOST_LINES || !is_table(fds[i]) || syscall(SYS_fstat, fds[i], &now) || now.st_size != sizeof *line->table)
+		if (tables == MOST_LINES || stands_at(fds[i]) || syscall(SYS_fstat, fds[i], &now) || now.st_size != sizeof *line->table)
 			continue;
 		void *there = mmap(NULL, sizeof *line->table, PROT_READ | PROT_WRITE, MAP_SHARED, fds[i], 0);
 		if (there == MAP_FAILED)
@@ -135,6 +156,9 @@ void inherit(void)
 	for (int t = 0; t < tables; t++)
 		for (int i = 0; i < count; i++)
 			inherit_pipe(&lines[t], fds[i]);
+	for (int i = 0; tables && i < count; i++)
+		if (stands_at(fds[i]) > 0)
+			inherit_lock(fds[i], tables);
 }
 
 /* ------ the C library's calls */

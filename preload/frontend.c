@@ -23,7 +23,7 @@ enum { SYSTEMS = 8, COMMANDS = DTV_MAX_COMMAND + 1, MOST_PROPERTIES = 64, GOOD =
 /* What python/src/dvbemu/server/channels.py has too. All frequencies are in Hz, or in kHz behind a satellite's converter. */
 struct front {
 	uint32_t wanted, granted, status, taken; /* tunings: how many were asked for, done, with what status, and told as an event */
-	uint32_t frequency, system, voltage, tone, stream, unused;
+	uint32_t frequency, system, voltage, tone, stream, unused; /* what is tuned to; and what is on the cable */
 	uint64_t packets;
 	uint32_t systems[SYSTEMS];               /* which it has; behind the last a 0 */
 	uint32_t asked[COMMANDS];                /* the properties, by their commands */
@@ -56,6 +56,13 @@ static void clear(struct front *front)
 	front->asked[DTV_STREAM_ID] = NO_STREAM_ID_FILTER;
 }
 
+/* nothing is on the cable before it is set, of which DTV_CLEAR takes nothing away */
+static void free_cable(struct front *front)
+{
+	front->voltage = SEC_VOLTAGE_OFF;
+	front->tone = SEC_TONE_OFF;
+}
+
 static struct front *front_of(int adapter)
 {
 	if (fronts[adapter])
@@ -67,8 +74,10 @@ static struct front *front_of(int adapter)
 	if (there == MAP_FAILED)
 		return NULL;
 	fronts[adapter] = there;
-	if (!fronts[adapter]->asked[DTV_DELIVERY_SYSTEM])
+	if (!fronts[adapter]->asked[DTV_DELIVERY_SYSTEM]) {
 		clear(fronts[adapter]);
+		free_cable(fronts[adapter]);
+	}
 	return there;
 }
 
@@ -84,8 +93,10 @@ int frontend_lock(int adapter)
 	if (fd < 0)
 		return fd;
 	if (!syscall(SYS_fcntl, fd, F_OFD_SETLK, &whole)) {
-		if (front)
+		if (front) {
 			front->taken = front->granted;
+			free_cable(front);
+		}
 		return fd;
 	}
 	let_go(fd);
@@ -111,17 +122,6 @@ static uint16_t strength_of(const struct front *front)
 }
 
 static uint16_t ratio_of(const struct front *front) { return status_of(front) & FE_HAS_LOCK ? GOOD : 0; }
-
-static void tune(struct front *front)
-{
-	front->frequency = front->asked[DTV_FREQUENCY];
-	front->system = front->asked[DTV_DELIVERY_SYSTEM];
-	front->voltage = front->asked[DTV_VOLTAGE];
-	front->tone = front->asked[DTV_TONE];
-	front->stream = front->asked[DTV_STREAM_ID];
-	front->taken = front->granted;
-	__atomic_add_fetch(&front->wanted, 1, __ATOMIC_SEQ_CST);
-}
 
 /* ------ the older calls, which know four types */
 
@@ -158,12 +158,35 @@ static void tell_info(const struct front *front, struct dvb_frontend_info *info)
 		     FE_CAN_QAM_128 | FE_CAN_QAM_256 | FE_CAN_8VSB | FE_CAN_2G_MODULATION | FE_CAN_MULTISTREAM;
 }
 
+/* as of a kernel's dvb_frontend_check_parameters */
+static int may_tune(const struct front *front)
+{
+	uint32_t frequency = front->asked[DTV_FREQUENCY], rate = front->asked[DTV_SYMBOL_RATE];
+	struct dvb_frontend_info info;
+	tell_info(front, &info);
+	int has_rate = info.type == FE_QAM || (info.type == FE_QPSK && front->asked[DTV_DELIVERY_SYSTEM] != SYS_ISDBS);
+	return frequency >= info.frequency_min && frequency <= info.frequency_max &&
+	       (!has_rate || (rate >= info.symbol_rate_min && rate <= info.symbol_rate_max));
+}
+
+static int tune(struct front *front)
+{
+	if (!may_tune(front))
+		return -EINVAL;
+	front->frequency = front->asked[DTV_FREQUENCY];
+	front->system = front->asked[DTV_DELIVERY_SYSTEM];
+	front->stream = front->asked[DTV_STREAM_ID];
+	front->taken = front->granted;
+	__atomic_add_fetch(&front->wanted, 1, __ATOMIC_SEQ_CST);
+	return 0;
+}
+
 static const uint32_t widths[] = { [BANDWIDTH_8_MHZ] = 8000000, [BANDWIDTH_7_MHZ] = 7000000, [BANDWIDTH_6_MHZ] = 6000000,
 				   [BANDWIDTH_AUTO] = 0, [BANDWIDTH_5_MHZ] = 5000000, [BANDWIDTH_10_MHZ] = 10000000,
 				   [BANDWIDTH_1_712_MHZ] = 1712000 };
 enum { WIDTHS = sizeof widths / sizeof *widths };
 
-static void set_parameters(struct front *front, const struct dvb_frontend_parameters *asked)
+static int set_parameters(struct front *front, const struct dvb_frontend_parameters *asked)
 {
 	enum fe_type type = type_of(front->asked[DTV_DELIVERY_SYSTEM]);
 	front->asked[DTV_FREQUENCY] = asked->frequency;
@@ -176,7 +199,7 @@ static void set_parameters(struct front *front, const struct dvb_frontend_parame
 		front->asked[DTV_MODULATION] = asked->u.vsb.modulation;
 	if (type == FE_OFDM && (uint32_t)asked->u.ofdm.bandwidth < WIDTHS)
 		front->asked[DTV_BANDWIDTH_HZ] = widths[asked->u.ofdm.bandwidth];
-	tune(front);
+	return tune(front);
 }
 
 static void tell_parameters(const struct front *front, struct dvb_frontend_parameters *told)
@@ -223,11 +246,15 @@ static int set_property(struct front *front, const struct dtv_property *one)
 	if (one->cmd == DTV_DELIVERY_SYSTEM && !has_system(front, one->u.data))
 		return -EINVAL;
 	if (one->cmd == DTV_TUNE)
-		tune(front);
-	else if (one->cmd == DTV_CLEAR)
+		return tune(front);
+	if (one->cmd == DTV_CLEAR)
 		clear(front);
 	else
 		front->asked[one->cmd == DTV_DVBT2_PLP_ID_LEGACY ? DTV_STREAM_ID : one->cmd] = one->u.data;
+	if (one->cmd == DTV_VOLTAGE)
+		front->voltage = one->u.data;
+	if (one->cmd == DTV_TONE)
+		front->tone = one->u.data;
 	return 0;
 }
 
@@ -319,8 +346,7 @@ static int do_ioctl(struct front *front, uint32_t number, union argument *bytes,
 		bytes->half = ratio_of(front);
 		return 0;
 	case FE_SET_FRONTEND:
-		set_parameters(front, &bytes->parameters);
-		return 0;
+		return set_parameters(front, &bytes->parameters);
 	case FE_GET_FRONTEND:
 		tell_parameters(front, &bytes->parameters);
 		return 0;
@@ -330,10 +356,10 @@ static int do_ioctl(struct front *front, uint32_t number, union argument *bytes,
 	case FE_GET_PROPERTY:
 		return do_properties(front, number == FE_SET_PROPERTY, &bytes->properties);
 	case FE_SET_VOLTAGE:
-		front->asked[DTV_VOLTAGE] = value;
+		front->voltage = value;
 		return 0;
 	case FE_SET_TONE:
-		front->asked[DTV_TONE] = value;
+		front->tone = value;
 		return 0;
 	case FE_DISEQC_RESET_OVERLOAD:
 	case FE_DISEQC_SEND_MASTER_CMD:

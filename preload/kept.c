@@ -123,6 +123,7 @@ static void move_all(int fd)
 		for (struct mine *mine = line->mine; mine < &line->mine[MOST_DEVICES]; mine++) {
 			mine->rings = moved(mine->rings, fd);
 			mine->lock = moved(mine->lock, fd);
+			mine->life = moved(mine->life, fd);
 		}
 	}
 }

@@ -20,13 +20,13 @@
 
 #include "preload.h"
 
-enum { ARGUMENT = 60, NAME = 64, SEAT_MS = 5000, SCRATCH = 512 };
+enum { NAME = 64, SEAT_MS = 5000, SCRATCH = 512, MOST_TRIES = 8 };
 
-struct request {
-	uint32_t verb, node, number, length;
-	char argument[ARGUMENT];
-};
+/* a reply that hasn't come, and one to a request of no node, which no device makes */
+static const uint32_t untold = UINT32_MAX;
+static const struct reply no_node = { .code = EBADF, .place = UINT64_MAX }, no_verb = { .code = EINVAL, .place = UINT64_MAX };
 
+const struct mine nothing = { .rings = -1, .lock = -1, .life = -1, .bell = -1, .known = -1 };
 struct line lines[MOST_LINES];
 char folders[MOST_ADAPTERS][FOLDER];
 int adapters;
@@ -56,7 +56,7 @@ static void begin(void)
 	for (struct line *line = lines; line < &lines[MOST_LINES]; line++) {
 		line->memory = line->ask = line->tell = -1;
 		for (struct mine *mine = line->mine; mine < &line->mine[MOST_DEVICES]; mine++)
-			mine->rings = mine->lock = mine->bell = mine->known = -1;
+			*mine = nothing;
 	}
 	pthread_atfork(before_fork, in_parent, in_child);
 	if (adapters)
@@ -125,19 +125,30 @@ void leave(struct pause *pause)
 	go_on(pause);
 }
 
-/* A line, also behind `enter`. Where a process was killed within a request nobody knows any more what the line would tell next. */
+static void find_back(struct line *line);
+
+/* whether the pipes of a line are closed in this process, past the preload */
+static int is_cut(const struct line *line)
+{
+	return line->ask >= 0 && (!is_object(line->ask, line->table->ask_ino) || !is_object(line->tell, line->table->tell_ino));
+}
+
+/* A line, also behind `enter`. Where a process was killed in it, the next one that can does what that one has left. */
 void take(struct line *line, struct pause *pause)
 {
 	hold_back(pause);
 	if (pthread_mutex_lock(&line->table->one) == EOWNERDEAD) {
+		line->table->is_left = 1;
 		pthread_mutex_consistent(&line->table->one);
-		if (line->table->is_asking)
-			line_lost(line);
 	}
+	if (line->table->is_left && !is_cut(line))
+		find_back(line);
 }
 
 void give(struct line *line, struct pause *pause)
 {
+	if (!line->table->is_left)
+		line->table->asked.verb = 0;
 	pthread_mutex_unlock(&line->table->one);
 	go_on(pause);
 }
@@ -162,19 +173,13 @@ static int make_table(struct line *line, int adapter)
 	}
 	*line = (struct line){ .table = there, .memory = fd, .ask = -1, .tell = -1 };
 	for (struct mine *mine = line->mine; mine < &line->mine[MOST_DEVICES]; mine++)
-		mine->rings = mine->lock = mine->bell = mine->known = -1;
+		*mine = nothing;
 	line->table->adapter = adapter;
 	line->table->own_ino = ino_of(fd);
 	pthread_mutexattr_init(&shared);
 	pthread_mutexattr_setpshared(&shared, PTHREAD_PROCESS_SHARED);
 	pthread_mutexattr_setrobust(&shared, PTHREAD_MUTEX_ROBUST);
 	return pthread_mutex_init(&line->table->one, &shared);
-}
-
-/* whether the pipes of a line are closed in this process, past the preload */
-static int is_cut(const struct line *line)
-{
-	return line->ask >= 0 && (!is_object(line->ask, line->table->ask_ino) || !is_object(line->tell, line->table->tell_ino));
 }
 
 /* a line is done with where its server has gone, or it is cut, and this process has none of its devices any more */
@@ -206,6 +211,27 @@ struct line *line_to(int adapter)
 			unused = line;
 	}
 	return unused && !make_table(unused, adapter) ? unused : NULL;
+}
+
+/* ------ locks of opens: whoever has opened a device holds one, and each child, as a description of the table that stands at its byte */
+
+int lock_of(const struct line *line, uint32_t number)
+{
+	struct flock byte = { .l_type = F_WRLCK, .l_start = number, .l_len = 1 };
+	char path[64];
+	snprintf(path, sizeof path, "/proc/self/fd/%d", line->memory);
+	int fd = high((int)syscall(SYS_openat, AT_FDCWD, path, O_RDWR | O_CLOEXEC));
+	if (fd >= 0 && !syscall(SYS_fcntl, fd, F_OFD_SETLK, &byte) && syscall(SYS_lseek, fd, (off_t)number, SEEK_SET) == number)
+		return fd;
+	let_go(fd);
+	return -1;
+}
+
+/* whether anybody holds it still; where that can't be known somebody does */
+int is_locked(const struct line *line, uint32_t number)
+{
+	struct flock byte = { .l_type = F_WRLCK, .l_start = number, .l_len = 1 };
+	return !number || syscall(SYS_fcntl, line->memory, F_OFD_GETLK, &byte) || byte.l_type != F_UNLCK;
 }
 
 /* the server has gone, or what it would tell next isn't known; all that wait are woken by their devices */
@@ -339,22 +365,76 @@ static int get_all(struct line *line, struct reply *reply, void *into, uint32_t 
 	return get(line, (char *)into + done, reply->length - done);
 }
 
+/*
+ * Passes over all that the line tells still: behind it come refusals of requests that only this makes, in a number that is this try's
+ * alone, as another one may have been killed here too. A request was written whole or not at all, for a pipe takes so few bytes at once, and
+ * so are the first bytes of a reply. 0 or -1.
+ */
+static int pass_over(struct line *line)
+{
+	struct request asked[MOST_TRIES + 1] = { 0 };
+	struct reply wanted[MOST_TRIES + 1], seen[MOST_TRIES + 1] = { 0 }, next[MOST_TRIES + 1];
+	uint32_t tries = ++line->table->tries;
+	size_t size = (tries + 1) * sizeof *seen;
+	if (tries > MOST_TRIES)
+		return -1;
+	for (uint32_t i = 0; i <= tries; i++) {
+		asked[i] = (struct request){ .verb = i < tries ? POLL : 0, .node = NO_NODE };
+		wanted[i] = i < tries ? no_node : no_verb;
+	}
+	asked[tries].node = 0;
+	if (put(line, asked, (tries + 1) * sizeof *asked))
+		return -1;
+	if (line->table->told.code == untold) {
+		if (get(line, &line->table->told, sizeof line->table->told))
+			return -1;
+		seen[tries] = line->table->told;
+	}
+	while (memcmp(seen, wanted, size)) {
+		long n = syscall(SYS_read, line->tell, next, size);
+		if (n < 0 && errno == EINTR)
+			continue;
+		if (n <= 0)
+			return -1;
+		memmove(seen, (char *)seen + n, size - (size_t)n);
+		memcpy((char *)seen + size - n, next, (size_t)n);
+	}
+	return 0;
+}
+
+/* Somebody was killed in `take`. What was asked last, if anything, was done or never came to the server; and it is noted here. */
+static void find_back(struct line *line)
+{
+	struct table *table = line->table;
+	if (!table->is_gone && table->asked.verb && pass_over(line))
+		line_lost(line);
+	if (!memcmp(&table->told, &no_node, sizeof no_node))
+		table->asked.verb = 0;
+	if (!table->is_gone)
+		devices_found(line, &table->asked, &table->told);
+	table->is_left = table->tries = table->asked.verb = 0;
+}
+
 static int exchange(struct line *line, const struct request *request, struct reply *reply, void *into, uint32_t room)
 {
 	char ask[PATH], tell[PATH];
-	*ask = 0;
+	struct table *table = line->table;
 	int first = line->ask < 0;
-	int bad = line->table->is_gone || (first && come_in(line, ask, tell));
-	line->table->is_asking = 1;
+	*ask = 0;
+	if (is_cut(line))
+		return -EIO;
+	int bad = table->is_gone || (first && come_in(line, ask, tell));
+	table->told.code = untold;
+	table->asked = *request;
 	bad = bad || put(line, request, sizeof *request);
 	bad = bad || (first && sit_down(line, tell));
 	if (*ask) {
 		unlink(ask);
 		unlink(tell);
 	}
-	int taken = bad ? -1 : get_all(line, reply, into, room);
-	line->table->is_asking = 0;
-	if (taken < 0 && !line->table->is_gone)
+	int taken = bad ? -1 : get_all(line, &table->told, into, room);
+	*reply = table->told;
+	if (taken < 0 && !table->is_gone)
 		line_lost(line);
 	return taken < 0 ? -EIO : taken ? -EFAULT : -(int)reply->code;
 }

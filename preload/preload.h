@@ -27,6 +27,12 @@ enum { MOST_ADAPTERS = 8, MOST_LINES = 16, MOST_DEVICES = 48, FOLDER = 256, PATH
 /* the verbs of requests, and the bits of a poll's answer */
 enum { OPEN_DEMUX = 1, OPEN_DVR, CLOSE, IOCTL, READ, POLL };
 enum { READABLE = 1, OVERFLOW = 2, TIMED_OUT = 4, SOMETHING = READABLE | OVERFLOW | TIMED_OUT };
+enum { ARGUMENT = 60, DVR_NODE = 32, NO_NODE = 64 };
+
+struct request {
+	uint32_t verb, node, number, length;
+	char argument[ARGUMENT];
+};
 
 struct reply {
 	uint32_t code, length, value, zero;
@@ -41,6 +47,7 @@ struct device {
 	int kind, access, section, timeout, state, readers, in_set, is_tap;
 	uint32_t node, found, tokens;
 	uint32_t turn; /* rises where the device may have something: who reads waits for that */
+	uint32_t open; /* which open of the line it is, and the byte of the table that is locked by it; 0: by none */
 	long due;      /* when the filter's timeout is over; 0: it has none */
 	ino_t ino;     /* of its pipe */
 	off_t position;
@@ -49,7 +56,11 @@ struct device {
 /* What the processes of a line share: those that were forked, and what they have become by exec. */
 struct table {
 	pthread_mutex_t one; /* goes round a request and its reply, and what is done about it */
-	int adapter, is_gone, is_asking;
+	int adapter, is_gone;
+	int is_left; /* somebody was killed in it */
+	uint32_t opens, tries;
+	struct request asked; /* the last request in it, or none, and its reply */
+	struct reply told;
 	ino_t ask_ino, tell_ino, own_ino; /* of the pipes, and of this */
 	struct device devices[MOST_DEVICES];
 };
@@ -59,13 +70,14 @@ struct line {
 	struct table *table;
 	int memory, ask, tell; /* the table, and the pair of pipes: -1 where there is none yet */
 	struct mine {
-		ino_t ino;            /* of the pipe that these belong to */
-		int rings, lock, bell; /* the pipe's other end, a frontend's lock, and the watch of the bell */
-		int known;             /* a descriptor by which it was added to a set of epoll */
+		ino_t ino;                   /* of the pipe that these belong to */
+		int rings, lock, life, bell; /* the pipe's other end, a frontend's lock, that of its open, and the watch of the bell */
+		int known;                   /* a descriptor by which it was added to a set of epoll */
 	} mine[MOST_DEVICES];
 };
 
 /* line.c */
+extern const struct mine nothing;
 extern struct line lines[MOST_LINES];
 extern char folders[MOST_ADAPTERS][FOLDER];
 extern int adapters;
@@ -82,6 +94,8 @@ void give(struct line *line, struct pause *pause);
 void hold_for_good(void);
 struct line *line_to(int adapter);
 void line_lost(struct line *line);
+int lock_of(const struct line *line, uint32_t number);
+int is_locked(const struct line *line, uint32_t number);
 int ask(struct line *line, uint32_t verb, uint32_t node, uint32_t number, const void *argument, uint32_t length,
 	struct reply *reply, void *into);
 long milliseconds(void);
@@ -113,7 +127,9 @@ int find(int fd, struct at *at);
 int device_open(int adapter, int kind, int flags);
 ssize_t device_read(int fd, struct at at, void *into, size_t count);
 int device_ioctl(int fd, struct at at, uint32_t number, void *argument);
-void device_begin(struct line *line, int place, int rings);
+void device_begin(struct line *line, int place, int rings, int life);
+void devices_found(struct line *line, const struct request *asked, const struct reply *told);
+int is_others(struct line *line, int place);
 void look(struct at at, int fd);
 void ring(struct at at);
 void wake_readers(struct at at);

@@ -17,7 +17,7 @@
 
 #include "preload.h"
 
-enum { STACK = 256 << 10, PAUSE_MS = 10, TOLD = 4096, ALL = -2 };
+enum { STACK = 256 << 10, PAUSE_MS = 10, OTHERS_MS = 200, TOLD = 4096, ALL = -2 };
 
 /* the pipe that wakes the watcher, and the bells: inotify has the inode of all that have none of their own */
 static int wake[2] = { -1, -1 }, bells = -1;
@@ -26,6 +26,8 @@ static ino_t wake_ino, bells_ino;
 static int runs, count_of_watchers, is_ending;
 /* whether devices were open before: a bell that nobody has heard since doesn't ring again until the device is looked at */
 static int is_late;
+/* whether other processes of a line have devices that this one hasn't, of which no pipe tells when those are killed */
+static int has_others;
 /* the watcher that begins has come */
 static sem_t has_come;
 
@@ -133,6 +135,7 @@ static void look_round(int may_be_gone)
 static nfds_t gather(struct pollfd *all, long *time)
 {
 	nfds_t count = 0;
+	has_others = 0;
 	all[count++] = (struct pollfd){ wake[0], POLLIN, 0 };
 	all[count++] = (struct pollfd){ bells, POLLIN, 0 };
 	*time = -1;
@@ -142,6 +145,7 @@ static nfds_t gather(struct pollfd *all, long *time)
 		all[count++] = (struct pollfd){ line->tell, 0, 0 };
 		for (int i = 0; i < MOST_DEVICES; i++) {
 			long due = line->table->devices[i].due, left = due ? due - milliseconds() : -1;
+			has_others |= is_others(line, i);
 			if (line->mine[i].rings < 0)
 				continue;
 			all[count++] = (struct pollfd){ line->mine[i].rings, 0, 0 };
@@ -149,6 +153,7 @@ static nfds_t gather(struct pollfd *all, long *time)
 			*time = left >= 0 && (*time < 0 || left < *time) ? left : *time;
 		}
 	}
+	*time = has_others && (*time < 0 || *time > OTHERS_MS) ? OTHERS_MS : *time;
 	return count;
 }
 
@@ -177,7 +182,7 @@ static int turn(int number, int told, struct pollfd *all, nfds_t *count, long *t
 		int more = is_more(told, all, *count);
 		while (more && syscall(SYS_read, wake[0], bytes, sizeof bytes) > 0)
 			;
-		if (more)
+		if (more || has_others)
 			sweep_all();
 		if (is_late)
 			look_at(ALL);

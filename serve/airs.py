@@ -100,13 +100,24 @@ def try_systems(room):
     told = ["1612000:6:1:1 Alpha Beta", "1612000:6:0:1 status 0", "1612000:5:1:1 status 1", "1588000:5:0:0 Gamma Delta",
             "1588000:5:0:1 status 0"]  # fmt: skip
     room.want(out.split("\n")[:-1] == told, "satellites", out)
+    # What the card puts on its cable stays behind DTV_CLEAR, and goes where nobody has it open.
+    words = ["cable", "1", "1", "1612000:6", "1588000:5", "cable", "0", "0", "1588000:5", "1612000:6", "1588000:5:0:1", "1588000:5"]
+    out, _ = call(room, ["--keep", "none", "--tune", f"11362000:DVBS2:H={paths[0]}", f"12188000:DVBS:V={paths[1]}"],
+                  ["sh", "-c", "\"$0\" \"$@\"; \"$0\" 1612000:6", TUNER, *words])  # fmt: skip
+    told = ["1612000:6 Alpha Beta", "1588000:5 status 0", "1588000:5 Gamma Delta", "1612000:6 status 0", "1588000:5:0:1 status 0",
+            "1588000:5 status 0", "1612000:6 Alpha Beta"]  # fmt: skip
+    room.want(out.split("\n")[:-1] == told, "voltage and tone", out)
+    # What a kernel's dvb_frontend_check_parameters refuses.
+    words = ["1612000:6::::999999", "1612000:6::::45000001", "1612000:5::::0", "949999:6", "2150001:6", "1612000:6::::1000000"]
+    out, _ = call(room, ["--keep", "none", f"--tune=11362000:DVBS2={paths[0]}"], [TUNER, *words])
+    room.want(out.split("\n")[:-1] == [*(f"{word} EINVAL" for word in words[:-1]), f"{words[-1]} Alpha Beta"], "a satellite's limits", out)
     with open(room.path("channels"), "w", encoding="utf-8") as file:
         file.write("# cable, ATSC and ISDB-T\n346000000:DVBC=Alpha.ts\n\n57000000:ATSC=Gamma.ts\n473142857:ISDBT=Epsilon.ts\n"
                    "561000000:DVBCB=Gamma.ts\n")  # fmt: skip
-    tunings = ["346000000:1", "57000000:11", "473142857:8", "473142857:1", "561000000:2", "561000000:1"]
+    tunings = ["346000000:1", "57000000:11", "473142857:8", "473142857:1", "561000000:2", "561000000:1", "346000000:1::::0", "57000000:11::::0"]
     out, _ = call(room, ["--keep", "none", "--channels", "channels"], [TUNER, *tunings])
     heard = ["346000000:1 Alpha Beta", "57000000:11 Gamma Delta", "473142857:8 Epsilon Zeta", "473142857:1 status 1",
-             "561000000:2 Gamma Delta", "561000000:1 status 1"]  # fmt: skip
+             "561000000:2 Gamma Delta", "561000000:1 status 1", "346000000:1::::0 EINVAL", "57000000:11::::0 Gamma Delta"]  # fmt: skip
     room.want(out.split("\n")[:-1] == heard, "a file of channels", out)
 
 

@@ -9,11 +9,13 @@ import tempfile
 from dvbemu.build import FLAGS, PARTS as SOURCES
 from room import HERE, TOP, calls_of, cases_of, is_passed, passes, ran
 
+# Children that are killed at whatever moment, hundreds of times, which is too often for such a tool.
+KILLED = "-killed_at_the_open", "-killed_within_a_request", "-killed_with_its_parents_device", "-several_are_killed_at_once"
 # The packets a second; what valgrind keeps for itself or does otherwise (vfork is a fork there), and pointers that are bad on purpose;
 # what a sanitizer finds in Debian's dd, and stacks that are too small for one; and that a program that leaks is as ever.
 SLOW = "200"
 NOT_BY_VALGRIND = ("-numbers_of_the_preload", "-few_descriptors", "-a_high_number", "-by_io_uring", "-by_vfork",
-                   "-bad_pointers", "-another_process_sees_the_lock")  # fmt: skip
+                   "-bad_pointers", "-another_process_sees_the_lock", *KILLED)  # fmt: skip
 NOT_OVER_SANITIZERS = "-by_the_shell", "-small_stacks"
 # A preload of somebody else, whose stat is by its stat64, as fakeroot's calls are by others.
 OTHER = """#include <dlfcn.h>

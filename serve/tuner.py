@@ -1,8 +1,10 @@
 #!/usr/bin/env python3
 """A small program that tunes, for serve/check: tuner.py WORD ..
 
-    HZ[:SYSTEM[:VOLTAGE[:TONE[:STREAM]]]]
-                tunes there (kHz for a satellite), and says which services its table tells, or what the status is
+    HZ[:SYSTEM[:VOLTAGE[:TONE[:STREAM[:RATE]]]]]
+                tunes there (kHz for a satellite), and says which services its table tells, or what the status or the error is; a number
+                that is left out isn't set, but for a rate of 22,000,000 symbols
+    cable V T   sets voltage and tone by the older calls
     adapter N   goes on with this adapter
     look        says the status, as a program beside another one sees it
     packets N   records so many packets and says which PIDs they have
@@ -16,9 +18,10 @@ import struct
 import sys
 import time
 
-FE_SET_PROPERTY, FE_GET_PROPERTY, FE_READ_STATUS = 0x40106F52, 0x80106F53, 0x80046F45
+FE_SET_PROPERTY, FE_GET_PROPERTY, FE_READ_STATUS, FE_SET_TONE, FE_SET_VOLTAGE = 0x40106F52, 0x80106F53, 0x80046F45, 0x6F42, 0x6F43
 DMX_SET_FILTER, DMX_SET_PES_FILTER = 0x403C6F2B, 0x40146F2C
-CLEAR, TUNE, FREQUENCY, VOLTAGE, TONE, SYSTEM, STREAM, STRENGTH = 2, 1, 3, 10, 11, 17, 42, 62
+CLEAR, TUNE, FREQUENCY, RATE, VOLTAGE, TONE, SYSTEM, STREAM, STRENGTH = 2, 1, 3, 8, 10, 11, 17, 42, 62
+USUAL_RATE = 22_000_000
 LOCK, SDT_PID, SDT, WAITS, START = 0x10, 17, 0x42, 4.0, 4
 IN_FRONTEND, OUT_TS_TAP, OTHER = 0, 2, 20
 PROPERTY = struct.Struct("=I12sI52sI")
@@ -58,9 +61,13 @@ def services(folder):
 
 def tune(tuner, folder, word):
     """Tunes, waits for a lock, and says what is there."""
-    numbers = zip((FREQUENCY, SYSTEM, VOLTAGE, TONE, STREAM), (*map(int, word.split(":")), *[None] * 4))
-    pairs = [(CLEAR, 0), *numbers, (TUNE, 0)]
-    properties(tuner, FE_SET_PROPERTY, [pair for pair in pairs if pair[1] is not None])
+    numbers = zip((FREQUENCY, SYSTEM, VOLTAGE, TONE, STREAM, RATE), (int(number) if number else None for number in word.split(":")))
+    pairs = [(CLEAR, 0), (RATE, USUAL_RATE), *numbers, (TUNE, 0)]
+    try:
+        properties(tuner, FE_SET_PROPERTY, [pair for pair in pairs if pair[1] is not None])
+    except OSError as fault:
+        print(word, errno.errorcode[fault.errno], flush=True)
+        return
     begun = time.monotonic()
     while not status_of(tuner) & LOCK and time.monotonic() - begun < WAITS:
         time.sleep(0.01)
@@ -104,7 +111,11 @@ def main(words):
             hold(folder)
         else:
             tuner = os.open(folder + "/frontend0", os.O_RDWR) if tuner is None else tuner
-            tune(tuner, folder, word)
+            if word == "cable":
+                for number in FE_SET_VOLTAGE, FE_SET_TONE:
+                    fcntl.ioctl(tuner, number, int(next(words)))
+            else:
+                tune(tuner, folder, word)
 
 
 if __name__ == "__main__":

@@ -21,7 +21,7 @@
 #define RECORDER "/dev/dvb/adapter0/dvr0"
 #define TUNER "/dev/dvb/adapter0/frontend0"
 /* (by then whatever is waited for has come, also on a busy machine) */
-enum { PACKET = 188, NEVER = 0x1ff0, ALL_PIDS = 0x2000, FREQUENCY = 474000000, LATE_MS = 30000 };
+enum { PACKET = 188, NEVER = 0x1ff0, ALL_PIDS = 0x2000, FREQUENCY = 474000000, LATE_MS = 30000, MOST_NODES = 40 };
 
 /* a case; some want that no other one runs beside it */
 struct one {
@@ -31,7 +31,7 @@ struct one {
 };
 #define CASE(name) { #name, name, 0 }
 #define ALONE(name) { #name, name, 1 }
-extern const struct one paths[], descriptors[], waits[], reads[], tunings[], stacks[];
+extern const struct one paths[], descriptors[], waits[], reads[], tunings[], stacks[], killed[];
 
 extern unsigned char bytes[1 << 21];
 
@@ -47,6 +47,8 @@ int recorder(int flags);
 int tuner(int flags);
 void set_section(int fd, int pid);
 void record_all(int fd);
+/* opens all nodes that are free, and says how many */
+int nodes_free(int *fds);
 /* a read gives a whole PAT */
 int is_pat(int fd);
 /* how a child ends that does this */

@@ -58,17 +58,9 @@ static void all_closed_past_the_library(void)
 	}
 }
 
-static int nodes_free(int *fds)
-{
-	int count = 0;
-	while (count < 40 && (fds[count] = open(DEMUX, O_RDWR)) >= 0)
-		count++;
-	return count;
-}
-
 static void each_close_frees_the_node(void)
 {
-	int fds[40];
+	int fds[MOST_NODES];
 	want(nodes_free(fds) == 32 && errno == EMFILE, "32 nodes");
 	for (int i = 0; i < 8; i++)
 		close(fds[i]);
@@ -189,7 +181,7 @@ static void in_a_daemon(void)
 
 static void a_daemons_close_frees(void)
 {
-	int told[2], fds[40];
+	int told[2], fds[MOST_NODES];
 	char said = 0;
 	want(!pipe(told), "a pipe");
 	pid_t pid = fork();

@@ -77,6 +77,14 @@ void record_all(int fd)
 	want(!ioctl(fd, DMX_SET_PES_FILTER, &params), "a recording of all packets");
 }
 
+int nodes_free(int *fds)
+{
+	int count = 0;
+	while (count < MOST_NODES && (fds[count] = open(DEMUX, O_RDWR)) >= 0)
+		count++;
+	return count;
+}
+
 int is_pat(int fd)
 {
 	ssize_t n = read(fd, bytes, 4096);
@@ -161,7 +169,7 @@ static int is_asked(const char *name, char **words)
 
 int main(int count, char **words)
 {
-	const struct one *const all[] = { paths, descriptors, waits, reads, tunings, stacks };
+	const struct one *const all[] = { paths, descriptors, waits, reads, tunings, stacks, killed };
 	fe_status_t status = 0;
 	if (count == 2 && !strcmp(words[1], "+lock"))
 		return ioctl(open(TUNER, O_RDONLY), FE_READ_STATUS, &status) || !(status & FE_HAS_LOCK);

@@ -105,6 +105,24 @@ static void lists_of_properties(void)
 	want(ioctl(fd, FE_READ_STATUS, (void *)8) < 0 && errno == EFAULT, "and one that is written");
 }
 
+/* what lies outside of what FE_GET_INFO tells is EINVAL, and changes nothing */
+static void frequencies_that_it_has_not(void)
+{
+	struct dvb_frontend_info info;
+	fe_status_t status;
+	int fd = tuned(0);
+	want(!ioctl(fd, FE_GET_INFO, &info) && info.frequency_min > 1 && info.frequency_max < UINT32_MAX, "FE_GET_INFO");
+	const uint32_t none[] = { 0, 474, 474000, info.frequency_min - 1, info.frequency_max + 1, 2147483648U, UINT32_MAX };
+	for (size_t i = 0; i < sizeof none / sizeof *none; i++) {
+		struct dvb_frontend_parameters asked = { .frequency = none[i] };
+		want(!set(fd, DTV_FREQUENCY, none[i]) && set(fd, DTV_TUNE, 0) < 0 && errno == EINVAL, "DTV_TUNE is EINVAL");
+		want(ioctl(fd, FE_SET_FRONTEND, &asked) < 0 && errno == EINVAL, "FE_SET_FRONTEND too");
+		want(!ioctl(fd, FE_READ_STATUS, &status) && status & FE_HAS_LOCK, "and the lock stays");
+	}
+	want(!set(fd, DTV_FREQUENCY, info.frequency_min) && !set(fd, DTV_TUNE, 0), "the least");
+	want(!set(fd, DTV_FREQUENCY, info.frequency_max) && !set(fd, DTV_TUNE, 0) && is_locked(fd), "and the greatest");
+}
+
 static void an_event(void)
 {
 	int fd = tuner(O_RDWR | O_NONBLOCK);
@@ -142,5 +160,5 @@ static void what_a_frontend_has_not(void)
 }
 
 const struct one tunings[] = { ALONE(one_may_tune), CASE(who_looks_may_not_tune), CASE(another_process_sees_the_lock), CASE(statistics_agree),
-			       CASE(what_was_set_is_told), CASE(lists_of_properties), CASE(an_event), CASE(an_old_event_is_not_told),
+			       CASE(what_was_set_is_told), CASE(lists_of_properties), CASE(frequencies_that_it_has_not), CASE(an_event), CASE(an_old_event_is_not_told),
 			       CASE(an_event_is_waited_for), CASE(what_a_frontend_has_not), { 0 } };
