@@ -1,4 +1,4 @@
-"""What reads a report, over lawful and changed reports: explain, picture, page, hint, and json there and back.
+"""What reads a report, over lawful and changed reports: explain, with the stream too, picture, page, and json there and back.
 
 The reports are those of sessions of oracle/fuzz.py, by the plain second program, and changed ones, each with one to three changes of
 oracle/changes.py, or with another number, line or word; CHANGED_COUNT and CHANGED_FIRST in the environment name how many and the first of
@@ -17,8 +17,8 @@ import pytest
 from checks import asked_of
 from conftest import PROGRAM
 from dvbemu import objects, reports
-from dvbemu.commands import hint
 from dvbemu.explain import played
+from dvbemu.explain.offered import Stream
 from dvbemu.explain.told import Part, page as explained
 from dvbemu.picture.drawing import picture
 from dvbemu.picture.sheet import page
@@ -175,9 +175,9 @@ TOOLS = {
     "explain": lambda text, _: explained(read(text), Part()),
     "picture": lambda text, _: picture(read(text), "changed"),
     "page": lambda text, _: page(read(text), "changed"),
-    "hint": lambda text, session: hint.page(read(text), hint.packets_of(session, read(text))),
+    "explain with the stream": lambda text, session: explained(read(text), Part(), Stream(played.packets_of(session, read(text)))),
 }
-LINE = r"line \d+: |no session of this report"
+LINE = r"line \d+: |no session"
 
 
 def fault_of(make, *given):

@@ -280,7 +280,7 @@ SAID = [
     (
         "c0 open n0|c0 section n0 256 0 5 0=43/ff/00 3=06/3e/00|feed 4|c0 read n0 9",
         SECTIONS,
-        ["4 packets of PID 256 (0x100) passed", "its filter bytes 0 and 3 or flag 1,", "`c0 section n0 256 0 4`", "dvbemu hint REPORT SESSION"],
+        ["4 packets of PID 256 (0x100) passed", "its filter bytes 0 and 3 or flag 1,", "`c0 section n0 256 0 4`", "dvbemu explain REPORT SESSION"],
         ["at least"],
     ),
     (
@@ -347,10 +347,10 @@ HELD = [
 ]
 # What the hint says of several Overflows, by the words of the script, the batch, and the words that must stand in it and mustn't.
 PACED = [
-    (HELD[4][0], 1, "one of 941 would have held all that came, at 2 Overflows; `dvbemu hint", "passes at once"),
+    (HELD[4][0], 1, "one of 941 would have held all that came, at 2 Overflows; `dvbemu explain", "passes at once"),
     (HELD[5][0], 4, "one of 753 would have held all that came, at 2 Overflows; a batch of up to 4 packets passes at once, and no client reads "
      "in between: set that size, or try `--batch 1`", "none is told"),
-    (HELD[5][0].replace("c0 drain", "feed 4|c0 drain"), 4, "one of 753 would have held all that came, at 2 Overflows; `dvbemu hint", "at once"),
+    (HELD[5][0].replace("c0 drain", "feed 4|c0 drain"), 4, "one of 753 would have held all that came, at 2 Overflows; `dvbemu explain", "at once"),
 ]  # fmt: skip
 # A report of `serve` of a recording that has begun again twice: breaks in place of @, of the third PID; and whether these are all the loop's.
 LOOPED = """dvbemu 1

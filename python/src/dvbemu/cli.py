@@ -35,10 +35,9 @@ PROVED = {
 # The tools, each a module of `commands`, and what it does.
 TOOLS = {
     "serve": "runs DVB programs, as they are, on a recording, and writes a report of their calls",
-    "explain": "tells a report in sentences, with hints",
+    "explain": "tells a report in sentences, with hints; with its stream too, why filters got nothing",
     "picture": "draws a report",
     "page": "writes a report as a page for a browser",
-    "hint": "why filters got nothing and what overflows lost, by a report and its stream",
     "json": "writes a report as JSON Lines, and back",
     "why": "what is wrong with a report: the line, what stands there, what the rules give",
     "bytes": "the bytes that were read from a node, as a file",
@@ -52,7 +51,7 @@ TOOLS = {
     "build": "proves and builds the program, or the server of `serve`, ahead of their first use",
 }
 # Words that there were, and where what they did is now.
-MOVED: dict[str, str] = {}
+MOVED = {"hint": "`hint` is a part of `explain`: dvbemu explain REPORT SESSION"}
 STATUSES = "0; 1 where {}a file can't be read; 2 for wrong words; 3 where the script has a fault; 5 to 7 where reading, writing or " \
     "memory failed (docs/BEHAVIOUR.md, 'Statuses'); 128 and the number of a signal that has ended the program"
 READS = "{}a script, or a session that has its stream, and streams behind it; a script without its line `stream` gets it " \

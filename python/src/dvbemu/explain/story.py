@@ -19,12 +19,14 @@ if TYPE_CHECKING:
     from typing import Collection, Hashable, Optional, Tuple, TypedDict
 
     from ..reports import Act, Entry, PidRow, Reply, Report
+    from .offered import Lost, Stream
 
     class Facts(TypedDict, total=False):
         """The facts of a stumble: those that its kind has, of which hints.py makes words."""
 
         act: Act
         about: int
+        asks: bool
         batch: int
         begin: int
         bytes: int
@@ -43,7 +45,6 @@ if TYPE_CHECKING:
         packets: int
         pid: int
         pids: Tuple[int, ...]
-        played: bool
         read_as: dict[int, int]
         served: bool
         size: int
@@ -85,10 +86,10 @@ class Node(Walk):
     which wouldn't have yet, had no Overflow come."""
 
     filter: Filter | None
-    capture: Capture | None
 
     def __init__(self, number: int, story: Story) -> None:
         super().__init__(number)
+        self.capture: Capture | None = None
         self.story, self.ended_by, self.is_ahead = story, "", False
         self.passed, self.passes, self.batch, self.calls, self.free_packets = 0, 0, 0, 0, 0
         self.end: int | None = None
@@ -96,7 +97,7 @@ class Node(Walk):
         self.busy: dict[int, int] = {}
         self.openers: set[int] = set()
         self.taps: dict[int, Tap] = {}
-        self.attached: dict[int, int] = {}
+        self.attached: dict[int, tuple[int, list[int]]] = {}
         self.untapped: list[tuple[int, int, Facts]] = []
 
     def begin_capture(self, entry: Entry) -> None:
@@ -106,7 +107,10 @@ class Node(Walk):
             self.filter.started = True
         if self.is_ahead:
             self.story.unsure.add(self.number)
-        self.capture = Capture(int(entry.who[1]), self.story.line_of(entry), self.passed, self.passes, is_late)
+        self.capture = Capture(int(entry.who[1]), self.filter, self.story.line_of(entry), self.passed, self.passes, is_late)
+        self.story.ran = True
+        if self.filter:
+            self.filter.places.append(self.capture.places)
         self.capture.tapped = bool(self.attached)
         if is_late:
             self.story.note_late(self, entry)
@@ -121,14 +125,10 @@ class Node(Walk):
         if self.filter:
             self.filter.leave()
 
-    def set_filter(self, entry: Entry, act: Act) -> None:
+    def filter_of(self, entry: Entry, act: Act) -> Filter:
         """Another filter, which doesn't run yet."""
-        self.filter, self.ended_by = Filter(act, self.story.line_of(entry), int(entry.who[1])), ""
-
-    def change_pids(self, entry: Entry, act: Act) -> None:
-        """An accepted AddPid or RemovePid."""
-        assert self.filter is not None
-        self.filter.ever |= self.pids
+        self.ended_by = ""
+        return Filter(entry, act, self.story.line_of(entry))
 
     def end_filter(self) -> None:
         """The filter's time is over."""
@@ -199,10 +199,15 @@ SIZES = "larger", "first size", "overflow"
 
 
 class Story:
-    """A report gone through: its clients by number, and the stumbles."""
+    """A report gone through: its clients by number, the stumbles, and whether a capture ran. With the stream at hand `silent` has the filters that gave nothing, each
+    with its node, and `exact` what the Overflows lost, each with its client, its line, its
+    node and its span."""
 
-    def __init__(self, report: Report) -> None:
-        self.report = report
+    def __init__(self, report: Report, stream: Stream | None = None) -> None:
+        self.report, self.stream = report, stream
+        self.ran = False
+        self.silent: list[tuple[int, Filter]] = []
+        self.exact: list[tuple[int, int, int, tuple[int, int], Lost]] = []
         self.clients = {number: Client(number, outcomes) for number, outcomes in enumerate(report.clients)}
         self.packets = {row.pid: row for row in report.pids}
         self.stumbles: dict[tuple[str, int | None, int | None, Hashable], Stumble] = {}
@@ -327,9 +332,17 @@ class Story:
         node.passed, node.batch = act["first"] + act["count"], act["count"]
         if node.taps and node.owner is None:
             node.free_packets += act["count"]
-        if node.runs and node.capture and node.filter and not node.filter.is_played:
-            if node.due is None or act["at"] < node.due:
-                node.filter.take(act, node.pids)
+        if node.capture and not (node.filter and node.filter.is_played) and (node.runs or node.number == DVR):
+            self.offer(node, node.capture, act)
+
+    def offer(self, node: Node, capture: Capture, act: Act) -> None:
+        """A batch of the stream is offered to a capture, where its timeout isn't over."""
+        is_in_time = node.due is None or act["at"] < node.due
+        if node.filter and is_in_time:
+            node.filter.take(act, node.pids)
+        if self.stream and (is_in_time or node.filter and node.filter.gave):
+            pids = node.pids if node.filter else {pid for _, pids in node.attached.values() for pid in pids}
+            capture.places += self.stream.places(pids, act["first"], node.passed)
 
     def take_played(self, node: Node, call: Call) -> None:
         """Packets that a client has written pass a node."""
@@ -388,8 +401,8 @@ class Story:
         """An Attach or a Detach of the dvr node; what passes while it is free is counted for the taps attached then."""
         tapped = act_of(call.entry)["node"]
         if call.act == "attach":
-            node.attached[tapped] = client.number
-        elif node.attached.get(tapped) == client.number:
+            node.attached[tapped] = client.number, act_of(call.entry)["pids"]
+        elif tapped in node.attached and node.attached[tapped][0] == client.number:
             del node.attached[tapped]
         if node.capture:
             node.capture.tapped |= bool(node.attached)
@@ -439,6 +452,8 @@ class Story:
         used, node.filter = node.filter, None
         if used is None:
             return
+        if used.started and not used.gave and (used.kind == "section" or not used.is_played and not any(used.places)):
+            self.silent.append((node.number, used))
         if not used.started:
             self.stumble("never started", used.client, node, used.line)
         elif used.is_played:
@@ -469,7 +484,7 @@ class Story:
         least, most = self.within(passed, [used.pid])
         about = whole * passed // self.report.packets
         if least or about >= LEAST_PASSED:
-            facts: Facts = {"pid": used.pid, "least": least, "most": most, "about": about, "act": used.act}
+            facts: Facts = {"pid": used.pid, "least": least, "most": most, "about": about, "act": used.act, "asks": not self.stream}
             self.stumble("selects nothing", used.client, node, used.line, facts=facts)
 
     def rows_of(self, pid: int) -> list[PidRow]:
@@ -670,13 +685,17 @@ class Story:
         reply, capture = reply_of(call.entry), node.capture
         client.lost.append((line, call, reply["span"]))
         call.lost = lost_by(node, reply)
+        if self.stream and capture and not (node.filter and node.filter.is_played):
+            capture.brought.take(self.stream.packets, capture.places)
+            if lost := capture.brought.lost(*reply["span"]):
+                self.exact.append((client.number, line, node.number, reply["span"], lost))
         if node.size is None:
             return  # no report of a program
         call.reason = str(node.size)
         is_larger, is_first = reply["need"] > node.size - 1, node.size == node.first_size
         kind = "larger" if is_larger else "first size" if is_first else "overflow"
         facts: Facts = {"item": reply["item"], "need": reply["need"], "size": node.size, "wanted": 0, "times": 0, "batch": node.batch,
-                        "served": self.is_served, "played": node.filter is not None and node.filter.is_played}  # fmt: skip
+                        "served": self.is_served, "asks": not (self.stream or node.filter and node.filter.is_played)}  # fmt: skip
         found = self.stumble(kind, client.number, node, line, facts=facts)
         found.facts["times"] += 1
         if capture:
