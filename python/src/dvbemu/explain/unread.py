@@ -15,7 +15,7 @@ from ..psi.fields import pid_name
 from .walk import KEEP, Answered, Walk
 
 if TYPE_CHECKING:
-    from typing import Mapping, Tuple
+    from typing import Mapping, Sequence, Tuple
 
     from ..reports import Act, Entry, Reply
 
@@ -131,7 +131,7 @@ class History(Walk):
     filter: Act | None
     capture: Capture | None
 
-    def __init__(self, node: int, entries: list[Entry]) -> None:
+    def __init__(self, node: int, entries: Sequence[Entry]) -> None:
         super().__init__(node)
         self.entries = entries
         self.sizes: list[int | None] = []
