@@ -166,7 +166,7 @@ def read(text):
 
 def there_and_back(text, _):
     """The report of the JSON Lines that a report is."""
-    return "".join(line + "\n" for line in objects.back(objects.texts_of(read(text))))
+    return "".join(objects.back(objects.texts_of(read(text))))
 
 
 # What each tool makes of a report and its session.

@@ -190,7 +190,7 @@ def one_entry_less(rng, text):
     """An entry is left out, and the places behind it are less by one."""
     report = read(text)
     node, chosen = rng.choice(entries_of(report) or NONE)
-    return chosen and (with_node(report, node, [entry for entry in report.nodes[node] if entry is not chosen]), WRONG)
+    return chosen and (with_node(report, node, [entry for entry in report.nodes[node] if entry != chosen]), WRONG)
 
 
 def one_entry_more(rng, text):

@@ -9,8 +9,12 @@ from __future__ import annotations
 import re
 from typing import TYPE_CHECKING, NamedTuple
 
+from .reports import filter_words
+
 if TYPE_CHECKING:
     from typing import Callable, Mapping, Sequence
+
+    from .reports import Act
 
 MARK = "\ufeff"
 FLAGS = {"CHECK_CRC": 1, "ONESHOT": 2, "IMMEDIATE_START": 4, "KEEP": 256}
@@ -145,7 +149,7 @@ def plain_filter(words: Sequence[str]) -> list[str]:
             if whole.get(place, Byte()).mask & byte.mask:
                 raise Fault("bytes", word, f"bits of byte {place} that no word before has named")
             whole[place] = whole.get(place, Byte()).join(byte)
-    return [f"{place}={byte.bits:02x}/{byte.mask:02x}/{byte.mode:02x}" for place, byte in sorted(whole.items())]
+    return filter_words(sorted(whole.items()))
 
 
 def plain_target(word: str) -> str:
@@ -161,6 +165,12 @@ def plain_target(word: str) -> str:
 def plain_hex(word: str) -> str:
     """Bytes: digits of any case, with or without 0x."""
     return word[2:].lower() if word[:2] in ("0x", "0X") else word.lower()
+
+
+def command_text(who: str, target: str, act: Act) -> str:
+    """The line of a command that makes this call: it has the words of the report in the same order, but for the moment."""
+    words = [str(value) for name, value in act.items() if name not in ("name", "at", "bytes")]
+    return " ".join([who, act["name"], target, *words, *filter_words(act.get("bytes", {}).items())])
 
 
 READERS: dict[str, Callable[[str], str]] = {"FLAGS": plain_flags, "TYPE": plain_type, "HEX": plain_hex, "REQ": lambda word: plain_hex(word).rjust(8, "0")}
@@ -190,14 +200,14 @@ def plain_words(words: list[str]) -> list[str]:
                 break
             told[place] = plain_word(kind, word)
         if kinds[-1:] == ("BYTE",) and len(words) > 6:
-            told[6:] = filter_words(words)
+            told[6:] = plain_bytes(words)
         return told
     except Fault as fault:
         fault.place = fault.place or place + 1
         raise
 
 
-def filter_words(words: Sequence[str]) -> list[str]:
+def plain_bytes(words: Sequence[str]) -> list[str]:
     """The words of a line's filter."""
     try:
         return plain_filter(words[6:])

@@ -6,13 +6,12 @@ from functools import lru_cache
 from typing import TYPE_CHECKING
 
 from . import reports
+from .reports import ACTS, FORMAT, HEAD, PID, REPLIES, STC, span_text, written
 
 if TYPE_CHECKING:
     from typing import Any, Callable, Iterable, Iterator, Mapping
 
     from .reports import Outcome, Report
-
-TAPS = ("keep", "detach")
 
 
 class NoObjects(Exception):
@@ -26,12 +25,10 @@ class NoObjects(Exception):
 
 
 def plain(name: str, value: Any) -> object:
-    """What stands at a place of an act or a reply, as JSON has it."""
+    """What stands at a place of an act, as JSON has it."""
     if name == "bytes":
         return [{"place": place, "filter": three[0], "mask": three[1], "mode": three[2]} for place, three in value.items()]
-    if name == "node":
-        return f"n{value}"
-    return list(value) if isinstance(value, tuple) else value
+    return f"n{value}" if name == "node" else value
 
 
 @lru_cache(65536)
@@ -50,20 +47,21 @@ def reply_text(reply: str) -> str:
 @lru_cache(65536)
 def other_text(reply: str) -> str:
     """Every other reply, as the text of an object."""
-    return json.dumps({name: plain(name, value) for name, value in reports.read_reply(reply).items()})
+    return json.dumps(reports.read_reply(reply))
 
 
 def command_text(client: int, outcome: Outcome) -> str:
     """A command, as the text of an object."""
-    found = {"kind": "command", "client": f"c{client}", "line": outcome.line, "steps": [outcome.first, outcome.after]}
     name, *words = outcome.kind.split(" ")
-    numbers = (word.split("=") for word in words)
-    return json.dumps({**found, "outcome": name, **{place: int(number) for place, number in numbers}})
+    found = {"kind": "command", "client": f"c{client}", "line": outcome.line, "steps": [outcome.first, outcome.after], "outcome": name}
+    if words:
+        found |= reports.read_form(STC, words)
+    return json.dumps(found)
 
 
 def texts_of(report: Report) -> Iterator[str]:
-    """The lines of JSON that a report is."""
-    yield json.dumps({"kind": "stream", "format": reports.FORMAT, "packets": report.packets, "skipped": report.skipped, "rest": report.rest})
+    """The lines of JSON that a report is, without their line feeds."""
+    yield json.dumps({"kind": "stream", "format": FORMAT, "packets": report.packets, "skipped": report.skipped, "rest": report.rest})
     for row in report.pids:
         yield json.dumps({"kind": "pid", **row._asdict()})
     for client, outcomes in enumerate(report.clients):
@@ -85,72 +83,53 @@ def texts_of(report: Report) -> Iterator[str]:
 UNDER = {"command": "client", "entry": "node"}
 
 
-def word_of(name: str, value: Any) -> str:
-    """What JSON has at a place, as a report writes it."""
-    if name == "node":
-        return node_text(value)
-    if name in ("pids", "tap") and isinstance(value, list):
-        return ("attach:" if name == "tap" else "") + (",".join(map(str, value)) or "-")
-    return f"{value[0]}..{value[1]}" if name in ("drop", "span") else str(value)
-
-
-def node_text(name: str) -> str:
-    """A node as a report names it."""
-    return name if name == "dvr" else name.removeprefix("n")
-
-
-def words_of(found: Mapping[str, Any], forms: Mapping[str, Iterable[str]]) -> str:
-    """An act or a reply as a report writes it."""
-    name = found["name"]
-    words = [name]
-    for place in forms[name]:
-        key = place.rstrip("=")
-        words.append((place if place.endswith("=") else "") + word_of(key, found[key]))
-    for one in found.get("bytes", ()):
-        words.append(f"{one['place']}={one['filter']:02x}/{one['mask']:02x}/{one['mode']:02x}")
-    return " ".join(words)
+def act_words(act: Mapping[str, Any]) -> str:
+    """An act as a report writes it."""
+    form = ACTS[act["name"]]
+    found = {**act, "node": act["node"].removeprefix("n")} if "node=" in form else act
+    places = ((one["place"], (one["filter"], one["mask"], one["mode"])) for one in act.get("bytes", ()))
+    return " ".join([written(form, found, act["name"]), *reports.filter_words(places)])
 
 
 def reply_words(reply: Mapping[str, Any]) -> str:
     """A reply as a report writes it."""
-    return f"data {reply['data'] or '-'}" if reply["name"] == "data" else words_of(reply, reports.REPLIES)
+    return f"data {reply['data'] or '-'}" if reply["name"] == "data" else written(REPLIES[reply["name"]], reply, reply["name"])
 
 
 def outcome_words(found: Mapping[str, Any]) -> str:
     """What became of a command, as a report writes it."""
     outcome: str = found["outcome"]
-    return f"stc base={found['base']} value={found['value']}" if outcome == "stc" else outcome
+    return written(STC, found, outcome) if outcome == "stc" else outcome
 
 
 WRITE: dict[str, Callable[[Mapping[str, Any]], str]] = {
-    "stream": lambda found: f"{found['format']}\npackets={found['packets']} skipped={found['skipped']} rest={found['rest']}",
-    "pid": lambda found: f"pid {found['pid']} packets={found['packets']} breaks={found['breaks']} duplicates={found['duplicates']} "
-    f"errors={found['errors']}",
+    "stream": lambda found: f"{found['format']}\n{written(HEAD, found)}",
+    "pid": lambda found: written(PID, found, "pid"),
     "client": lambda found: f"client {found['client'].removeprefix('c')}",
-    "command": lambda found: f"line {found['line']} steps {found['steps'][0]}..{found['steps'][1]} {outcome_words(found)}",
-    "node": lambda found: f"node {node_text(found['node'])}",
-    "entry": lambda found: f"{found['place']} {found['who']} {found['step']} {words_of(found['act'], reports.ACTS)} = "
-    f"{reply_words(found['reply'])}",
+    "command": lambda found: f"line {found['line']} steps {span_text(found['steps'])} {outcome_words(found)}",
+    "node": lambda found: f"node {found['node'].removeprefix('n')}",
+    "entry": lambda found: f"{found['place']} {found['who']} {found['step']} {act_words(found['act'])} = {reply_words(found['reply'])}",
     "end": lambda found: "fault read" if found["read_failed"] else "end",
 }
 
 
 def back(lines: Iterable[str]) -> Iterator[str]:
-    """The lines of the report that lines of JSON are, without their line feeds."""
+    """The lines of the report that lines of JSON are, with their line feeds."""
     under = {}
     for line, text in enumerate(lines, 1):
         try:
             found = json.loads(text)
-            written = WRITE[found["kind"]](found)
+            told = WRITE[found["kind"]](found)
             if found["kind"] in ("client", "node"):
                 under = {found["kind"]: found[found["kind"]]}
             elif found["kind"] in UNDER and found[UNDER[found["kind"]]] != under.get(UNDER[found["kind"]]):
                 raise KeyError(f"{UNDER[found['kind']]} isn't the one above")
-            yield written
         except RecursionError:
             raise NoObjects(line, "no line of a report: too much stands within one another") from None
         except ValueError as wrong:
-            what = "this is a report, and json without --back writes its JSON Lines" if text == f"{reports.FORMAT}\n" else wrong
+            what = "this is a report, and json without --back writes its JSON Lines" if text == f"{FORMAT}\n" else wrong
             raise NoObjects(line, f"no object of JSON: {what}") from None
         except (KeyError, TypeError, IndexError, AttributeError) as wrong:
             raise NoObjects(line, f"no line of a report, {type(wrong).__name__}: {wrong}") from None
+        # (a text that stands in an object may have line feeds of its own)
+        yield from (part + "\n" for part in told.split("\n"))

@@ -1,16 +1,16 @@
 """A report as typed objects: nodes with their entries, calls and replies, and what became of each command of the script.
 
-The text is read by the reader of the tools, tools/lib/reports.py, of which a wheel has a copy.
+The text is read by reports.py.
 """
 from __future__ import annotations
 
 import io
 import os
 from dataclasses import dataclass, field
-from typing import Any, Iterator, Mapping, Optional, Union
+from typing import Any, Callable, Iterator, Mapping, Optional, Union
 
 from . import reports
-from .reports import NotAReport
+from .reports import NotAReport, Outcome, PidCount
 
 __all__ = ["Call", "Done", "Busy", "Refused", "Data", "Again", "Overflow", "TimedOut", "Ready", "Passed", "Entry", "Node", "NotAReport",
            "Outcome", "PidCount", "Report"]  # fmt: skip
@@ -114,27 +114,6 @@ class Entry:
 
 
 @dataclass(frozen=True)
-class Outcome:
-    """What became of a command: the number of its line, its client's calls from `first` to before `after`, and how it ended."""
-
-    line: int
-    first: int
-    after: int
-    kind: str
-
-
-@dataclass(frozen=True)
-class PidCount:
-    """What was counted of a PID of the stream."""
-
-    pid: int
-    packets: int
-    breaks: int
-    duplicates: int
-    errors: int
-
-
-@dataclass(frozen=True)
 class Node:
     """A node, `n0` to `n31` or `dvr`, and the entries of its history."""
 
@@ -183,10 +162,8 @@ class Report:
     def parse(cls, text: bytes) -> Report:
         """The report that these bytes are. Raises NotAReport, which names the line, where they are none."""
         plain = reports.read(reports.text_of(io.BytesIO(text)))
-        pids = [PidCount(*row) for row in plain.pids]
-        clients = [[Outcome(*outcome) for outcome in outcomes] for outcomes in plain.clients]
-        nodes = [Node(reports.node_name(number), list(map(_entry, entries))) for number, entries in sorted(plain.nodes.items())]
-        return cls(text, plain.packets, plain.skipped, plain.rest, pids, clients, nodes, plain.read_fault)
+        nodes = [Node(reports.node_name(number), list(map(_entry, entries))) for number, entries in plain.nodes.items()]
+        return cls(text, plain.packets, plain.skipped, plain.rest, plain.pids, [list(outcomes) for outcomes in plain.clients], nodes, plain.read_fault)
 
     @classmethod
     def load(cls, path: Union[str, os.PathLike[str]]) -> Report:
@@ -233,6 +210,11 @@ def _entry(plain: reports.Entry) -> Entry:
     return Entry(plain.place, plain.who, plain.step, call, _reply(plain.reply))
 
 
+# The class of each reply, which has its values in the order of the report, and those of them that are true or false.
+_REPLIES: dict[str, Callable[..., Reply]] = {"done": Done, "busy": Busy, "again": Again, "overflow": Overflow, "timedout": TimedOut, "ready": Ready, "passed": Passed}
+_FLAGS = "ended", "readable"
+
+
 def _reply(text: str) -> Reply:
     """The reply that a text is, which the reader has accepted."""
     found = reports.read_reply(text)
@@ -241,14 +223,4 @@ def _reply(text: str) -> Reply:
         return Data(bytes.fromhex(text[5:]) if found["length"] else b"")
     if name in reports.REFUSALS:
         return Refused(name)
-    if name == "done":
-        return Done(found["drop"], found["tap"])
-    if name == "again":
-        return Again(bool(found["ended"]))
-    if name == "ready":
-        return Ready(bool(found["readable"]), found["error"], found["at"], bool(found["ended"]))
-    if name == "busy":
-        return Busy(found["owner"])
-    if name == "overflow":
-        return Overflow(found["span"], found["item"], found["need"], found["room"])
-    return TimedOut(found["started"], found["now"], found["timeout"]) if name == "timedout" else Passed()
+    return _REPLIES[name](*(bool(value) if place in _FLAGS else value for place, value in found.items() if place != "name"))

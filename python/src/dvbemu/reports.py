@@ -1,21 +1,21 @@
-"""Reads the reports of `dvbemu steps` and `dvbemu run`, for the tools beside it.
+"""Reports of `dvbemu steps` and `dvbemu run`: their records, and what reads and writes their text.
 
-The form is that of docs/BEHAVIOUR.md, 'The report'. Only the form is looked at: whether the replies are right is not.
+The form is that of docs/BEHAVIOUR.md, 'The report'. What each line has stands in the tables below, by which a text is read and written, and of
+which the JSON Lines of objects.py are made too. Only the form is looked at: whether the replies are right is not.
 """
 from __future__ import annotations
 
 import io
 import re
+from collections.abc import Sequence
 from functools import lru_cache
-from typing import TYPE_CHECKING, NamedTuple, cast
+from typing import TYPE_CHECKING, NamedTuple, TypeVar, cast
 
 if TYPE_CHECKING:
-    from typing import Any, BinaryIO, Callable, Dict, List, Sequence, TextIO, Tuple, TypedDict, Union
+    from typing import Any, BinaryIO, Callable, Dict, Iterable, Iterator, List, Mapping, TextIO, Tuple, TypedDict, Union
 
     # The value, mask and mode byte of a section filter's places.
     FilterBytes = Dict[int, Tuple[int, int, int]]
-    # What stands before a place's word, the place's name, and what reads the word.
-    Place = Tuple[str, str, Callable[[str], object]]
 
     class Act(TypedDict, total=False):
         """An act: `name` is its first word, which each has; the others are those that ACTS names for it."""
@@ -56,6 +56,7 @@ if TYPE_CHECKING:
         length: int
 
 
+R = TypeVar("R")
 FORMAT = "dvbemu 1"
 DVR = 32
 CLIENTS = 8
@@ -82,7 +83,14 @@ class AnotherFormat(NotAReport):
         return f"line {self.line}: a report of a format that this tool doesn't know; it knows {self.expected}, found {self.found}"
 
 
-class PidRow(NamedTuple):
+class Wrong(ValueError):
+    """A word or a group of words that isn't of its form, or stands in another place; the text is what was expected."""
+
+
+# ------ records
+
+
+class PidCount(NamedTuple):
     """What the report counts of one PID."""
 
     pid: int
@@ -92,6 +100,9 @@ class PidRow(NamedTuple):
     errors: int
 
 
+PidRow = PidCount  # (as explain names it)
+
+
 class Outcome(NamedTuple):
     """What became of one command: its line, its first step, the step after its last, and how it ended, as it is told."""
 
@@ -99,6 +110,17 @@ class Outcome(NamedTuple):
     first: int
     after: int
     kind: str
+
+    def text(self) -> str:
+        """The line of the report."""
+        return f"line {self.line} steps {self.first}..{self.after} {self.kind}"
+
+    @classmethod
+    def of(cls, text: str) -> Outcome:
+        """The outcome that a line is, which was read before."""
+        _, line, _, steps, kind = text.split(" ", 4)
+        first, _, after = steps.partition("..")
+        return cls(int(line), int(first), int(after), kind)
 
 
 class Entry(NamedTuple):
@@ -110,6 +132,50 @@ class Entry(NamedTuple):
     act: str
     reply: str
 
+    def text(self) -> str:
+        """The line of the report."""
+        return f"{self.place} {self.who} {self.step} {self.act} = {self.reply}"
+
+    @classmethod
+    def of(cls, text: str) -> Entry:
+        """The entry that a line is, which was read before."""
+        place, who, step, told = text.split(" ", 3)
+        act, _, reply = told.partition(" = ")
+        return cls(int(place), who, int(step), act, reply)
+
+
+class Rows(Sequence[R]):
+    """Records that are kept as their lines, of which each is made where it is asked for: so a long report takes up little more than its
+    text."""
+
+    EACH = 1024
+
+    def __init__(self, make: Callable[[str], R]) -> None:
+        self.make = make
+        self.blocks: list[str] = []
+        self.lines: list[str] = []
+
+    def append(self, line: str) -> None:
+        """Puts a line behind the others."""
+        self.lines.append(line)
+        if len(self.lines) == self.EACH:
+            self.blocks.append("\n".join(self.lines))
+            self.lines = []
+
+    def __len__(self) -> int:
+        return self.EACH * len(self.blocks) + len(self.lines)
+
+    def __iter__(self) -> Iterator[R]:
+        for block in self.blocks:
+            yield from map(self.make, block.split("\n"))
+        yield from map(self.make, self.lines)
+
+    def __getitem__(self, place: Any) -> Any:
+        if isinstance(place, slice):
+            return [self[at] for at in range(*place.indices(len(self)))]
+        block, row = divmod(range(len(self))[place], self.EACH)
+        return self.make((self.blocks[block].split("\n") if block < len(self.blocks) else self.lines)[row])
+
 
 class Report(NamedTuple):
     """A whole report. Clients is a list of lists of outcomes, nodes has the entries of each printed node by its number."""
@@ -117,17 +183,13 @@ class Report(NamedTuple):
     packets: int
     skipped: int
     rest: int
-    pids: list[PidRow]
-    clients: list[list[Outcome]]
-    nodes: dict[int, list[Entry]]
+    pids: list[PidCount]
+    clients: Sequence[Sequence[Outcome]]
+    nodes: Mapping[int, Sequence[Entry]]
     read_fault: bool
 
 
 # ------ words
-
-
-class Wrong(ValueError):
-    """A word or a group of words that isn't of its form, or stands in another place; the text is what was expected."""
 
 
 def number(word: str, most: int = 2**64 - 1) -> int:
@@ -139,12 +201,22 @@ def number(word: str, most: int = 2**64 - 1) -> int:
     raise Wrong(f"a number from 0 to {most}")
 
 
+def at_most(most: int) -> Callable[[str], int]:
+    """A reader of a number up to this one."""
+    return lambda word: number(word, most)
+
+
 def span(word: str) -> tuple[int, int]:
     """Both ends of a span `A..B`, or of steps."""
     first, dots, after = word.partition("..")
     if not dots or number(first) > number(after):
         raise Wrong("a span `A..B` with A at most B")
     return int(first), int(after)
+
+
+def span_text(ends: Sequence[int]) -> str:
+    """A span as it is written."""
+    return f"{ends[0]}..{ends[1]}"
 
 
 def pids(word: str) -> list[int]:
@@ -155,6 +227,11 @@ def pids(word: str) -> list[int]:
     return listed
 
 
+def pids_text(listed: str | list[int]) -> str:
+    """A list of PIDs as it is written; of what isn't one the word."""
+    return (",".join(map(str, listed)) or "-") if isinstance(listed, list) else str(listed)
+
+
 def tap(word: str) -> str | list[int]:
     """What a Done says of the tap: `keep`, `detach`, or the list of PIDs that are attached."""
     if word in ("keep", "detach"):
@@ -162,6 +239,11 @@ def tap(word: str) -> str | list[int]:
     if not word.startswith("attach:"):
         raise Wrong("a tap `keep`, `detach` or `attach:PIDS`")
     return pids(word[7:])
+
+
+def tap_text(told: str | list[int]) -> str:
+    """The same as it is written."""
+    return f"attach:{pids_text(told)}" if isinstance(told, list) else str(told)
 
 
 def one_of(*names: str) -> Callable[[str], str]:
@@ -175,11 +257,6 @@ def one_of(*names: str) -> Callable[[str], str]:
     return read_name
 
 
-def at_most(most: int) -> Callable[[str], int]:
-    """A reader of a number up to this one."""
-    return lambda word: number(word, most)
-
-
 def client_name(word: str) -> str:
     """`c0` to `c7`."""
     if len(word) != 2 or word[0] != "c" or word[1] not in "01234567":
@@ -187,23 +264,39 @@ def client_name(word: str) -> str:
     return word
 
 
-# Places that have a form of their own, or fewer bits; all others are numbers.
-PLACES: dict[str, Callable[[str], object]] = {
-    **dict.fromkeys(("node", "rest", "timeout", "flags", "type", "size", "count", "base"), at_most(BITS_32)),
-    "pid": at_most(BITS_16),
-    "ended": at_most(1),
-    "readable": at_most(1),
-    "input": one_of("frontend", "dvr"),
-    "output": one_of("decoder", "tap", "ts_tap", "tsdemux_tap"),
-    "error": one_of("none", "overflow", "timedout"),
-    "owner": client_name,
-    "pids": pids,
-    "tap": tap,
-    "drop": span,
-    "span": span,
-}
+def is_hexadecimal(text: str) -> bool:
+    """Whether all characters are lower-case hexadecimal digits."""
+    return not text.encode(errors="replace").translate(None, HEX_DIGITS)
 
+
+# ------ the forms
+
+
+class Kind(NamedTuple):
+    """What stands at a place of a line: what reads its word, and what writes it."""
+
+    read: Callable[[str], object]
+    write: Callable[[Any], str] = str
+
+
+# Places that have a form of their own, or fewer bits; all others are numbers.
+NUMBER, SPAN = Kind(number), Kind(span, span_text)
+KINDS: dict[str, Kind] = {
+    **dict.fromkeys(("node", "rest", "timeout", "flags", "type", "size", "count", "base"), Kind(at_most(BITS_32))),
+    **dict.fromkeys(("drop", "span"), SPAN),
+    **dict.fromkeys(("ended", "readable"), Kind(at_most(1))),
+    "pid": Kind(at_most(BITS_16)),
+    "input": Kind(one_of("frontend", "dvr")),
+    "output": Kind(one_of("decoder", "tap", "ts_tap", "tsdemux_tap")),
+    "error": Kind(one_of("none", "overflow", "timedout")),
+    "owner": Kind(client_name),
+    "pids": Kind(pids, pids_text),
+    "tap": Kind(tap, tap_text),
+}
 # What stands behind the first word; a place with `=` is written with its name, the others without.
+HEAD = ("packets=", "skipped=", "rest=")
+PID = ("pid", "packets=", "breaks=", "duplicates=", "errors=")
+STC = ("base=", "value=")
 ACTS: dict[str, tuple[str, ...]] = {
     "open": (),
     "close": (),
@@ -247,37 +340,40 @@ ANSWERS: dict[str, tuple[str, ...]] = {
 OTHER_ANSWERS = ("done", *REFUSALS)
 
 
-def form_of(name: str, places: Sequence[str]) -> str:
-    """A form as it is written, for a message."""
-    return " ".join([name, *(place + ".." if place.endswith("=") else place.upper() for place in places)]).strip()
+class Place(NamedTuple):
+    """A place of a form: what stands before its word, its name, and its kind."""
+
+    before: str
+    name: str
+    kind: Kind
 
 
-def readers_of(places: Sequence[str]) -> list[Place]:
-    """For each place what is written before it, its name, and the reader of its word."""
-    found = []
-    for place in places:
-        name = place.rstrip("=")
-        found.append((place if place.endswith("=") else "", name, PLACES.get(name, number)))
-    return found
+@lru_cache(None)
+def places_of(form: tuple[str, ...]) -> list[Place]:
+    """The places of a form."""
+    return [Place(word if word.endswith("=") else "", name, KINDS.get(name, NUMBER)) for word in form for name in [word.rstrip("=")]]
 
 
-READERS = {places: readers_of(places) for places in [*ACTS.values(), *REPLIES.values()]}
-# The line of a batch, which most lines of a long report are; a greater number is left to what reads all other lines.
-NUMBER, COUNT = r"(?:0|[1-9]\d{0,17})", r"(?:0|[1-9]\d{0,8})"
-PASSED = re.compile(f"({NUMBER}) feed ({NUMBER}) (pass input=frontend first={NUMBER} count={COUNT} at={NUMBER}) = passed", re.ASCII)
+def form_text(form: Sequence[str], name: str = "") -> str:
+    """A form as it is told."""
+    return " ".join([name, *(word + ".." if word.endswith("=") else word.upper() for word in form)]).strip()
 
 
-def read_places(name: str, places: tuple[str, ...], words: Sequence[str]) -> dict[str, Any]:
-    """What stands at each place, by the place's name, and the first word as `name`; of which type it is, its reader says."""
-    readers = READERS.get(places) or readers_of(places)
-    if len(words) != len(places):
-        raise Wrong(f"`{form_of(name, places)}`")
-    found: dict[str, Any] = {"name": name}
-    for word, (before, place, reader) in zip(words, readers):
+def read_form(form: tuple[str, ...], words: Sequence[str], name: str = "") -> dict[str, Any]:
+    """What stands at each place, by the place's name; of which type it is, its kind says."""
+    if len(words) != len(form):
+        raise Wrong(f"`{form_text(form, name)}`")
+    found = {}
+    for word, (before, place, kind) in zip(words, places_of(form)):
         if not word.startswith(before):
-            raise Wrong(f"`{form_of(name, places)}`")
-        found[place] = reader(word[len(before) :])
+            raise Wrong(f"`{form_text(form, name)}`")
+        found[place] = kind.read(word[len(before) :])
     return found
+
+
+def written(form: tuple[str, ...], found: Mapping[str, Any], name: str = "") -> str:
+    """What stands at each place behind the first word, as it is written."""
+    return " ".join([name, *(before + kind.write(found[place]) for before, place, kind in places_of(form))]).strip()
 
 
 def filter_bytes(words: Sequence[str]) -> FilterBytes:
@@ -296,9 +392,9 @@ def filter_bytes(words: Sequence[str]) -> FilterBytes:
     return found
 
 
-def is_hexadecimal(text: str) -> bool:
-    """Whether all characters are lower-case hexadecimal digits."""
-    return not text.encode(errors="replace").translate(None, HEX_DIGITS)
+def filter_words(places: Iterable[tuple[int, Sequence[int]]]) -> list[str]:
+    """The bytes of a filter by their places, as they are written."""
+    return [f"{place}={value:02x}/{mask:02x}/{mode:02x}" for place, (value, mask, mode) in places]
 
 
 @lru_cache(65536)
@@ -311,8 +407,8 @@ def read_act(text: str) -> Act:
     if name not in ACTS:
         raise Wrong("an act: " + ", ".join(ACTS))
     is_section = name == "section"
-    # (that the readers of ACTS give what Act says isn't seen by the types)
-    act = cast("Act", read_places(name, ACTS[name], words[:4] if is_section else words))
+    # (that the kinds of ACTS give what Act says isn't seen by the types)
+    act = cast("Act", {"name": name, **read_form(ACTS[name], words[:4] if is_section else words, name)})
     if is_section:
         act["bytes"] = filter_bytes(words[4:])
     return act
@@ -323,19 +419,19 @@ def read_reply(text: str) -> Reply:
 
     The dict isn't to be changed.
     """
-    return read_data(text) if text.startswith("data ") else read_other_reply(text)
+    return {"name": "data", "length": data_length(text)} if text.startswith("data ") else read_other_reply(text)
 
 
-def read_data(text: str) -> Reply:
-    """The dict of a reply `data`."""
+def data_length(text: str) -> int:
+    """How many bytes a reply `data` has."""
     if text == "data -":
-        return {"name": "data", "length": 0}
+        return 0
     digits = text[5:]
     if not digits or len(digits) % 2 or not is_hexadecimal(digits):
         raise Wrong("two lower-case hexadecimal digits a byte")
     if len(digits) > 2 * MOST_BYTES:
         raise Wrong(f"at most {MOST_BYTES} bytes")
-    return {"name": "data", "length": len(digits) // 2}
+    return len(digits) // 2
 
 
 @lru_cache(65536)
@@ -344,8 +440,8 @@ def read_other_reply(text: str) -> Reply:
     name, *words = text.split(" ")
     if name not in REPLIES:
         raise Wrong("a reply: data, " + ", ".join(REPLIES))
-    # (that the readers of REPLIES give what Reply says isn't seen by the types)
-    return cast("Reply", read_places(name, REPLIES[name], words))
+    # (that the kinds of REPLIES give what Reply says isn't seen by the types)
+    return cast("Reply", {"name": name, **read_form(REPLIES[name], words, name)})
 
 
 # ------ what is asked of an entry
@@ -378,12 +474,17 @@ def node_name(node: int) -> str:
     return "dvr" if node == DVR else f"n{node}"
 
 
+def node_text(node: int) -> str:
+    """The node as a report writes it."""
+    return "dvr" if node == DVR else str(node)
+
+
 def node_of(name: str) -> int:
     """The node of a name: `n0` to `n31` or `dvr`, or as its device is called, `demux0` to `demux31` or `dvr0`."""
     return DVR if name in ("dvr", "dvr0") else number(re.sub("^(demux|n)", "", name), DVR - 1)
 
 
-# ------ lines
+# ------ the reader
 
 
 BEGINNING = 4096
@@ -409,14 +510,14 @@ def shown(text: str | None) -> str:
 class Lines:
     """The lines of a text; `text` is the one in hand without its line feed, or None behind the last."""
 
-    def __init__(self, file: TextIO) -> None:
-        self.file, self.line = file, 0
+    def __init__(self, lines: Iterable[str]) -> None:
+        self.lines, self.line = iter(lines), 0
         self.text: str | None = None
         self.go_on()
 
     def go_on(self) -> None:
         """Goes to the next line."""
-        line = self.file.readline()
+        line = next(self.lines, "")
         self.line += 1
         if line and not line.endswith("\n"):
             raise NotAReport(self.line, "a line feed at the end of the line", kind=instead(line[:BEGINNING]) if self.line == 1 else "")
@@ -435,30 +536,34 @@ class Lines:
         if not holds:
             raise self.wrong(what)
 
+    def beginning(self) -> str:
+        """The beginning of the text, where the first line is in hand."""
+        text = f"{self.text or ''}\n"
+        while len(text) < 2 * BEGINNING and (line := next(self.lines, "")):
+            text += line
+        return text
+
 
 def head_of(lines: Lines) -> tuple[int, int, int]:
     """The numbers of the stream's cutting."""
     if lines.behind("dvbemu ") is not None and lines.text != FORMAT:
         raise AnotherFormat(lines.line, f"`{FORMAT}`", shown(lines.text))
     if lines.text != FORMAT:
-        beginning = f"{lines.text or ''}\n"[:BEGINNING]
-        raise NotAReport(lines.line, f"`{FORMAT}`", shown(lines.text), instead(beginning + lines.file.read(BEGINNING)))
+        raise NotAReport(lines.line, f"`{FORMAT}`", shown(lines.text), instead(lines.beginning()))
     lines.go_on()
     if lines.text is None:
         raise lines.wrong("`packets=.. skipped=.. rest=..`")
-    found = read_places("", ("packets=", "skipped=", "rest="), lines.text.split(" "))
+    found = read_form(HEAD, lines.text.split(" "))
     lines.go_on()
     return found["packets"], found["skipped"], found["rest"]
 
 
-def pid_rows(lines: Lines) -> list[PidRow]:
+def pid_counts(lines: Lines) -> list[PidCount]:
     """The rows of the PIDs."""
-    rows: list[PidRow] = []
+    rows: list[PidCount] = []
     last = -1
     while (told := lines.behind("pid ")) is not None:
-        places = read_places("pid", ("pid", "packets=", "breaks=", "duplicates=", "errors="), told.split(" "))
-        del places["name"]
-        row = PidRow(**places)
+        row = PidCount(**read_form(PID, told.split(" "), "pid"))
         lines.want(last < row.pid <= LARGEST_PID, f"a PID above {last}, at most {LARGEST_PID}")
         lines.want(row.packets, "a PID that has a packet")
         last = row.pid
@@ -467,30 +572,31 @@ def pid_rows(lines: Lines) -> list[PidRow]:
     return rows
 
 
-def kind_of(words: list[str]) -> str:
-    """How a command ended: by one word, or by a system time counter."""
+def check_kind(words: Sequence[str]) -> None:
+    """Raises where no command ends so: by one word, or by a system time counter."""
     if words[0] == "stc":
-        read_places("stc", ("base=", "value="), words[1:])
+        read_form(STC, words[1:], "stc")
     else:
         one_of("done", "EMFILE", "unbound", "nostc", "stc base=.. value=..")(" ".join(words))
-    return " ".join(words)
 
 
-def outcomes_of(lines: Lines) -> list[Outcome]:
+def outcomes_of(lines: Lines) -> Rows[Outcome]:
     """The outcomes of one client's commands."""
-    found = []
-    while (told := lines.behind("line ")) is not None:
-        words = told.split(" ")
-        lines.want(len(words) > 3 and words[1] == "steps", "`line L steps A..B OUTCOME`")
-        first, after = span(words[2])
-        found.append(Outcome(number(words[0], BITS_32), first, after, kind_of(words[3:])))
+    found = Rows(Outcome.of)
+    while lines.text is not None and lines.text.startswith("line "):
+        words = lines.text.split(" ")
+        lines.want(len(words) > 4 and words[2] == "steps", "`line L steps A..B OUTCOME`")
+        span(words[3])
+        number(words[1], BITS_32)
+        check_kind(words[4:])
+        found.append(lines.text)
         lines.go_on()
     return found
 
 
-def clients_of(lines: Lines) -> list[list[Outcome]]:
+def clients_of(lines: Lines) -> list[Rows[Outcome]]:
     """The outcomes of each client, from client 0 on."""
-    found: list[list[Outcome]] = []
+    found: list[Rows[Outcome]] = []
     while lines.behind("client ") is not None:
         right = len(found) < CLIENTS and lines.text == f"client {len(found)}"
         lines.want(right, f"`client {len(found)}`" if len(found) < CLIENTS else "a node or the end, behind client 7")
@@ -499,10 +605,28 @@ def clients_of(lines: Lines) -> list[list[Outcome]]:
     return found
 
 
-def entry_of(text: str, place: int) -> Entry:
-    """The entry that a line is, at this place of its node."""
-    if (passed := PASSED.fullmatch(text)) and int(passed[1]) == place:
-        return Entry(place, "feed", int(passed[2]), passed[3], "passed")
+# What most entries of a long report are: batches, and reads and polls with their usual replies. What has a greater number is left to what reads
+# all other entries, as they are.
+N, C = r"(?:0|[1-9]\d{0,17})", r"(?:0|[1-9]\d{0,8})"
+COMMON = re.compile(
+    rf"({N}) (?:feed {N} pass input=frontend first={N} count={C} at={N} = passed|c[0-7] {N} (?:"
+    rf"read {C} at={N} = (?:data ([0-9a-f]+|-)|again ended=[01])|"
+    rf"poll at={N} = ready readable=[01] error=(?:none|overflow|timedout) at={N} ended=[01]))",
+    re.ASCII,
+)
+
+
+def is_common(text: str, place: int) -> bool:
+    """Whether a line is such an entry, at this place of its node."""
+    found = COMMON.fullmatch(text)
+    if found is None or int(found[1]) != place:
+        return False
+    digits = found[2] or "-"
+    return digits == "-" or len(digits) % 2 == 0 and len(digits) <= 2 * MOST_BYTES
+
+
+def check_entry(text: str, place: int) -> None:
+    """Raises where a line is no entry at this place of its node."""
     words = text.split(" ", 3)
     if len(words) < 4:
         raise Wrong(f"`{place} WHO STEP ACT = REPLY`")
@@ -517,24 +641,27 @@ def entry_of(text: str, place: int) -> Entry:
     answers = ANSWERS.get(asked, OTHER_ANSWERS)
     if answer not in answers:
         raise Wrong(f"a reply to `{asked}`: " + ", ".join(answers))
-    step = number(words[2])
+    number(words[2])
     if number(words[0]) != place:
         raise Wrong(f"`{place} WHO STEP ACT = REPLY`")
-    return Entry(place, words[1], step, act, reply)
 
 
-def entries_of(lines: Lines) -> list[Entry]:
+def entries_of(lines: Lines) -> Rows[Entry]:
     """The entries of one node."""
-    found: list[Entry] = []
+    found = Rows(Entry.of)
+    place = 0
     while lines.text is not None and lines.text[:1].isdigit():
-        found.append(entry_of(lines.text, len(found)))
+        if not is_common(lines.text, place):
+            check_entry(lines.text, place)
+        found.append(lines.text)
+        place += 1
         lines.go_on()
     return found
 
 
-def nodes_of(lines: Lines) -> dict[int, list[Entry]]:
+def nodes_of(lines: Lines) -> dict[int, Sequence[Entry]]:
     """The entries of each printed node, by its number."""
-    found: dict[int, list[Entry]] = {}
+    found: dict[int, Sequence[Entry]] = {}
     while (name := lines.behind("node ")) is not None:
         node = DVR if name == "dvr" else number(name, DVR - 1)
         lines.want(not found or node > max(found), f"a node behind {node_name(max(found, default=0))}")
@@ -544,33 +671,70 @@ def nodes_of(lines: Lines) -> dict[int, list[Entry]]:
     return found
 
 
-def read(file: TextIO) -> Report:
-    """The report that an open text file holds. Raises NotAReport where it holds none."""
-    lines = Lines(file)
+def read(text: Iterable[str]) -> Report:
+    """The report that the lines of a text are, or an open text file. Raises NotAReport where they are none."""
+    lines = Lines(text)
     try:
         packets, skipped, rest = head_of(lines)
-        rows = pid_rows(lines)
+        rows = pid_counts(lines)
         clients = clients_of(lines)
         nodes = nodes_of(lines)
     except Wrong as wrong:
         raise lines.wrong(str(wrong)) from None
     last = lines.text
-    lines.want(last in ("end", "fault read"), what_follows(rows, clients, nodes))
+    lines.want(last in ("end", "fault read"), what_follows(clients, nodes))
     lines.go_on()
     lines.want(lines.text is None, "nothing behind the last line")
     return Report(packets, skipped, rest, rows, clients, nodes, last == "fault read")
 
 
-def what_follows(rows: Sequence[PidRow], clients: Sequence[Sequence[Outcome]], nodes: dict[int, list[Entry]]) -> str:
+def what_follows(clients: Sequence[Sequence[Outcome]], nodes: Mapping[int, Sequence[Entry]]) -> str:
     """What may stand behind these parts, for a message."""
     if nodes:
         entry = f"`{len(nodes[max(nodes)])} WHO STEP ACT = REPLY`"
         return f"{entry}, `node ..`, `end` or `fault read`"
-    if clients:
-        return "`line ..`, `client ..`, `node ..`, `end` or `fault read`"
-    return "`pid ..`, `client ..`, `node ..`, `end` or `fault read`"
+    return f"`{'line' if clients else 'pid'} ..`, `client ..`, `node ..`, `end` or `fault read`"
 
 
 def text_of(file: BinaryIO) -> TextIO:
     """The text of a file of bytes: each byte is a character, and only 0x0A ends a line."""
     return io.TextIOWrapper(file, encoding="latin-1", newline="\n")
+
+
+# ------ the writer
+
+
+def head_lines(report: Report) -> Iterator[str]:
+    """The lines of a report on its stream, as all lines here with their line feeds."""
+    yield f"{FORMAT}\n{written(HEAD, report._asdict())}\n"
+    for row in report.pids:
+        yield written(PID, row._asdict(), "pid") + "\n"
+
+
+def client_lines(client: int, outcomes: Iterable[Outcome]) -> Iterator[str]:
+    """The lines of a client."""
+    yield f"client {client}\n"
+    for outcome in outcomes:
+        yield f"{outcome.text()}\n"
+
+
+def node_lines(node: int, entries: Iterable[Entry]) -> Iterator[str]:
+    """The lines of a node."""
+    yield f"node {node_text(node)}\n"
+    for entry in entries:
+        yield f"{entry.text()}\n"
+
+
+def last_line(report: Report) -> str:
+    """The last line of a report."""
+    return "fault read\n" if report.read_fault else "end\n"
+
+
+def write(report: Report) -> Iterator[str]:
+    """The text of a report, line by line."""
+    yield from head_lines(report)
+    for client, outcomes in enumerate(report.clients):
+        yield from client_lines(client, outcomes)
+    for node, entries in report.nodes.items():
+        yield from node_lines(node, entries)
+    yield last_line(report)

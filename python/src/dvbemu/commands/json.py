@@ -6,18 +6,12 @@ is told with its line, and the status is 1.
 from __future__ import annotations
 
 import gc
-import io
 import sys
-from typing import TYPE_CHECKING
 
 from .. import objects
 from .. import progress
 from .. import reports
 from .. import tool
-
-if TYPE_CHECKING:
-    from typing import BinaryIO, Iterator
-
 
 def command() -> tool.Command:
     """The command and its words."""
@@ -35,18 +29,6 @@ def command() -> tool.Command:
     return words
 
 
-def report_text(file: BinaryIO) -> str:
-    """The report that JSON Lines are. Raises NotAReport where it would be none."""
-    text = "".join(line + "\n" for line in objects.back(reports.text_of(file)))
-    reports.read(io.StringIO(text))
-    return text
-
-
-def lines_of(report: reports.Report) -> Iterator[str]:
-    """The JSON Lines that a report is."""
-    return (text + "\n" for text in objects.texts_of(report))
-
-
 def main() -> None:
     """Writes the one as the other."""
     gc.disable()  # what is made of a report stays until the end
@@ -54,8 +36,9 @@ def main() -> None:
     given = words.parse_args()
     try:
         with progress.reading(words, given.report, "writing") as file:
-            texts = [report_text(file)] if given.back else lines_of(reports.read(reports.text_of(file)))
+            text = reports.text_of(file)
+            report = reports.read(objects.back(text) if given.back else text)
     except (reports.NotAReport, objects.NoObjects, OSError) as wrong:
         words.fail_on(given.report, wrong)
     progress.clear()
-    sys.stdout.writelines(texts)
+    sys.stdout.writelines(reports.write(report) if given.back else (text + "\n" for text in objects.texts_of(report)))

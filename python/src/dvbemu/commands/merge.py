@@ -20,14 +20,14 @@ import sys
 from typing import TYPE_CHECKING, NamedTuple
 
 from .. import progress
+from .. import reports
 from .. import tool
+from ..reports import BITS_32, DVR, Entry, NotAReport, Outcome
 
 if TYPE_CHECKING:
     from typing import Iterable, Iterator, TextIO
 
-NODES = [*map(str, range(32)), "dvr"]
-# The greatest number of a line: commands behind so many have it too.
-LAST_LINE = 2**32 - 1
+NODES = {**{str(node): node for node in range(DVR)}, "dvr": DVR}
 
 
 class Torn(Exception):
@@ -35,15 +35,18 @@ class Torn(Exception):
 
 
 class Call(NamedTuple):
-    """A call: where and by whom it was made, the call itself, its reply, and the report's line of it."""
+    """A call: its node, and its entry there."""
 
-    node: str
-    place: int
-    who: str
-    step: int
-    act: str
-    reply: str
-    text: str
+    node: int
+    entry: Entry
+
+    def is_search(self) -> bool:
+        """Whether it looks for a free demux node."""
+        return self.entry.act == "open" and self.node != DVR
+
+    def finds_none(self) -> bool:
+        """Whether it looks for one, and finds this one taken."""
+        return self.is_search() and self.entry.reply.startswith("busy ")
 
 
 def opened(path: str) -> TextIO:
@@ -63,56 +66,51 @@ def calls_in(path: str) -> Iterator[Call]:
     """The calls of a seat, in their order."""
     with opened(path) as file:
         for step, line in enumerate(file):
-            found = re.fullmatch(r"(\d+|dvr) ((\d+) (c\d+) (\d+) (.*?) = (.*)\n)", line)
-            if not found or found[1] not in NODES or int(found[5]) != step:
+            found = re.fullmatch(r"(\d+|dvr) (\d+) (c\d+) (\d+) (.*?) = (.*)\n", line)
+            if not found or found[1] not in NODES or int(found[4]) != step:
                 raise Torn(f"{path}: line {step + 1} isn't call {step}")
-            yield Call(found[1], int(found[3]), found[4], step, found[6], found[7], found[2])
+            yield Call(NODES[found[1]], Entry(int(found[2]), found[3], step, found[5], found[6]))
 
 
-def batches_in(path: str, count: int) -> Iterator[str]:
-    """The lines of the feeder without their places, which has passed so many packets, the end of the stream last."""
-    step, packets = 0, 0
+def passes_in(path: str, count: int) -> Iterator[str]:
+    """The acts of the feeder, which has passed so many packets, the end of the stream last."""
+    packets = 0
     with opened(path) as file:
-        for line in file:
+        for number, line in enumerate(file, 1):
             found = re.fullmatch(r"(\d+) (\d+) (\d+)\n", line)
             if not found or int(found[1]) != packets:
-                raise Torn(f"{path}: line {step + 1} isn't the batch behind {packets} packets")
-            yield f"feed {step} pass input=frontend first={found[1]} count={found[2]} at={found[3]} = passed\n"
-            step, packets = step + 1, packets + int(found[2])
+                raise Torn(f"{path}: line {number} isn't the batch behind {packets} packets")
+            yield f"pass input=frontend first={found[1]} count={found[2]} at={found[3]}"
+            packets += int(found[2])
     if packets != count:
         raise Torn(f"{path} tells of {packets} packets, and the stream had {count}")
-    yield f"feed {step} end = passed\n"
-
-
-def is_search(call: Call) -> bool:
-    """Whether a call looks for a free demux node."""
-    return call.act == "open" and call.node != "dvr"
+    yield "end"
 
 
 def goes_on(last: Call, call: Call) -> bool:
     """Whether a call belongs to the command of the one before it."""
-    if call.act.startswith(("attach ", "detach ")):
+    if call.entry.act.startswith(("attach ", "detach ")):
         return True
-    return is_search(call) and is_search(last) and last.reply.startswith("busy ") and int(call.node) == int(last.node) + 1
+    return call.is_search() and last.finds_none() and call.node == last.node + 1
 
 
-def commands_of(calls: Iterable[Call]) -> Iterator[tuple[int, int, str]]:
-    """The commands of a client: the step of the first call, the one behind the last, and how it ended."""
-    first = 0
-    last: Call | None = None
+def commands_of(calls: Iterable[Call]) -> Iterator[list[Call]]:
+    """The calls of each command of a client."""
+    command: list[Call] = []
     for call in calls:
-        if last is None or not goes_on(last, call):
-            if last is not None:
-                yield first, call.step, ended(last)
-            first = call.step
-        last = call
-    if last is not None:
-        yield first, last.step + 1, ended(last)
+        if command and not goes_on(command[-1], call):
+            yield command
+            command = []
+        command.append(call)
+    if command:
+        yield command
 
 
-def ended(last: Call) -> str:
-    """How a command ended whose last call this is."""
-    return "EMFILE" if is_search(last) and last.reply.startswith("busy ") else "done"
+def outcomes_of(calls: Iterable[Call]) -> Iterator[Outcome]:
+    """What became of the commands of a client. Those behind the greatest number of a line have it too."""
+    for line, (first, *others) in enumerate(commands_of(calls), 1):
+        last = others[-1] if others else first
+        yield Outcome(min(line, BITS_32), first.entry.step, last.entry.step + 1, "EMFILE" if last.finds_none() else "done")
 
 
 class Folder:
@@ -122,82 +120,71 @@ class Folder:
         self.batches, head = os.path.join(path, "batches"), os.path.join(path, "head")
         self.read, self.written = 0, 0
         self.files: dict[str, str] = {}
-        self.called: set[str] = set()
-        self.node: str | None = None
+        self.called: set[int] = set()
+        self.node: int | None = None
         progress.show_beside("dvbemu merge", self.how_far)
         if not os.path.isdir(path):
             raise Torn(f"{path}: {'it is no folder' if os.path.exists(path) else 'No such file or directory'}")
         if not os.path.exists(head):
             raise Torn(f"{path} has no file `head`: the server hasn't ended, or this is no folder of one")
-        with opened(head) as file:
-            *self.head, self.end = file.readlines() or [""]
-        packets = re.match(r"dvbemu 1\npackets=(\d+) ", "".join(self.head))
-        if not packets or self.end not in ("end\n", "fault read\n"):
-            raise Torn(f"{head} isn't whole")
-        self.packets = int(packets[1])
+        try:
+            with opened(head) as file:
+                self.stream = reports.read(file)
+        except NotAReport:
+            raise Torn(f"{head} isn't whole") from None
         paths = glob.glob(os.path.join(glob.escape(path), "*.calls"))
         for name in paths:
             self.take(name)
-        self.clients = len(paths)
+        self.clients = max([len(paths), *(int(who[1:]) + 1 for who in self.files)])
 
     def take(self, path: str) -> None:
         """Looks who has made the calls of a file, and on which nodes."""
-        for call in calls_in(path):
-            if self.files.setdefault(call.who, path) != path:
-                raise Torn(f"{path}: {call.who} has made the calls of {self.files[call.who]}")
-            self.called.add(call.node)
+        for node, entry in calls_in(path):
+            if self.files.setdefault(entry.who, path) != path:
+                raise Torn(f"{path}: {entry.who} has made the calls of {self.files[entry.who]}")
+            self.called.add(node)
             self.read += 1
 
     def how_far(self) -> str:
         """How far it is."""
         if self.node is None:
             return f"{self.read:,} calls read"
-        return f"{self.read:,} calls read, {self.written:,} entries written, node {self.node}"
+        return f"{self.read:,} calls read, {self.written:,} entries written, node {reports.node_text(self.node)}"
 
-    def commands(self) -> Iterator[str]:
-        """The lines of the clients with their commands."""
-        for number in range(max([self.clients, *(int(who[1:]) + 1 for who in self.files)])):
-            yield f"client {number}\n"
-            path = self.files.get(f"c{number}")
-            calls = calls_in(path) if path else []
-            for line, (first, behind, kind) in enumerate(commands_of(calls), 1):
-                yield f"line {min(line, LAST_LINE)} steps {first}..{behind} {kind}\n"
+    def outcomes(self, client: int) -> Iterable[Outcome]:
+        """What became of the commands of a client, of whom there may be no call."""
+        path = self.files.get(f"c{client}")
+        return outcomes_of(calls_in(path)) if path else ()
 
-    def history(self, node: str) -> Iterator[str]:
-        """The lines of a node: each call at its place, and the feeder's at all others."""
-        self.node = node
-        yield f"node {node}\n"
-        own = heapq.merge(*(((call.place, call.text) for call in calls_in(path) if call.node == node) for path in self.files.values()))
-        passed, place = batches_in(self.batches, self.packets), 0
-        for at, text in own:
-            while place < at:
-                yield f"{place} {self.next_of(passed, node, place)}"
+    def history(self, node: int) -> Iterator[Entry]:
+        """The entries of a node: each call at its place, and the feeder's at all others."""
+        own = heapq.merge(*((call.entry for call in calls_in(path) if call.node == node) for path in self.files.values()))
+        passes, place = enumerate(passes_in(self.batches, self.stream.packets)), 0
+        for entry in own:
+            while place < entry.place:
+                step, act = next(passes, (0, ""))
+                if not act:
+                    raise Torn(f"node {reports.node_text(node)}: no file has the call at place {place}")
+                yield Entry(place, "feed", step, act, "passed")
                 place += 1
-            if place != at:
-                raise Torn(f"node {node}: two calls at place {at}")
-            yield text
+            if place != entry.place:
+                raise Torn(f"node {reports.node_text(node)}: two calls at place {entry.place}")
+            yield entry
             place += 1
-        for place, text in enumerate(passed, place):
-            yield f"{place} {text}"
-
-    @staticmethod
-    def next_of(passed: Iterator[str], node: str, place: int) -> str:
-        """The feeder's next line, where no client's call is told."""
-        try:
-            return next(passed)
-        except StopIteration:
-            raise Torn(f"node {node}: no file has the call at place {place}") from None
+        for place, (step, act) in enumerate(passes, place):
+            yield Entry(place, "feed", step, act, "passed")
 
     def report(self) -> Iterator[str]:
         """The lines of the report."""
-        yield from self.head
-        yield from self.commands()
-        for node in NODES:
-            if node in self.called:
-                for line in self.history(node):
-                    self.written += 1
-                    yield line
-        yield self.end
+        yield from reports.head_lines(self.stream)
+        for client in range(self.clients):
+            yield from reports.client_lines(client, self.outcomes(client))
+        for node in sorted(self.called):
+            self.node = node
+            for line in reports.node_lines(node, self.history(node)):
+                self.written += 1
+                yield line
+        yield reports.last_line(self.stream)
 
 
 def command() -> tool.Command:

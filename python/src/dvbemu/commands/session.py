@@ -11,105 +11,76 @@ writes, in place of the session, the report with the line numbers of that script
 """
 from __future__ import annotations
 
-import re
 import sys
 from typing import TYPE_CHECKING, NamedTuple
 
 from ..explain import played
+from .. import naming
+from .. import reports
 from .. import tool
+from ..reports import DVR, act_of, moment
 
 if TYPE_CHECKING:
-    from typing import Iterable, Iterator, Mapping, Sequence, Tuple
+    from typing import Iterable, Iterator, Tuple
+
+    from ..reports import Entry, Outcome, Report
 
     # A call's client and step.
     Key = Tuple[str, int]
 
 
-HEAD = re.compile(r"packets=(\d+) skipped=(\d+) rest=(\d+)$")
-PID_ROW = re.compile(r"pid (\d+) packets=(\d+) ")
 NODES = 32
 
 
 class Command(NamedTuple):
-    """A command of a client: its first act, that act's node, and the keys of its calls, which are client and step."""
+    """A command of a client: its first call and that one's node, and the keys of its calls, which are client and step."""
 
-    who: str
-    node: str
-    act: str
+    first: Entry
+    node: int
     calls: list[Key]
 
+    def is_search(self) -> bool:
+        """Whether it looks for a free demux node."""
+        return self.first.act == "open" and self.node != DVR
 
-class Histories(NamedTuple):
-    """The entries of each node: client and step of a call, and None for a pass; the node and the act of each call; the calls that find
-    a node taken; and the passes."""
-
-    nodes: dict[str, list[Key | None]]
-    acts: dict[Key, tuple[str, str]]
-    busy: set[Key]
-    passes: list[str]
-
-
-def line_of(command: Command) -> str:
-    """The command as a line of a script. An open of a demux node looked for a free one."""
-    target = command.node if command.node == "dvr" else f"n{command.node}"
-    words = [word for word in command.act.split(" ") if not word.startswith("at=")]
-    fields = dict(word.split("=", 1) for word in words[1:] if re.match("[a-z]", word))
-    matches = [word for word in words[1:] if not re.match("[a-z]", word)]
-    rest = words[1:]
-    if words[0] == "open" and command.node != "dvr":
-        target = "h0"
-    elif words[0] == "section":
-        rest = [fields["pid"], fields["timeout"], fields["flags"], *matches]
-    elif words[0] == "pes":
-        rest = [fields[name] for name in ("pid", "input", "output", "type", "flags")]
-    return " ".join([command.who, words[0], target, *rest])
-
-
-def histories_in(lines: Iterable[str]) -> Histories:
-    """The histories of the nodes in a report."""
-    found, node, passes = Histories({}, {}, set(), []), None, {}
-    for text in lines:
-        entry = re.match(r"\d+ (\w+) (\d+) (.*?) = ", text)
-        if text.startswith("node "):
-            node = text[5:]
-            found.nodes[node] = []
-        elif node is not None and entry and entry[1] == "feed":
-            found.nodes[node].append(None)
-            passes[int(entry[2])] = entry[3]
-        elif node is not None and entry:
-            key = entry[1], int(entry[2])
-            found.nodes[node].append(key)
-            found.acts[key] = (node, entry[3])
-            if text.startswith("busy ", entry.end()):
-                found.busy.add(key)
-    return found._replace(passes=[passes[number] for number in sorted(passes)])
-
-
-def commands_in(lines: Iterable[str], acts: Mapping[Key, tuple[str, str]]) -> dict[str, list[Command]]:
-    """The commands of each client."""
-    queues: dict[str, list[Command]] = {}
-    who = ""
-    for text in lines:
-        outcome = re.match(r"line \d+ steps (\d+)\.\.(\d+) ", text)
-        if text.startswith("client "):
-            who = f"c{text[7:]}"
-        elif outcome:
-            calls = [(who, step) for step in range(int(outcome[1]), int(outcome[2]))]
-            queues.setdefault(who, []).append(Command(who, *acts[calls[0]], calls))
-    return queues
+    def line(self) -> str:
+        """The command as a line of a script."""
+        target = "h0" if self.is_search() else reports.node_name(self.node)
+        return naming.command_text(self.first.who, target, act_of(self.first))
 
 
 class Order:
-    """Puts commands and passes into an order: how far each node, each client and the stream is."""
+    """Puts commands and passes into an order: how far each node, each client and the stream is. `nodes` has the calls of each node, and None
+    for a pass; `calls` the entry of each call and its node; `busy` those that find a node taken."""
 
-    def __init__(self, lines: Sequence[str]) -> None:
-        self.nodes, self.acts, self.busy, self.passes = histories_in(lines)
-        self.queues = commands_in(lines, self.acts)
+    def __init__(self, report: Report) -> None:
+        self.nodes: dict[int, list[Key | None]] = {}
+        self.calls: dict[Key, tuple[Entry, int]] = {}
+        self.busy: set[Key] = set()
+        passes: dict[int, Entry] = {}
+        for node, entries in report.nodes.items():
+            keys = self.nodes[node] = []
+            for entry in entries:
+                key = entry.who, entry.step
+                if entry.who == "feed":
+                    passes[entry.step] = entry
+                else:
+                    self.calls[key] = entry, node
+                if entry.reply.startswith("busy "):
+                    self.busy.add(key)
+                keys.append(None if entry.who == "feed" else key)
+        self.passes = [passes[step] for step in sorted(passes)]
+        self.queues = {f"c{number}": self.commands_of(f"c{number}", outcomes) for number, outcomes in enumerate(report.clients) if outcomes}
         self.done, self.fed, self.early, self.overtaking = dict.fromkeys(self.nodes, 0), 0, 0, 0
 
-    def node_of(self, call: Key) -> str:
+    def commands_of(self, who: str, outcomes: Iterable[Outcome]) -> list[Command]:
+        """The commands of a client."""
+        steps = [[(who, step) for step in range(outcome.first, outcome.after)] for outcome in outcomes]
+        return [Command(*self.calls[calls[0]], calls) for calls in steps]
+
+    def node_of(self, call: Key) -> int:
         """The node of a call."""
-        return self.acts[call][0]
+        return self.calls[call][1]
 
     def is_next(self, command: Command) -> bool:
         """Whether each call of a command is the next one on its node."""
@@ -171,13 +142,13 @@ class Order:
             self.done[node] += 1
         self.fed += 1
 
-    def steps(self) -> Iterator[Command | str]:
-        """The commands, and in between the acts of passes."""
+    def steps(self) -> Iterator[Command | Entry]:
+        """The commands, and in between the passes."""
         while any(self.queues.values()):
             ready = next((who for who, queue in self.queues.items() if queue and self.is_next(queue[0])), None)
             if ready is None and (command := self.crossed()):
                 self.come_first(command)
-                ready = command.who
+                ready = command.first.who
             if ready is None:
                 self.feed()
                 yield self.passes[self.fed - 1]
@@ -185,76 +156,52 @@ class Order:
                 yield self.queues[ready].pop(0)
 
 
-def moment_in(act: str) -> int | None:
-    """The moment of an act, if it has one."""
-    found = re.search(r"\bat=(\d+)", act)
-    return int(found[1]) if found else None
-
-
-def packets_in(act: str) -> int:
-    """How many packets pass. The end of the stream passes where one is wanted that isn't there."""
-    found = re.search(r"\bcount=(\d+)", act)
-    return int(found[1]) if found else 1
-
-
-def script_of(lines: Sequence[str]) -> tuple[list[str], dict[str, list[int]]]:
+def script_of(order: Order) -> tuple[list[str], dict[str, list[int]]]:
     """The lines of the script, and the number of the line of each client's commands."""
-    order = Order(lines)
-    timed = any(re.match(r"section pid=\d+ timeout=[1-9]", act) for _, act in order.acts.values())
+    is_timed = any(act_of(entry).get("timeout") for entry, _ in order.calls.values() if entry.act.startswith("section "))
     script: list[str] = []
     numbers: dict[str, list[int]] = {}
     now = None
     for step in order.steps():
-        moment = moment_in(step if isinstance(step, str) else step.act) if timed else None
-        if moment is not None and now is not None and moment > now:
-            script.append(f"tick {moment - now}")
-        now = max(now or 0, moment) if moment is not None else now
-        if isinstance(step, str):
+        at = moment(step.first if isinstance(step, Command) else step) if is_timed else None
+        if at is not None and now is not None and at > now:
+            script.append(f"tick {at - now}")
+        now = max(now or 0, at) if at is not None else now
+        if isinstance(step, Command):
+            script.append(step.line())
+            numbers.setdefault(step.first.who, []).append(len(script))
+        else:
+            # (the end of the stream passes where a packet is wanted that isn't there)
             before = int(script.pop()[5:]) if script and script[-1].startswith("feed ") else 0
-            script.append(f"feed {before + packets_in(step)}")
-            continue
-        script.append(line_of(step))
-        numbers.setdefault(step.who, []).append(len(script))
-    if order.early:
-        print(f"dvbemu session: {order.early} passes of a node come earlier than they did", file=sys.stderr)
-    if order.overtaking:
-        print(f"dvbemu session: {order.overtaking} calls of a node come earlier than they did", file=sys.stderr)
+            script.append(f"feed {before + act_of(step).get('count', 1)}")
+    for count, what in (order.early, "passes"), (order.overtaking, "calls"):
+        if count:
+            print(f"dvbemu session: {count} {what} of a node come earlier than they did", file=sys.stderr)
     return script, numbers
 
 
-def rewritten(lines: Iterable[str], numbers: dict[str, list[int]]) -> list[str]:
-    """The report with the line numbers of the script."""
-    last, told, who = max((int(who[1:]) for who in numbers), default=-1), [], ""
-    for text in lines:
-        outcome = re.match(r"line \d+ (steps .*)", text)
-        if text.startswith("client "):
-            who = f"c{text[7:]}"
-            # (the clients behind the last that called are none of the script's)
-            if int(text[7:]) > last:
-                continue
-        told.append(f"line {numbers[who].pop(0)} {outcome[1]}" if outcome else text)
-    return told
+def rewritten(report: Report, numbers: dict[str, list[int]]) -> Report:
+    """The report with the line numbers of the script, which doesn't have the clients behind the last that called."""
+    last = max((int(who[1:]) for who in numbers), default=-1)
+    lines = [numbers.get(f"c{client}", []) for client in range(last + 1)]
+    clients = [[outcome._replace(line=line) for outcome, line in zip(*pair)] for pair in zip(report.clients, lines)]
+    return report._replace(clients=clients)
 
 
-def why_not_served(lines: Iterable[str], order: Order) -> str | None:
+def why_not_served(report: Report, order: Order) -> str | None:
     """Why a report is none of `serve`; nothing where it may be one. There each client counts its commands from 1, and each of them is one call
     with what that changes of the taps, or opens demux0 and looks for a free node."""
-    numbers = []
-    for text in lines:
-        if outcome := re.match(r"line (\d+) ", text):
-            numbers.append(int(outcome[1]))
-            if numbers[-1] != len(numbers):
-                return f"each client counts its commands from 1, and `line {outcome[1]}` stands where `line {len(numbers)}` would"
-        elif text.startswith("client "):
-            numbers = []
+    counted = (pair for outcomes in report.clients for pair in enumerate((outcome.line for outcome in outcomes), 1))
+    if wrong := next(((number, line) for number, line in counted if number != line), None):
+        return f"each client counts its commands from 1, and `line {wrong[1]}` stands where `line {wrong[0]}` would"
     for command in (command for queue in order.queues.values() for command in queue):
-        calls = [call for call in command.calls if not order.acts[call][1].startswith(("attach ", "detach "))]
-        is_search = [order.node_of(call) for call in calls] == list(map(str, range(len(calls)))) and order.busy.issuperset(calls[:-1])
-        if command.act == "open" and command.node != "dvr":
-            if not is_search or calls[-1] in order.busy and len(calls) < NODES:
-                return f"an open of demux0 by {command.who} doesn't look for the first free node"
+        calls = [call for call in command.calls if not order.calls[call][0].act.startswith(("attach ", "detach "))]
+        is_first = [order.node_of(call) for call in calls] == list(range(len(calls))) and order.busy.issuperset(calls[:-1])
+        if command.is_search():
+            if not is_first or calls[-1] in order.busy and len(calls) < NODES:
+                return f"an open of demux0 by {command.first.who} doesn't look for the first free node"
         elif len(calls) > 1:
-            return f"a command of {command.who} makes {len(calls):,} calls"
+            return f"a command of {command.first.who} makes {len(calls):,} calls"
     return None
 
 
@@ -275,27 +222,25 @@ def command() -> tool.Command:
     return words
 
 
-def lines_of(words: tool.Command, name: str) -> list[str]:
-    """The lines of a report that a session can be made of."""
-    report = words.bytes_of(name)
-    lines = report.decode("latin-1").split("\n")
-    head = HEAD.match(lines[1]) if len(lines) > 1 else None
-    whole = lines[-1] == "" and lines[-2:-1] in (["end"], ["fault read"])
-    if lines[0] != "dvbemu 1" or not head or not report.isascii():
-        words.fail(f"{name}: it is no report: its first line isn't `dvbemu 1`" if lines[0] != "dvbemu 1" else f"{name}: it is no report")
-    if not whole:
-        words.fail(f"{name}: the report isn't whole: its last line is no `end`")
-    if any(" pass input=dvr " in text for text in lines):
-        words.fail(f"{name}: a client has written, and a report doesn't tell which bytes")
-    return lines
-
-
-def packets_of(words: tool.Command, lines: Sequence[str], name: str) -> Iterable[bytes]:
-    """The packets that were played."""
-    counts = {int(found[1]): int(found[2]) for found in map(PID_ROW.match, lines) if found}
-    all_packets, skipped, rest = map(int, re.findall(r"\d+", lines[1]))
+def report_in(words: tool.Command, name: str) -> Report:
+    """A report that a session can be made of."""
     try:
-        return played.of_recording(words.bytes_of(name), (all_packets, skipped, rest), counts)
+        with words.opened(name) as file:
+            report = reports.read(reports.text_of(file))
+    except reports.NotAReport as wrong:
+        words.fail_on(name, f"it is no report: {wrong}")
+    except OSError as fault:
+        words.fail_on(name, fault)
+    if any(entry.act.startswith("pass input=dvr ") for entries in report.nodes.values() for entry in entries):
+        words.fail_on(name, "a client has written, and a report doesn't tell which bytes")
+    return report
+
+
+def packets_of(words: tool.Command, report: Report, name: str) -> Iterable[bytes]:
+    """The packets that were played."""
+    counts = {row.pid: row.packets for row in report.pids}
+    try:
+        return played.of_recording(words.bytes_of(name), report[:3], counts)
     except played.NotPlayed as wrong:
         return words.fail_on(name, wrong)
 
@@ -304,16 +249,17 @@ def main() -> None:
     """Writes the session, or the report."""
     words = command()
     given = words.parse_args()
-    lines = lines_of(words, given.report_file)
-    packets = () if given.report else packets_of(words, lines, given.stream)
+    report = report_in(words, given.report_file)
+    packets = () if given.report else packets_of(words, report, given.stream)
     try:
-        if why := why_not_served(lines, Order(lines)):
-            words.fail(f"{given.report_file}: it is no report of `serve`: {why}")
-        script, numbers = script_of(lines)
+        order = Order(report)
+        if why := why_not_served(report, order):
+            words.fail_on(given.report_file, f"it is no report of `serve`: {why}")
+        script, numbers = script_of(order)
     except (KeyError, ValueError, IndexError):
-        words.fail(f"{given.report_file}: its entries aren't those of a report; `dvbemu explain` says more")
+        words.fail_on(given.report_file, "its entries aren't those of a report; `dvbemu explain` says more")
     if given.report:
-        sys.stdout.write("\n".join(rewritten(lines, numbers)))
+        sys.stdout.writelines(reports.write(rewritten(report, numbers)))
         return
     out = sys.stdout.buffer
     out.write("".join(line + "\n" for line in script).encode() + b"stream\n")

@@ -9,7 +9,7 @@ from ..reports import DVR
 from ..psi.tables import read
 
 if TYPE_CHECKING:
-    from typing import Optional, Tuple
+    from typing import Optional, Sequence, Tuple
 
     from ..reports import Entry, Outcome, Reply
     from .story import Node
@@ -113,7 +113,7 @@ class Waits:
 class Client:
     """What one client asked and got."""
 
-    def __init__(self, number: int, outcomes: list[Outcome]) -> None:
+    def __init__(self, number: int, outcomes: Sequence[Outcome]) -> None:
         self.number, self.outcomes = number, outcomes
         calling = [outcome for outcome in outcomes if outcome.first < outcome.after]
         self.firsts, self.lines = [outcome.first for outcome in calling], [outcome.line for outcome in calling]

@@ -15,7 +15,7 @@ from ..psi.fields import pid_name
 from .walk import Answered, Walk
 
 if TYPE_CHECKING:
-    from typing import Mapping, Tuple
+    from typing import Mapping, Sequence, Tuple
 
     from ..reports import Act, Entry, Reply
 
@@ -128,7 +128,7 @@ class History(Walk):
     """A node's captures, its size behind each entry, and the least and the most bytes that may be unread behind each entry (None
     where nothing tells them)."""
 
-    def __init__(self, node: int, entries: list[Entry]) -> None:
+    def __init__(self, node: int, entries: Sequence[Entry]) -> None:
         super().__init__(node)
         self.entries = entries
         self.capture: Capture | None = None

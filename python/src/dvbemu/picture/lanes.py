@@ -38,7 +38,7 @@ class Filled(NamedTuple):
 class Lane:
     """The picture of one node, from the height y on. What it uses of the legend is in `used`."""
 
-    def __init__(self, node: int, entries: list[Entry], axis: Axis, y: float) -> None:
+    def __init__(self, node: int, entries: Sequence[Entry], axis: Axis, y: float) -> None:
         self.name = reports.node_name(node)
         self.node, self.entries, self.axis, self.y = node, entries, axis, y
         self.used: set[str] = set()
