@@ -4,6 +4,7 @@ import json
 import os
 import shutil
 import subprocess
+import sys
 import tempfile
 
 NAMES = "chromium", "chromium-browser", "google-chrome"
@@ -11,6 +12,14 @@ WORDS = (
     "--headless=new", "--no-sandbox", "--disable-gpu", "--disable-dev-shm-usage", "--no-first-run", "--disable-extensions",
     "--disable-background-networking", "--hide-scrollbars", "--remote-debugging-pipe",
 )  # fmt: skip
+
+# Runs a command with two descriptors, which are named first, as 3 and 4.
+AS_3_AND_4 = """\
+import fcntl, os, sys
+for place, number in enumerate([fcntl.fcntl(int(word), fcntl.F_DUPFD, 10) for word in sys.argv[1:3]], 3):
+    os.dup2(number, place)
+os.execvp(sys.argv[3], sys.argv[3:])
+"""
 
 
 def found():
@@ -26,7 +35,7 @@ class Browser:
         theirs, self.out = os.pipe()
         self.back, given = os.pipe()
         words = [found(), *WORDS, f"--user-data-dir={self.folder.name}", "about:blank"]
-        self.process = subprocess.Popen(["sh", "-c", f'exec "$@" 3<&{theirs} 4>&{given}', "sh", *words], pass_fds=(theirs, given),
+        self.process = subprocess.Popen([sys.executable, "-c", AS_3_AND_4, str(theirs), str(given), *words], pass_fds=(theirs, given),
                                         stderr=subprocess.DEVNULL, stdout=subprocess.DEVNULL)  # fmt: skip
         os.close(theirs)
         os.close(given)
