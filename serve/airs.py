@@ -25,7 +25,7 @@ UNBUILT = """import sys
 from dvbemu import build
 build.build_preload = build.built_server = lambda: sys.exit("built")
 from dvbemu.cli import begin
-begin("", "serve", *sys.argv[1:])
+begin("serve", *sys.argv[1:])
 """
 
 

@@ -1,4 +1,4 @@
-"""Starts the command line: `python3 -S python/src/__main__.py WORD ..`, as the shell script `dvbemu` does."""
+"""Starts the command line: `python3 -S python/src WORD ..`, as the shell script `dvbemu` does."""
 import sys
 
 from dvbemu.cli import begin

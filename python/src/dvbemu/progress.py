@@ -80,45 +80,10 @@ def bytes_text(count: int) -> str:
     return f"{count / 1e6:,.1f} MB" if count >= 100_000 else many(count, "byte")
 
 
-def read_text(count: int, size: int | None, has_ended: bool, what: str) -> str:
-    """How many bytes are read, of so many where their number is known; behind the last what is done then."""
-    if has_ended:
-        return f"{bytes_text(count)} read, {what} .."
-    return f"{bytes_text(count)}{f' of {bytes_text(size)}' if size else ''} read"
-
-
-class Counted(io.FileIO):
-    """An open file whose bytes are counted as they are read."""
-
-    def __init__(self, file: BinaryIO) -> None:
-        super().__init__(file.fileno(), closefd=False)
-        self.file, self.count, self.has_ended = file, 0, False
-        status = os.fstat(file.fileno())
-        self.size = status.st_size if stat.S_ISREG(status.st_mode) else None
-
-    def readinto(self, buffer: WriteableBuffer) -> int | None:
-        """Reads, and counts."""
-        count = super().readinto(buffer)
-        self.count, self.has_ended = self.count + (count or 0), not count
-        return count
-
-
-def reading(words: Command, name: str | None, what: str) -> BinaryIO:
-    """The file of this name, or standard input, as `words.opened` gives it, with a line that tells how far its reading is, and that `what` is
-    done behind it."""
-    file = words.opened(name)
-    if not is_terminal(sys.stderr):
-        return file
-    counted = Counted(file)
-    show(words.teller, lambda: read_text(counted.count, counted.size, counted.has_ended, what))
-    return io.BufferedReader(counted, 1 << 20)
-
-
 class Work:
-    """Work in parts over the files of `inputs.opened`: how far their reading is, and behind that what is done, and at which of so many
-    lines."""
+    """Work in parts over files: how far their reading is, and behind that what is done, and at which of so many lines."""
 
-    def __init__(self, files: Sequence[Input], what: str) -> None:
+    def __init__(self, files: Sequence[Input | Counted], what: str) -> None:
         self.files, self.what, self.has_read, self.line, self.last = files, what, False, 0, 0
 
     def begin(self, what: str) -> None:
@@ -133,5 +98,34 @@ class Work:
         """How far it is."""
         if self.line:
             return f"{self.what}: line {self.line:,} of {self.last:,}"
-        sizes = [file.size for file in self.files]
-        return read_text(sum(file.taken for file in self.files), 0 if None in sizes else sum(filter(None, sizes)), self.has_read, self.what)
+        taken, sizes = bytes_text(sum(file.taken for file in self.files)), [file.size for file in self.files]
+        if self.has_read:
+            return f"{taken} read, {self.what} .."
+        return taken + ("" if None in sizes else f" of {bytes_text(sum(filter(None, sizes)))}") + " read"
+
+
+class Counted(io.FileIO):
+    """An open file whose bytes are counted as they are read, and what is told of that."""
+
+    def __init__(self, file: BinaryIO, what: str) -> None:
+        super().__init__(file.fileno(), closefd=False)
+        status = os.fstat(file.fileno())
+        self.file, self.taken, self.size = file, 0, status.st_size if stat.S_ISREG(status.st_mode) else None
+        self.work = Work([self], what)
+
+    def readinto(self, buffer: WriteableBuffer) -> int | None:
+        """Reads, and counts."""
+        count = super().readinto(buffer)
+        self.taken, self.work.has_read = self.taken + (count or 0), not count
+        return count
+
+
+def reading(words: Command, name: str | None, what: str) -> BinaryIO:
+    """The file of this name, or standard input, as `words.opened` gives it, with a line that tells how far its reading is, and that `what` is
+    done behind it."""
+    file = words.opened(name)
+    if not is_terminal(sys.stderr):
+        return file
+    counted = Counted(file, what)
+    show(words.teller, counted.work.text)
+    return io.BufferedReader(counted, 1 << 20)

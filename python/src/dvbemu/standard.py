@@ -8,7 +8,6 @@ import io
 import os
 import select
 import signal
-import stat
 import sys
 from typing import TYPE_CHECKING
 
@@ -21,7 +20,7 @@ if TYPE_CHECKING:
 
 
 READ_WRONG, WRITE_FAULT, NO_MEMORY, INTERNAL = 1, 6, 7, 70
-# Where the wrapper keeps a folder that is standard input, with which Python doesn't begin, and the setting that says so.
+# Where the shell script keeps a folder that is standard input, with which Python doesn't begin, and the setting that says so.
 FOLDER, FOLDER_SET = 9, "DVBEMU_FOLDER"
 
 
@@ -84,14 +83,6 @@ def hold() -> None:
             os.open(os.devnull, mode)
     sys.stdout = text_of(Output(1), sys.stdout, "surrogateescape")
     sys.stderr = text_of(Errors(2), sys.stderr, "backslashreplace")
-
-
-def hide_folder() -> None:
-    """Keeps a folder that is standard input for another Python, as which this process goes on."""
-    if stat.S_ISDIR(os.fstat(0).st_mode):
-        os.dup2(0, FOLDER)
-        os.dup2(os.open(os.devnull, os.O_RDONLY), 0)
-        os.environ[FOLDER_SET] = str(FOLDER)
 
 
 def reader_is_gone() -> bool:
