@@ -56,7 +56,7 @@ TYPING = """\
 zmodload zsh/zpty
 zpty z "zsh -i"
 zpty -w -n z $'dvbemu @\\n'
-zpty -r z told '*usage: dvbemu*'
+zpty -r z told $'*error: *\\n*'
 print -r -- $told
 """
 # What a job of continuous integration asks of apt-get and pytest, which only note it: apt-get finds each file that is named.

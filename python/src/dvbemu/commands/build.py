@@ -26,5 +26,5 @@ def main() -> None:
     for name in words.parse_args().programs:
         try:
             print(build.path_of(name), flush=True)
-        except (build.Stopped, OSError) as why:
+        except build.Stopped as why:
             words.fail(why)
