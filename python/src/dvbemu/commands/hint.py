@@ -16,9 +16,10 @@ from ..explain.plain import second
 from .. import progress
 from .. import reports
 from .. import tool
-from ..clock import NoClock, timed
 from ..inputs import many
 from ..psi.fields import is_pes_head, places_text, stream_text
+from ..stream.pace import NoClock, timed
+from ..stream.sections import is_intact, sections_of
 from ..explain.sentences import node_text, pids_text, wrapped
 from ..explain.story import Story
 from ..explain.walk import CRC
@@ -107,7 +108,7 @@ def unpassed_text(used: Used, by_pid: Mapping[int, Sequence[int]]) -> str:
 def used_lines(used: Used, packets: Sequence[bytes], by_pid: Mapping[int, Sequence[int]]) -> list[str]:
     """What passed a filter that gave nothing."""
     captures = [[packets[place] for place in places] for places in used.places]
-    found = [section for capture in captures for section in offered.sections_of(capture)]
+    found = [one.data for capture in captures for one in sections_of(capture)]
     mine = [packet for capture in captures for packet in capture]
     matched = [section for section in found if second.matches(used.act["bytes"], section)]
     head = f"Client {used.client}, line {used.line}, {node_text(used.node)}:"
@@ -117,7 +118,7 @@ def used_lines(used: Used, packets: Sequence[bytes], by_pid: Mapping[int, Sequen
     lines = wrapped(f"{head}; {many(len(mine), 'packet')} and {many(len(found), 'section')} passed while it ran.", 0)
     if not found or all(map(is_pes_head, found)):
         return lines + no_section_lines(mine)
-    if selected := [section for section in matched if offered.is_intact(section) or not used.act["flags"] & CRC]:
+    if selected := [section for section in matched if is_intact(section) or not used.act["flags"] & CRC]:
         return lines + wrapped(f"It selects {len(selected):,} of these sections, and no read came behind them.", 2)
     lines += wrapped(f"{len(matched):,} of these sections match its bytes" + (
         "; their CRC_32 is wrong, and flag 1 leaves them out." if matched else "."), 2)  # fmt: skip

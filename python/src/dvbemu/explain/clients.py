@@ -6,7 +6,7 @@ from typing import TYPE_CHECKING, NamedTuple
 
 from ..psi.fields import NAMES, head_of
 from ..reports import DVR
-from ..psi.tables import read
+from ..stream.tables import read
 
 if TYPE_CHECKING:
     from typing import Optional, Tuple

@@ -1,8 +1,8 @@
 """What the packets of a stream brought to the filters of a report's nodes, for tools/hint: the sections that passed a filter that gave
 none, and the packets and sections that an Overflow lost.
 
-The rules are those of the plain second program, fuzz/second.py, which works out all sections of a capture anew at each packet; here each
-packet is taken once.
+The rules are those of the plain second program, which works out all sections of a capture anew at each packet; here each packet is taken
+once.
 """
 from __future__ import annotations
 
@@ -10,7 +10,8 @@ from bisect import bisect_left, bisect_right
 from typing import TYPE_CHECKING, NamedTuple
 
 from .. import reports
-from ..psi.tables import has_right_crc
+from ..stream.packets import PACKET
+from ..stream.sections import Cutter, is_intact
 from .plain import second
 from .walk import CRC, ONESHOT, Walk
 
@@ -19,69 +20,6 @@ if TYPE_CHECKING:
 
     from ..reports import Act, Entry, FilterBytes, Reply
     from .story import Story
-
-PACKET = 188
-
-
-class Sections:
-    """The sections of a PID, by the rules of second.sections, each given with the packet that completes it."""
-
-    def __init__(self) -> None:
-        self.last: bytes | None = None
-        self.open: bytearray | None = None
-
-    def take(self, packet: bytes) -> list[bytes]:
-        """The sections that the PID's next packet completes."""
-        payload = second.payload_of(packet)
-        if second.error_bit(packet) or payload is None:
-            return []
-        last, self.last = self.last, packet
-        if last is not None and second.counter_of(last) == second.counter_of(packet) and second.payload_of(last) == payload:
-            return []
-        if last is not None and not second.joins(last, packet):
-            self.open = None
-        if not second.unit_start(packet):
-            return self.extend(payload)
-        behind = 1 + payload[0]
-        found = self.extend(payload[1:behind]) if behind <= len(payload) else []
-        self.open = bytearray() if behind <= len(payload) else None
-        return found + self.extend(payload[behind:])
-
-    def extend(self, data: bytes) -> list[bytes]:
-        """The sections that are whole with further bytes of the open segment. It ends where no section can follow."""
-        if self.open is None:
-            return []
-        self.open += data
-        found, place = [], 0
-        while (after := end_of_section(self.open, place)) and after <= len(self.open):
-            found.append(bytes(self.open[place:after]))
-            place = after
-        del self.open[:place]
-        if after is None:
-            self.open = None
-        return found
-
-
-def end_of_section(segment: bytearray, place: int) -> int | None:
-    """Where the section of an open segment ends that begins here; 0 where that isn't known yet, and None where none can begin."""
-    head = segment[place : place + 3]
-    if head[:1] == b"\xff":
-        return None
-    if len(head) < 3:
-        return 0
-    length = (head[1] & 0x0F) << 8 | head[2]
-    return place + 3 + length if length <= 4093 else None
-
-
-def sections_of(packets: Iterable[bytes]) -> list[bytes]:
-    """The sections of packets of one PID."""
-    reader = Sections()
-    return [section for packet in packets for section in reader.take(packet)]
-
-
-def is_intact(section: bytes) -> bool:
-    """Whether a section's CRC_32 is right, or it has none."""
-    return section[1] >> 7 == 0 or has_right_crc(section)
 
 
 def selects(act: Act, section: bytes) -> bool:
@@ -131,7 +69,7 @@ class Offered(Walk):
         self.all_places: list[list[int]] = []
         self.ends: list[int] = []
         self.bringers: list[int] = []
-        self.taken, self.sections = 0, Sections()
+        self.taken, self.sections = 0, Cutter()
         self.taps: dict[int, list[int]] = {}
 
     def take(self, entry: Entry) -> None:
@@ -185,7 +123,7 @@ class Offered(Walk):
         """A capture is offered packets from here on."""
         self.places, self.ran = [], True
         self.ever |= self.pids if self.filter else set()
-        self.taken, self.ends, self.bringers, self.sections = 0, [], [], Sections()
+        self.taken, self.ends, self.bringers, self.sections = 0, [], [], Cutter()
 
     def end_capture(self, entry: Entry, reply: Reply) -> None:
         """A capture has ended."""
@@ -214,7 +152,7 @@ class Offered(Walk):
     def lengths(self, packet: bytes) -> list[int]:
         """The lengths of the items that the capture's next packet completes."""
         if self.filter and self.filter["name"] == "section":
-            found = [len(section) for section in self.sections.take(packet) if selects(self.filter, section)]
+            found = [len(one.data) for one in self.sections.take(packet) if selects(self.filter, one.data)]
             return found[: not self.ends] if self.filter["flags"] & ONESHOT else found
         if self.filter and self.filter["output"] == "tap":
             return [len(payload)] if (payload := second.payload_of(packet)) else []
