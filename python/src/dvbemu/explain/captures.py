@@ -3,8 +3,9 @@ from __future__ import annotations
 
 from typing import TYPE_CHECKING
 
-from . import walk
 from ..psi.fields import streams_in
+from ..stream.packets import PACKET
+from . import walk
 from .offered import Brought
 
 if TYPE_CHECKING:
@@ -12,8 +13,6 @@ if TYPE_CHECKING:
 
     from ..reports import Act, Entry
     from .story import Stumble
-
-PACKET = 188
 
 
 class Offered:

@@ -7,10 +7,10 @@ from __future__ import annotations
 
 from typing import TYPE_CHECKING
 
-from ..psi.fields import as_hex, pid_text
-from .refusals import CRC, LARGEST_SIZE
 from ..inputs import many
+from ..psi.fields import as_hex, pid_text
 from ..reports import DVR, node_name
+from .refusals import CRC, LARGEST_SIZE
 from .sentences import NAMES, joined, lines_text, node_text, pids_text
 
 if TYPE_CHECKING:
