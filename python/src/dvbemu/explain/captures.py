@@ -1,4 +1,4 @@
-"""What is known of the filters and captures of a report, for tools/explain."""
+"""What is known of the filters and captures of a report."""
 from __future__ import annotations
 
 from typing import TYPE_CHECKING

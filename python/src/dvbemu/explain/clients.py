@@ -1,4 +1,4 @@
-"""The clients of a report, what they called, and what they got, for tools/explain."""
+"""The clients of a report, what they called, and what they got."""
 from __future__ import annotations
 
 from bisect import bisect_right

@@ -1,4 +1,4 @@
-"""Hints for a receiver's writer, for tools/explain: each with what the report shows and the rule that it comes from.
+"""Hints for a receiver's writer: each with what the report shows and the rule that it comes from.
 
 RULES has for each kind of stumble the heading or paragraph of docs/BEHAVIOUR.md and words that stand there; tests/test_hints.py looks
 for them.

@@ -1,4 +1,4 @@
-"""Calls and replies of a report in plain words, for tools/explain."""
+"""Calls and replies of a report in plain words."""
 from __future__ import annotations
 
 from typing import TYPE_CHECKING

@@ -1,4 +1,4 @@
-"""A report in sentences: the stream, what each client asked, got, lost and was refused, and the hints; for tools/explain and tools/page."""
+"""A report in sentences: the stream, what each client asked, got, lost and was refused, and the hints."""
 from __future__ import annotations
 
 from typing import TYPE_CHECKING, NamedTuple
