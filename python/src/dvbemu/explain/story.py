@@ -200,9 +200,9 @@ SIZES = "larger", "first size", "overflow"
 
 
 class Story:
-    """A report gone through: its clients by number, the stumbles, and whether a capture ran. With the stream at hand `silent` has the filters that gave nothing, each
-    with its node, and `exact` what the Overflows lost, each with its client, its line, its
-    node and its span."""
+    """A report gone through: its clients by number, the stumbles, and whether a capture ran. With the stream at hand `silent` has the
+    filters that gave nothing, each with its node, and `exact` what the Overflows lost, each with its client, its line, its node and its
+    span."""
 
     def __init__(self, report: Report, stream: Stream | None = None) -> None:
         self.report, self.stream = report, stream
