@@ -8,9 +8,10 @@ import time
 
 import pytest
 from conftest import EXAMPLES
+from dvbemu.stream.packets import packet
 from dvbemu.stream.sections import Cutter
 from oracle import second
-from packets import PES, PMT, PMTS, WRONG, in_packets, packet, session_of
+from packets import PES, PMT, PMTS, WRONG, in_packets, session_of
 
 
 def clocked(pid, counter):
@@ -140,7 +141,8 @@ def test_parts(hint, report_of, words, count):
 
 def test_the_word_that_it_was(tool):
     ran = tool("hint", "report", "session")
-    assert (ran.status, ran.out, ran.err) == (2, "", "dvbemu: `hint` is a part of `explain`: dvbemu explain REPORT SESSION\n")
+    assert (ran.status, ran.out) == (2, "")
+    assert ran.err.endswith("\ndvbemu: error: `hint` is a part of `explain`: dvbemu explain REPORT SESSION\n")
 
 
 def test_sections_come_packet_by_packet():
@@ -151,13 +153,13 @@ def test_sections_come_packet_by_packet():
         for _ in range(chosen.randrange(1, 20)):
             counter += chosen.choice((0, 1, 1, 1, 1, 1, 1, 2))
             payload = bytes(chosen.choice((0, 0, 1, 3, 0xB0, 0xFF, 66, 183)) for _ in range(4)) + chosen.choice((bytes(180), PMT * 12))
-            made = bytearray(packet(256, counter, payload, chosen.random() < 0.3))
+            made = bytearray(packet(256, counter, payload[:184], chosen.random() < 0.3))
             made[1] |= 0x80 if chosen.random() < 0.05 else 0
             made[3] &= 0xCF if chosen.random() < 0.05 else 0xFF
             packets.append(chosen.choice(packets) if packets and chosen.random() < 0.1 else bytes(made))
-        reader, found = Cutter(), []
+        cutter, found = Cutter(), []
         for number, one in enumerate(packets):
-            found += [section.data for section in reader.take(one)]
+            found += [whole.data for whole in cutter.take(one)]
             assert found == second.sections(packets[: number + 1], 256)
         tried += len(found)
     assert tried > 1000

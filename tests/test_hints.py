@@ -12,8 +12,9 @@ from dvbemu import reports
 from dvbemu.explain import hints, told
 from dvbemu.explain.sentences import lost_text, many, reply_text, wrapped
 from dvbemu.explain.story import Story
+from dvbemu.stream.packets import packet
 from oracle import second
-from packets import PES, PMT, PMTS, WRONG, packet, session_of
+from packets import PES, PMT, PMTS, WRONG, session_of
 
 
 def section(counter):

@@ -14,8 +14,8 @@ from dvbemu.explain.unread import History
 from dvbemu.picture.axis import Axis, parts, shares
 from dvbemu.picture.lanes import ranges
 from dvbemu.picture.svg import LEFT, WIDTH
+from dvbemu.stream.packets import packet
 from oracle import fuzz, second
-from packets import packet
 
 # A report of threads: batch 0 passes n0 before client 0 calls it and n1 after, so that the two calls stand on its two sides.
 THREADS = """dvbemu 1

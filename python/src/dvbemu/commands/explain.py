@@ -21,8 +21,7 @@ def command() -> tool.Command:
     words = tool.Command(
         "explain",
         "[--node NODE] [--client CLIENT] [REPORT [SESSION]]",
-        "Tells a report in sentences: what each client asked, got, lost and was refused, with hints. With its stream it also tells why\n"
-        "filters got nothing, and which packets an Overflow lost.",
+        "Tells a report in sentences, with hints: what each client asked, got, lost and was refused; with its stream, why filters got nothing.",
         reads="a report, as `steps`, `run` and `serve` write it, from the file REPORT; from standard input without it or for `-`; and SESSION, "
         "of which it is one: script and stream, or the recording that `serve` played",
         writes="text",

@@ -1,10 +1,11 @@
-"""What is known of the filters and captures of a report, for tools/explain."""
+"""What is known of the filters and captures of a report."""
 from __future__ import annotations
 
 from typing import TYPE_CHECKING
 
-from . import walk
 from ..psi.fields import streams_in
+from ..stream.packets import PACKET
+from . import walk
 from .offered import Brought
 
 if TYPE_CHECKING:
@@ -12,8 +13,6 @@ if TYPE_CHECKING:
 
     from ..reports import Act, Entry
     from .story import Stumble
-
-PACKET = 188
 
 
 class Offered:
@@ -43,9 +42,10 @@ class Offered:
 
 
 class Filter(walk.Filter):
-    """What is known of a filter: the line of its set call, whether it was ever started, what of the stream it was offered, by PID, how many packets clients wrote while
-    it ran, and, with the stream at hand, the places of the packets that each capture was offered. `gave` says that anything came through
-    it, and `empty` what it had been offered, as stretches of its PID, when the report last showed that nothing had."""
+    """What is known of a filter: the line of its set call, whether it was ever started, what of the stream it was offered, by PID, how many
+    packets clients wrote while it ran, and, with the stream at hand, the places of the packets that each capture was offered. `gave` says
+    that anything came through it, and `empty` what it had been offered, as stretches of its PID, when the report last showed that nothing
+    had."""
 
     def __init__(self, entry: Entry, act: Act, line: int) -> None:
         super().__init__(entry, act)
@@ -72,15 +72,15 @@ class Filter(walk.Filter):
 
 class Capture(walk.Answered):
     """What is known of a capture: whose it is, the line that began it, how much of the stream had passed then, in how many batches, whether
-    the stream had ended when it began, how many bytes and items were answered, and where in a section the reader stands.
-    `clear` is how much of the stream had passed when all that had come was read, `clear_passes` in how many batches, and `early` has the
-    lines of the reads that found nothing before the first packet passed; it is None once something else is found, or a later read is made.
-    `held` is how many bytes its reads would have given at least, had no Overflow come, `over` the Overflow that came last, `known` how many
-    bytes had come when so much of the stream had passed, where a reply last told that, and `loops` says that the last read wasn't the last
-    call of its command. `lag` is how many bytes at most came while reads waited that wouldn't have had to, had no Overflow come, so that they
-    would have come later then, and `waits` says that such a read waits. `lengths` has those of the sections that were read, the last one at the end. Of a dvr node's capture `tapped` says
-    whether a tap was attached, and `dry` has the lines of the reads that found nothing. With the stream at hand `places` has those of the
-    packets that the capture was offered, and `brought` what they brought."""
+    the stream had ended when it began, how many bytes and items were answered, and where in a section the reader stands. `clear` is how
+    much of the stream had passed when all that had come was read, `clear_passes` in how many batches, and `early` has the lines of the
+    reads that found nothing before the first packet passed; it is None once something else is found, or a later read is made. `held` is how
+    many bytes its reads would have given at least, had no Overflow come, `over` the Overflow that came last, `known` how many bytes had
+    come when so much of the stream had passed, where a reply last told that, and `loops` says that the last read wasn't the last call of
+    its command. `lag` is how many bytes at most came while reads waited that wouldn't have had to, had no Overflow come, so that they would
+    have come later then, and `waits` says that such a read waits. `lengths` has those of the sections that were read, the last one at the
+    end. Of a dvr node's capture `tapped` says whether a tap was attached, and `dry` has the lines of the reads that found nothing. With the
+    stream at hand `places` has those of the packets that the capture was offered, and `brought` what they brought."""
 
     def __init__(self, client: int, used: Filter | None, line: int, passed: int, passes: int, is_late: bool) -> None:
         super().__init__()

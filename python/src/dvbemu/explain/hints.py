@@ -1,4 +1,4 @@
-"""Hints for a receiver's writer, for tools/explain: each with what the report shows and the rule that it comes from.
+"""Hints for a receiver's writer: each with what the report shows and the rule that it comes from.
 
 RULES has for each kind of stumble the heading or paragraph of docs/BEHAVIOUR.md and words that stand there; tests/test_hints.py looks
 for them.
@@ -7,10 +7,10 @@ from __future__ import annotations
 
 from typing import TYPE_CHECKING
 
-from ..psi.fields import as_hex, pid_text
-from .refusals import CRC, LARGEST_SIZE
 from ..inputs import many
+from ..psi.fields import as_hex, pid_text
 from ..reports import DVR, node_name
+from .refusals import CRC, LARGEST_SIZE
 from .sentences import NAMES, joined, lines_text, node_text, pids_text
 
 if TYPE_CHECKING:
@@ -53,6 +53,8 @@ RULES = {
     "unbound": ("What a client's commands do", "A command other than `open` on a slot that is bound to no node makes no call"),
 }
 
+# The kinds over what the stream is, or when it passes.
+STREAM = "no feed", "packets as sections", "skipped", "other size"
 # What is shown of a stumble where that is always the same.
 PLAIN = {
     "never started": "the filter that is set there is never started",
@@ -167,6 +169,23 @@ def late_words(stumble: Stumble) -> str:
     return f"{none}; {clock}: let `dvbemu pace` write the stream at its own pace, or try the filter with `steps`"
 
 
+def stream_words(stumble: Stumble) -> str:
+    """The words of the stumbles over what the stream is, or when it passes."""
+    facts = stumble.facts
+    if stumble.kind == "no feed":
+        looked = f"all reads behind line {facts['begin']} came before a packet passed, with {many(facts['packets'], 'packet')} to come"
+        return f"{looked}: write `feed N` between, or `readw` or `drain` in place of `read`"
+    if stumble.kind == "packets as sections":
+        start = " ".join(f"{byte:02x}" for byte in b"\0" + facts["data"])
+        shown = f"what the section filter gives begins with {start}, as PES packets do and no section"
+        return f"{shown}: {pids_text([facts['pid']])} carries {facts['carried'] or 'a stream'}, which `pes` takes"
+    if stumble.kind == "skipped":
+        of = f"{facts['skipped']:,} of the {many(facts['whole'], 'byte')} were skipped, and {many(facts['packets'], 'packet')} found"
+        what = "isn't a stream of packets that begin with 0x47 and take up 188 bytes each, or 204 with `--packet 204`"
+        return f"{of}: what stands behind the line `stream` {what}"
+    return size_of_packets_words(facts)
+
+
 def words(stumble: Stumble) -> str:
     """What the report shows of a stumble."""
     facts = stumble.facts
@@ -198,19 +217,8 @@ def words(stumble: Stumble) -> str:
         return late_words(stumble)
     if stumble.kind == "selects nothing":
         return nothing_words(stumble)
-    if stumble.kind == "no feed":
-        looked = f"all reads behind line {facts['begin']} came before a packet passed, with {many(facts['packets'], 'packet')} to come"
-        return f"{looked}: write `feed N` between, or `readw` or `drain` in place of `read`"
-    if stumble.kind == "packets as sections":
-        start = " ".join(f"{byte:02x}" for byte in b"\0" + facts["data"])
-        shown = f"what the section filter gives begins with {start}, as PES packets do and no section"
-        return f"{shown}: {pids_text([facts['pid']])} carries {facts['carried'] or 'a stream'}, which `pes` takes"
-    if stumble.kind == "skipped":
-        of = f"{facts['skipped']:,} of the {many(facts['whole'], 'byte')} were skipped, and {many(facts['packets'], 'packet')} found"
-        what = "isn't a stream of packets that begin with 0x47 and take up 188 bytes each, or 204 with `--packet 204`"
-        return f"{of}: what stands behind the line `stream` {what}"
-    if stumble.kind == "other size":
-        return size_of_packets_words(facts)
+    if stumble.kind in STREAM:
+        return stream_words(stumble)
     return pid_words(stumble)
 
 

@@ -6,9 +6,9 @@ from __future__ import annotations
 from bisect import bisect_left, bisect_right
 from typing import TYPE_CHECKING, NamedTuple
 
-from ..stream.packets import PACKET, payload_of, pid_of
+from ..stream.packets import ALL_PACKETS, PACKET, payload_of, pid_of
 from ..stream.sections import Cutter, is_intact
-from .refusals import ALL_PACKETS, CRC
+from .refusals import CRC
 
 if TYPE_CHECKING:
     from typing import Iterable, Iterator, Mapping, Sequence

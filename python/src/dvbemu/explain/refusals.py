@@ -4,6 +4,7 @@ from __future__ import annotations
 from typing import TYPE_CHECKING
 
 from ..reports import DVR
+from ..stream.packets import ALL_PACKETS, LAST_PID
 
 if TYPE_CHECKING:
     from ..reports import Act
@@ -13,13 +14,13 @@ CRC, ONESHOT, IMMEDIATE, KEEP = 1, 2, 4, 256
 # The flags that a set call takes, by their bits.
 FLAGS = {CRC: "DMX_CHECK_CRC", ONESHOT: "DMX_ONESHOT", IMMEDIATE: "DMX_IMMEDIATE_START", KEEP: "KEEP"}
 SMALLEST_SIZE, LARGEST_SIZE = 2, 16777216
-MOST_PIDS, ALL_PACKETS, LARGEST_PID, LARGEST_TYPE = 128, 0x2000, 0x1FFF, 20
+MOST_PIDS, LARGEST_TYPE = 128, 20
 
 
 def wrong_argument(act: Act) -> str:
     """Why a call is refused by its arguments alone, or nothing."""
     name = act["name"]
-    most = LARGEST_PID if name == "section" else ALL_PACKETS
+    most = LAST_PID if name == "section" else ALL_PACKETS
     if act.get("pid", 0) > most:
         return f"a PID above 0x{most:X}"
     if name == "size" and not SMALLEST_SIZE <= act["size"] <= LARGEST_SIZE:

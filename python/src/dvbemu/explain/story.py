@@ -7,12 +7,13 @@ from __future__ import annotations
 
 from typing import TYPE_CHECKING, NamedTuple
 
-from .captures import Capture, Filter
-from .clients import PACKET, Call, Client, Got, Through, Waits, lost_by
 from ..psi.fields import as_hex, is_pes_head
-from .refusals import ALL_PACKETS, LARGEST_PID, refusal
-from ..reports import DVR, act_of, first_moment, moment, reply_of
 from ..psi.tables import carried_by
+from ..reports import DVR, act_of, first_moment, moment, reply_of
+from ..stream.packets import ALL_PACKETS, LAST_PID, PACKET
+from .captures import Capture, Filter
+from .clients import Call, Client, Got, Through, Waits, lost_by
+from .refusals import refusal
 from .walk import Walk
 
 if TYPE_CHECKING:
@@ -199,9 +200,9 @@ SIZES = "larger", "first size", "overflow"
 
 
 class Story:
-    """A report gone through: its clients by number, the stumbles, and whether a capture ran. With the stream at hand `silent` has the filters that gave nothing, each
-    with its node, and `exact` what the Overflows lost, each with its client, its line, its
-    node and its span."""
+    """A report gone through: its clients by number, the stumbles, and whether a capture ran. With the stream at hand `silent` has the
+    filters that gave nothing, each with its node, and `exact` what the Overflows lost, each with its client, its line, its node and its
+    span."""
 
     def __init__(self, report: Report, stream: Stream | None = None) -> None:
         self.report, self.stream = report, stream
@@ -376,7 +377,7 @@ class Story:
             self.stumble("busy", client.number, node, line, facts={"opened": node.busy[client.number]})
         elif call.reply == "EBADF" and node.owner is None and client.number not in node.openers:
             self.stumble("not open", client.number, node, line)
-        elif call.reply == "EINVAL" and act["name"] in ("section", "pes") and act["pid"] > LARGEST_PID:
+        elif call.reply == "EINVAL" and act["name"] in ("section", "pes") and act["pid"] > LAST_PID:
             self.stumble("large pid", client.number, node, line, act["pid"], {"call": act["name"], "pid": act["pid"]})
 
     def take_open(self, node: Node, client: Client, call: Call, line: int) -> None:

@@ -8,10 +8,10 @@ from __future__ import annotations
 from collections import Counter
 from typing import TYPE_CHECKING
 
-from ..clock import NoClock, timed
 from ..inputs import many
 from ..psi.fields import is_pes_head, places_text, stream_text
 from ..reports import node_name
+from ..stream.pace import NoClock, timed
 from ..stream.packets import error_bit, payload_of, unit_start
 from ..stream.sections import is_intact, sections_of
 from .offered import like_this, matches, moved, ruled_out

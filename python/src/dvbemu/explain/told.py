@@ -1,12 +1,12 @@
-"""A report in sentences: the stream, what each client asked, got, lost and was refused, and the hints; for tools/explain and tools/page."""
+"""A report in sentences: the stream, what each client asked, got, lost and was refused, and the hints."""
 from __future__ import annotations
 
 from typing import TYPE_CHECKING, NamedTuple
 
 from .. import reports
-from . import sentences, streamed
 from ..inputs import many
 from ..psi.fields import pid_text
+from . import sentences, streamed
 from .hints import hint_text, rule_texts
 from .sentences import asked_texts, got_text, joined, lost_text, refused_texts, timed_text, waits_text
 from .story import Story, joints

@@ -12,6 +12,7 @@ from typing import TYPE_CHECKING, NamedTuple
 
 from .. import reports
 from ..psi.fields import pid_name
+from ..stream.packets import ALL_PACKETS, PACKET
 from .walk import Answered, Walk
 
 if TYPE_CHECKING:
@@ -22,7 +23,7 @@ if TYPE_CHECKING:
     # PIDs in a few words, and in fewer.
     Label = Tuple[str, str]
 
-PACKET, ALL_PACKETS, MOST_NAMED = 188, 0x2000, 4
+MOST_NAMED = 4
 
 
 class Loss(NamedTuple):

@@ -1,4 +1,4 @@
-"""The lanes of tools/picture: a node each, on the axis that all share."""
+"""The lanes of a picture: a node each, on the axis that all share."""
 from __future__ import annotations
 
 from collections import Counter

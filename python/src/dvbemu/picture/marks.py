@@ -1,4 +1,4 @@
-"""The marks of tools/picture, the rows that they stand in, and the legend."""
+"""The marks of a picture, the rows that they stand in, and the legend."""
 from __future__ import annotations
 
 import textwrap

@@ -1,4 +1,4 @@
-"""Sections: how a PID's packets are cut into them (ISO/IEC 13818-1, 2.4.4 and annex A)."""
+"""Sections: how they are made, and how a PID's packets are cut into them (ISO/IEC 13818-1, 2.4.4 and annex A)."""
 from __future__ import annotations
 
 import zlib
@@ -23,6 +23,42 @@ def crc(data: bytes) -> int:
 def is_intact(section: bytes) -> bool:
     """Whether a section's CRC_32 is right, or it has none, as its section_syntax_indicator says."""
     return not section[1] & 0x80 or crc(section) == 0
+
+
+# ------ how they are made
+
+
+def with_crc(data: bytes) -> bytes:
+    """Bytes and their CRC_32."""
+    return data + crc(data).to_bytes(4, "big")
+
+
+def with_length(data: bytes, behind: int = 0) -> bytes:
+    """A section whose section_length is that of what stands behind it here, and of so many bytes more."""
+    if len(data) < 3:
+        raise ValueError("a section has at least its table_id and its length, 3 bytes")
+    length = len(data) - 3 + behind
+    if length > LONGEST:
+        raise ValueError(f"a section has at most {LONGEST} bytes behind its length")
+    return bytes([data[0], data[1] & 0xF0 | length >> 8, length & 0xFF]) + data[3:]
+
+
+def whole(data: bytes) -> bytes:
+    """A section with its section_length, and, where its section_syntax_indicator is 1, its CRC_32 behind."""
+    return with_crc(with_length(data, 4)) if data[1:2] >= b"\x80" else with_length(data)
+
+
+def section(table_id: int, extension: int, body: bytes, version: int = 0, number: int = 0, last: int = 0, current: int = 1) -> bytes:
+    """A section whose section_syntax_indicator is 1: body is what stands between its last_section_number and its CRC_32. The bit behind
+    that indicator is 0 in the tables of ISO/IEC 13818-1, and 1 in those of DVB, where it is reserved."""
+    flags = 0xB0 if table_id < 0x40 else 0xF0
+    head = bytes([table_id, flags, 0, extension >> 8, extension & 0xFF, 0xC0 | version << 1 | current, number, last])
+    return whole(head + body)
+
+
+def short_section(table_id: int, body: bytes) -> bytes:
+    """A section whose section_syntax_indicator is 0."""
+    return with_length(bytes([table_id, 0x70, 0]) + body)
 
 
 # ------ how packets are cut into them
