@@ -10,7 +10,7 @@ import tempfile
 import time
 
 from airs import NAMES, TUNER, call, stations
-from room import RATE, SERVE, calls_of, is_passed, ran, without_hints
+from room import RATE, SERVE, cases_of, is_passed, ran, without_hints
 from dvbemu.server.adapters import end_with
 from dvbemu.server.clearing import VARIABLE, tell_program
 from dvbemu.server.commands import unseen_as
@@ -63,11 +63,11 @@ def try_terminal(room):
         return
     terminal = Terminal(room)
     room.want(terminal.tells(b"> "), "a shell on a terminal", terminal.told)
-    os.write(terminal.end, f"echo beg''un; {calls_of(room)} wait 100; echo en''ded $?\n".encode())
+    os.write(terminal.end, f"echo beg''un; {cases_of(room)} +wait 100; echo en''ded $?\n".encode())
     room.want(terminal.tells(b"begun"), "its program begins", terminal.told)
     time.sleep(1)
     os.write(terminal.end, CTRL_C)
-    os.write(terminal.end, f"{calls_of(room)} beside; echo st''atus $?\n".encode())
+    os.write(terminal.end, f"{cases_of(room)} +beside; echo st''atus $?\n".encode())
     room.want(terminal.tells(b" 0 failed") and terminal.tells(b"status 0"), "Ctrl-C ends the program alone", terminal.told)
     os.write(terminal.end, b"exit 4\n")
     room.want(terminal.ends() == 4, "the shell's status is told", terminal.told)
@@ -76,19 +76,19 @@ def try_terminal(room):
 
 def try_bare(room):
     """A command runs without standard input and output, with few descriptors, and where all but temporary files is read-only."""
-    words = f"\"$0\" --keep none --packets {RATE} \"$1\" -- sh -c '\"$0\" beside > told' \"$2\" <&- >&- 2>&-"
-    ended = ran(["sh", "-c", f"cd {room.folder} && {words}", SERVE, room.stream, calls_of(room)])
+    words = f"\"$0\" --keep none --packets {RATE} \"$1\" -- sh -c '\"$0\" +beside > told' \"$2\" <&- >&- 2>&-"
+    ended = ran(["sh", "-c", f"cd {room.folder} && {words}", SERVE, room.stream, cases_of(room)])
     with open(room.path("told"), encoding="ascii") as file:
         told = file.read()
     room.want(ended.returncode == 0 and is_passed(told), "without standard input, output and errors", told)
-    out, status = room.run("sh", "-c", "ulimit -n 64; exec \"$0\" beside", calls_of(room))
+    out, status = room.run("sh", "-c", "ulimit -n 64; exec \"$0\" +beside", cases_of(room))
     room.want(status == 0 and is_passed(out), "a program of at most 64 descriptors", out)
     place = os.path.realpath(tempfile.gettempdir())
     bare = ["bwrap", "--unshare-all", "--ro-bind", "/", "/", "--dev", "/dev", "--bind", place, place]
     if not shutil.which("bwrap") or ran([*bare, "true"]).returncode:
         print("serve: bwrap isn't there, or may not, skipped")
         return
-    out, status = room.run(calls_of(room), "beside", before=bare)
+    out, status = room.run(cases_of(room), "+beside", before=bare)
     room.want(status == 0 and is_passed(out), f"all by bwrap, without /proc, status {status}", out)
 
 

@@ -5,7 +5,7 @@ import shlex
 import subprocess
 
 from dvbemu.server.building import built_server
-from room import HERE, PACKET, RATE, TOP, bytes_of, calls_of, is_passed
+from room import HERE, PACKET, RATE, TOP, bytes_of, cases_of, is_passed
 
 BAD = os.path.join(HERE, "bad.py")
 NULL = b"\x47\x1f\xff\x10" + 184 * b"\xff"
@@ -29,7 +29,7 @@ def try_once(room):
     room.stream = room.path("once")
     with open(room.stream, "wb") as file:
         file.write(AHEAD * NULL + pat + BEHIND * NULL)
-    out, status = room.run(calls_of(room), "last", air=["--once", "--packets", RATE, room.stream])
+    out, status = room.run(cases_of(room), "+last", air=["--once", "--packets", RATE, room.stream])
     all_passed(room, out, status, "the last section of a stream")
     told = f"\npackets={AHEAD + 1 + BEHIND} skipped=0 rest=0\n".encode()
     room.want(told in bytes_of(room.report), "the whole stream, once", bytes_of(room.report)[:200])
@@ -52,7 +52,7 @@ def try_full(room):
     folder, server = room.path("full"), room.path("a server")
     with open(server, "w", encoding="ascii", opener=lambda path, flags: os.open(path, flags, 0o700)) as file:
         file.write(f"#!/bin/sh\nulimit -f {BLOCKS}\nexec {shlex.join(built_server())} \"$@\"\n")
-    out, status = room.run(calls_of(room), keep=folder, before=["env", f"DVBEMU_SERVER={shlex.quote(server)}"])
+    out, status = room.run(cases_of(room), "+alone", keep=folder, before=["env", f"DVBEMU_SERVER={shlex.quote(server)}"])
     all_passed(room, out, status, "a program whose calls can't be written", 1)
     room.want("dvb_serve: what was called can't be written\n" in out, "that is told", out)
     sizes = [os.path.getsize(os.path.join(folder, name)) for name in os.listdir(folder)]
@@ -79,7 +79,7 @@ def try_old(room):
 
 def try_many(room):
     """A seat that makes many calls."""
-    out, status = room.run(calls_of(room), "many", str(MANY))
+    out, status = room.run(cases_of(room), "+many", str(MANY))
     all_passed(room, out, status, f"{MANY} calls of a seat")
     room.want(room.calls_told("stop") == MANY, "each is told", room.calls_told("stop"))
     room.is_right("a seat of many calls")
@@ -87,8 +87,8 @@ def try_many(room):
 
 def try_stopped(room):
     """A program beside one that is stopped within a request, where nothing is kept."""
-    script = "\"$0\" stopped > stopped & until grep -q there stopped; do sleep 0.1; done; exec \"$1\" beside"
-    out, status = room.run("sh", "-c", script, BAD, calls_of(room), keep="none", seats="2")
+    script = "\"$0\" stopped > stopped & until grep -q there stopped; do sleep 0.1; done; exec \"$1\" +beside"
+    out, status = room.run("sh", "-c", script, BAD, cases_of(room), keep="none", seats="2")
     all_passed(room, out, status, "a program beside one that is stopped")
 
 

@@ -35,6 +35,9 @@ extern const struct one paths[], descriptors[], waits[], reads[], tunings[], sta
 
 extern unsigned char bytes[1 << 21];
 
+const struct one *case_of(const char *name);
+int here(const char *word, const char *number);
+
 /* ends the case where this doesn't hold */
 void want(int holds, const char *what);
 double seconds(void);

@@ -149,6 +149,18 @@ static void in_a_forked_child(void)
 	want(is_pat(fd), "and then its parent");
 }
 
+static void closes_all(void *nothing)
+{
+	for (int i = 3; i < 1024; i++)
+		want(!nothing && (!close(i) || errno == EBADF), "a close");
+}
+
+static void closed_by_a_child(void)
+{
+	int fd = pat(0);
+	want(!child(closes_all, NULL) && !ioctl(fd, DMX_START) && is_pat(fd), "the node is still there behind a child's closes");
+}
+
 static void polls_and_reads(void *fd)
 {
 	struct pollfd one = { *(int *)fd, POLLIN, 0 };
@@ -317,6 +329,6 @@ static void what_a_device_has_not(void)
 const struct one descriptors[] = { CASE(doubled), CASE(moved_to_a_number), CASE(replaced_by_dup2), CASE(closed_by_fclose),
 				   CASE(closed_past_the_library), CASE(all_closed_past_the_library), ALONE(each_close_frees_the_node), CASE(close_range_of_all),
 				   CASE(a_loop_of_closes), CASE(numbers_of_the_preload), CASE(closed_twice), CASE(few_descriptors),
-				   CASE(a_high_number), CASE(flags_of_descriptors), CASE(in_a_forked_child), CASE(in_a_daemon),
+				   CASE(a_high_number), CASE(flags_of_descriptors), CASE(in_a_forked_child), CASE(closed_by_a_child), CASE(in_a_daemon),
 				   ALONE(a_daemons_close_frees), CASE(by_exec), ALONE(by_the_shell), CASE(by_spawn),
 				   CASE(by_vfork), CASE(by_system_and_popen), CASE(other_programs_beside), CASE(streams), CASE(what_a_device_has_not), { 0 } };

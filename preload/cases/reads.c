@@ -97,7 +97,15 @@ static void at_a_place(void)
 
 static void one_recorder(void)
 {
-	int all = recorder(O_RDONLY);
+	int all = recorder(O_RDONLY), fd = demux(O_NONBLOCK);
+	uint16_t pid = 256;
+	record_all(fd);
+	want(ioctl(fd, DMX_SET_BUFFER_SIZE, 100000) < 0 && errno == EBUSY, "another size while it runs is EBUSY");
+	want(ioctl(fd, DMX_ADD_PID, &pid) < 0 && errno == EINVAL, "another PID of a filter that records is EINVAL");
+	want(!close(fd) && !fcntl(all, F_SETFL, O_NONBLOCK), "it ends");
+	while (read(all, bytes, sizeof bytes) > 0)
+		;
+	want(errno == EAGAIN || errno == EOVERFLOW, "and nothing is recorded any more");
 	want(all >= 0 && open(RECORDER, O_RDONLY) < 0 && errno == EBUSY, "a second one is EBUSY");
 	want(!close(all) && (all = recorder(O_RDONLY)) >= 0, "and behind a close isn't");
 	want(!ioctl(all, DMX_SET_BUFFER_SIZE, 7700480), "a size of it");
