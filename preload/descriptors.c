@@ -340,14 +340,12 @@ static int stream_close(void *one)
 static FILE *stream_over(int fd, const char *mode)
 {
 	cookie_io_functions_t calls = { .read = stream_read, .write = stream_write, .close = stream_close };
-	struct pause pause;
-	enter(&pause);
+	HOLD_OWN();
 	struct stream *one = stream_of(NULL);
 	if (one) {
 		one->fd = fd;
 		one->file = fopencookie(one, mode, calls);
 	}
-	leave(&pause);
 	if (!one)
 		errno = EMFILE;
 	return one ? one->file : NULL;

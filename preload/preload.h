@@ -86,14 +86,17 @@ extern char folders[MOST_ADAPTERS][FOLDER];
 extern int adapters;
 extern pid_t self;
 struct pause {
+	struct line *line;
 	sigset_t before;
 	int state;
 };
 void init(void);
-void enter(struct pause *pause);
-void leave(struct pause *pause);
-void take(struct line *line, struct pause *pause);
-void give(struct line *line, struct pause *pause);
+void take(struct pause *pause);
+void give(struct pause *pause);
+/* to the end of a block nobody else has what is this process's, or a line; in that order, where both are */
+#define HOLD(one, what) struct pause one __attribute__((cleanup(give))) = { .line = what }; take(&one)
+#define HOLD_OWN() HOLD(own_pause, NULL)
+#define HOLD_LINE(line) HOLD(line_pause, line)
 void hold_for_good(void);
 struct line *line_to(int adapter);
 void line_lost(struct line *line);

@@ -14,17 +14,14 @@
 /* looks at a device where nothing is known of it; whether it is one */
 static int refresh(int fd, struct at *at)
 {
-	struct pause outer, pause;
 	if (!find(fd, at))
 		return 0;
-	enter(&outer);
-	take(at->line, &pause);
+	HOLD_OWN();
+	HOLD_LINE(at->line);
 	struct device *device = device_at(*at);
 	device->in_set = 1;
 	if (device->state == UNKNOWN && device->kind)
 		look(*at, fd);
-	give(at->line, &pause);
-	leave(&outer);
 	return 1;
 }
 
@@ -131,21 +128,17 @@ SELECTS(pselect, (int count, fd_set *reads, fd_set *writes, fd_set *others, cons
 /* looks at the devices that are in a set, where nothing is known of them */
 static void refresh_sets(void)
 {
-	struct pause outer, pause;
-	struct device *device;
-	enter(&outer);
+	HOLD_OWN();
 	for (struct line *line = lines; line < &lines[MOST_LINES]; line++)
 		for (int i = 0; line->table && i < MOST_DEVICES; i++) {
 			struct mine *mine = &line->mine[i];
+			struct device *device = &line->table->devices[i];
 			if (mine->known < 0)
 				continue;
-			take(line, &pause);
-			device = &line->table->devices[i];
+			HOLD_LINE(line);
 			if (device->kind && device->ino == mine->ino && device->state == UNKNOWN)
 				look((struct at){ line, i }, mine->known);
-			give(line, &pause);
 		}
-	leave(&outer);
 }
 
 EXPORT int epoll_ctl(int set, int what, int fd, struct epoll_event *event)
