@@ -167,14 +167,11 @@ static int is_asked(const char *name, char **words)
 	return is_any;
 }
 
-static const struct one *const all[] = { paths, descriptors, waits, reads, tunings, stacks, killed };
-
 const struct one *case_of(const char *name)
 {
-	for (size_t i = 0; i < sizeof all / sizeof *all; i++)
-		for (const struct one *one = all[i]; one->name; one++)
-			if (!strcmp(one->name, name))
-				return one;
+	for (const struct one *one = __start_cases; one < __stop_cases; one++)
+		if (!strcmp(one->name, name))
+			return one;
 	want(0, name);
 	return NULL;
 }
@@ -184,10 +181,9 @@ int main(int count, char **words)
 	if (count > 1 && *words[1] == '+')
 		return here(words[1], words[2]);
 	for (int alone = 0; alone < 2; alone++)
-		for (size_t i = 0; i < sizeof all / sizeof *all; i++)
-			for (const struct one *one = all[i]; one->name; one++)
-				if (one->alone == alone && is_asked(one->name, words + 1))
-					run(one);
+		for (const struct one *one = __start_cases; one < __stop_cases; one++)
+			if (one->alone == alone && is_asked(one->name, words + 1))
+				run(one);
 	while (look())
 		pause_for(2);
 	printf("%d passed, %d failed\n", passed, failed);
