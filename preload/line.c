@@ -291,8 +291,10 @@ static int come_in(struct line *line, char *ask, char *tell)
 static int sit_down(struct line *line, const char *tell)
 {
 	struct pollfd one = { line->tell, POLLIN, 0 };
-	if (wait_raw(&one, 1, SEAT_MS) < 1)
+	if (wait_raw(&one, 1, SEAT_MS) < 1) {
+		frontend_seatless(line->table->adapter);
 		return -1;
+	}
 	int fd = high(open_raw(tell, O_RDONLY | O_NONBLOCK));
 	if (fd < 0)
 		return -1;

@@ -164,6 +164,7 @@ void place_of(struct at at, char *into);
 /* frontend.c: whether an event waits to be told; an ioctl, which gives 0 or a negative error; a lock of who may tune */
 int frontend_lock(int adapter);
 int frontend_event(int adapter);
+void frontend_seatless(int adapter);
 int frontend_ioctl(int adapter, int access, uint32_t number, void *argument);
 
 #endif

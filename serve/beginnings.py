@@ -20,6 +20,9 @@ TELLS, CTRL_C = 20, b"\x03"
 # How many bells there are when a program begins, when it has opened a node, and that one once more with another.
 BELLS = "0\n1\n2\n"
 DEMUX = "/dev/dvb/adapter0/demux0"
+# How a program is linked, or made, that has the preload or hasn't, and what is said of it.
+UNSEEN = {"-O0": "None", "-static": "is linked statically", "-static-pie": "is linked statically", "-DGO": "is made by Go",
+          "-Wl,--dynamic-linker=/lib/ld-musl-x86_64.so.1": "has the C library musl"}  # fmt: skip
 # Scripts, with the statuses that they end with.
 ENDS = {"exit 77": 77, "kill -SEGV $$": 139, "kill -KILL $$": 137, "(trap '' TERM; sleep 100) & exit 5": 5}
 
@@ -140,10 +143,10 @@ def try_unseen(room):
     with open(source, "w", encoding="ascii") as file:
         file.write("int main(void) { return 0; }\n#ifdef GO\n__asm__(\".pushsection .note.go.buildid,\\\"a\\\",@note\\n"
                    ".long 4, 0, 4\\n.ascii \\\"Go\\\\0\\\\0\\\"\\n.popsection\");\n#endif\n")  # fmt: skip
-    for flags, wanted in ([], None), (["-static"], "is linked statically"), (["-static-pie"], "is linked statically"), (["-DGO"], "is made by Go"):
-        built = subprocess.call(["cc", *flags, "-o", plain, source])
+    for flag, wanted in UNSEEN.items():
+        built = subprocess.call(["cc", flag, "-o", plain, source])
         why = None if built else unseen_as(plain)
-        room.want(not built and str(why).startswith(str(wanted)), f"a program by {flags}", why)
+        room.want(not built and str(why).startswith(wanted), f"a program by {flag}", why)
     subprocess.call(["cc", "-static", "-o", plain, source])
     out = ran([SERVE, "--keep", "none", "--packets", RATE, room.stream, "--", plain]).stdout
     said = f"dvbemu serve: {plain} is linked statically: it will not see the emulated adapter\n"
@@ -164,6 +167,14 @@ def try_unseen(room):
     room.want(not os.path.exists(room.path("none")), "no report of it")
 
 
+def try_seatless(room):
+    """How many programs have found no seat is told at the end, each once."""
+    script = "\"$0\" +wait 12 & sleep 1; (exec 3<$1; exec 3<$1) & \"$0\" +beside & wait"
+    for seats, told in ("1", "dvbemu serve: 2 programs found no seat, as 1 may be in at a time (--seats)\n"), ("3", ""):
+        out, status = room.run("sh", "-c", script, cases_of(room), DEMUX, keep="none", seats=seats)
+        room.want(status == 0 and out.partition("dvbemu serve: ")[1:] == told.partition("dvbemu serve: ")[1:], f"{seats} seats", out)
+
+
 def try_parent(room):
     """A server ends at once where its parent has gone before it could say so, and else it begins."""
     for parent, wanted in (os.getpid(), 0), (1, -signal.SIGKILL):
@@ -181,4 +192,4 @@ def try_number(room):
         room.want(child.wait() == -signal.SIGKILL, "one of these adapters ends", child.returncode)
 
 
-PARTS = try_unseen, try_root, try_parent, try_number, try_terminal, try_bare, try_ends, try_nested, try_bells
+PARTS = try_unseen, try_seatless, try_root, try_parent, try_number, try_terminal, try_bare, try_ends, try_nested, try_bells

@@ -4,6 +4,7 @@ import os
 import shlex
 import subprocess
 
+from airs import call
 from dvbemu.server.building import built_server
 from room import HERE, PACKET, RATE, TOP, bytes_of, cases_of, is_passed
 
@@ -61,6 +62,15 @@ def try_full(room):
     room.want(merged.returncode == 1 and b"has no file `head`" in merged.stderr, "no report is made", merged.stderr.decode())
 
 
+def try_full_played(room):
+    """Where what is played can't be kept all else goes on, and that is told at the end, by the file's name."""
+    words = ["--report", room.report, "--played", "/dev/full", "--packets", RATE, room.stream]
+    out, status = call(room, words, [cases_of(room), "+beside"])
+    room.want(status == 1 and is_passed(out), f"a program beside a file that is full, status {status}", out)
+    room.want(out.endswith("\ndvbemu serve: /dev/full: No space left on device\n"), "that is told", out)
+    room.is_right("a run whose packets can't be kept")
+
+
 def try_old(room):
     """Files that stood in a folder before, and are longer than what is written, are emptied. The server is called itself, for the
     wrapper takes no folder that isn't empty; it has no program, since its door is a file without a name."""
@@ -92,4 +102,4 @@ def try_stopped(room):
     all_passed(room, out, status, "a program beside one that is stopped")
 
 
-PARTS = try_once, try_last_bell, try_full, try_old, try_many, try_stopped
+PARTS = try_once, try_last_bell, try_full, try_full_played, try_old, try_many, try_stopped
