@@ -85,24 +85,23 @@ def reader_is_gone(given):
     expect("check: a reader that is gone", subprocess.CompletedProcess([], status, None, line), 6, "dvbemu: write failed")
 
 
-def fail_each(failing, shortening, given, output):
+def fail_each(library, given, output):
     """Each read fails in turn, and each write: nothing is written, or what the writes before took."""
-    libraries = f"{failing}:{shortening}"
-    runs = list(run_each(["check"], given, "FAIL_READ", LD_PRELOAD=libraries, SHORTEN=FEW_READ))
+    runs = list(run_each(["check"], given, "FAIL_READ", LD_PRELOAD=library, SHORTEN=FEW_READ))
     for number, child in runs[:-1]:
         expect(f"check, {output}: read {number} fails", child, 5, "dvbemu: read failed", b"")
     tally.count(len(runs) > len(given) // int(FEW_READ), f"check, {output}: {len(runs) - 1} reads failed")
     tally.count(runs[-1][1].stdout == output, f"check, {output}: where no read fails: {runs[-1][1]}")
-    runs = list(run_each(["check"], given, "FAIL_WRITE", LD_PRELOAD=libraries, SHORTEN=FEW_WRITTEN))
+    runs = list(run_each(["check"], given, "FAIL_WRITE", LD_PRELOAD=library, SHORTEN=FEW_WRITTEN))
     for number, child in runs[:-1]:
         expect(f"check, {output}: write {number} fails", child, 6, "dvbemu: write failed", output[: number - 1])
     tally.count(len(runs) == len(output) + 1, f"check, {output}: {len(runs) - 1} writes failed")
 
 
-def refuse_each(refusing, given, output):
+def refuse_each(library, given, output):
     """Each allocation is refused in turn: want of memory and nothing written, or the answer."""
     whole, _ = run_told(["check"], given)
-    for number, child in run_each(["check"], given, "REFUSE", LD_PRELOAD=refusing):
+    for number, child in run_each(["check"], given, "REFUSE", LD_PRELOAD=library):
         case = f"check, {output}: allocation {number} refused"
         if child.returncode == 0:
             same = (child.stdout, child.stderr) == (output, whole.stderr)
@@ -123,8 +122,8 @@ def try_ends(session):
     small_memory(["check"], asked_of(report, session))
 
 
-def try_calls(failing, shortening, refusing):
+def try_calls(library):
     """Calls that fail and allocations that are refused, one after another."""
     for given, output in inputs():
-        fail_each(failing, shortening, given, output)
-        refuse_each(refusing, given, output)
+        fail_each(library, given, output)
+        refuse_each(library, given, output)

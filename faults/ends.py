@@ -170,10 +170,10 @@ def run_each(words, session, name, **more):
         yield number, child
 
 
-def library_in(folder, source):
-    """A library to be preloaded, built in this folder; None where there is no compiler for C."""
-    library = os.path.join(folder, source.replace(".c", ".so"))
-    words = ["cc", "-shared", "-fPIC", "-O1", "-o", library, os.path.join(HERE, source), "-ldl"]
+def library_in(folder):
+    """The library of faults.c, built in this folder; None where there is no compiler for C."""
+    library = os.path.join(folder, "faults.so")
+    words = ["cc", "-shared", "-fPIC", "-O1", "-Wall", "-Wextra", "-o", library, os.path.join(HERE, "faults.c"), "-ldl"]
     try:
         built = subprocess.run(words, check=False, capture_output=True)
     except FileNotFoundError:

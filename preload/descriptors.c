@@ -72,16 +72,6 @@ EXPORT int open(const char *path, int flags, ...)
 	return open_at(AT_FDCWD, path, flags, mode);
 }
 
-EXPORT int open64(const char *path, int flags, ...)
-{
-	va_list list;
-	va_start(list, flags);
-	mode_t mode = mode_in(flags, list);
-	va_end(list);
-	init();
-	return open_at(AT_FDCWD, path, flags | O_LARGEFILE, mode);
-}
-
 EXPORT int openat(int there, const char *path, int flags, ...)
 {
 	va_list list;
@@ -92,24 +82,12 @@ EXPORT int openat(int there, const char *path, int flags, ...)
 	return open_at(there, path, flags, mode);
 }
 
-EXPORT int openat64(int there, const char *path, int flags, ...)
-{
-	va_list list;
-	va_start(list, flags);
-	mode_t mode = mode_in(flags, list);
-	va_end(list);
-	init();
-	return open_at(there, path, flags | O_LARGEFILE, mode);
-}
-
-EXPORT int __open_2(const char *path, int flags);
-EXPORT int __open_2(const char *path, int flags) { return open(path, flags); }
-EXPORT int __open64_2(const char *path, int flags);
-EXPORT int __open64_2(const char *path, int flags) { return open64(path, flags); }
-EXPORT int __openat_2(int there, const char *path, int flags);
-EXPORT int __openat_2(int there, const char *path, int flags) { return openat(there, path, flags); }
-EXPORT int __openat64_2(int there, const char *path, int flags);
-EXPORT int __openat64_2(int there, const char *path, int flags) { return openat64(there, path, flags); }
+SAME(open64, open)
+SAME(openat64, openat)
+SAME(__open_2, open)
+SAME(__open64_2, open)
+SAME(__openat_2, openat)
+SAME(__openat64_2, openat)
 
 /* What the preload has itself stays open, and isn't there for the program. Behind a device's last descriptor its node is closed. */
 EXPORT int close(int fd)
@@ -195,8 +173,7 @@ EXPORT ssize_t read(int fd, void *into, size_t count)
 	return find(fd, &at) ? told(device_read(fd, at, into, count)) : NEXT(read)(fd, into, count);
 }
 
-EXPORT ssize_t __read_chk(int fd, void *into, size_t count, size_t room);
-EXPORT ssize_t __read_chk(int fd, void *into, size_t count, size_t room) { return (void)room, read(fd, into, count); }
+SAME(__read_chk, read)
 
 /* a driver without an answer of its own to readv gets one read for each part */
 EXPORT ssize_t readv(int fd, const struct iovec *parts, int count)
@@ -264,14 +241,13 @@ EXPORT ssize_t pwrite(int fd, const void *from, size_t count, off_t to)
 	return is_device(fd) ? write(fd, from, count) : NEXT(pwrite)(fd, from, count, to);
 }
 
-EXPORT ssize_t __pread_chk(int fd, void *into, size_t count, off_t from, size_t room);
-EXPORT ssize_t __pread_chk(int fd, void *into, size_t count, off_t from, size_t room) { return (void)room, pread(fd, into, count, from); }
 SAME(lseek64, lseek)
 SAME(pread64, pread)
 SAME(preadv64, preadv)
 SAME(preadv64v2, preadv2)
 SAME(pwrite64, pwrite)
-EXPORT ssize_t __pread64_chk(int, void *, size_t, off64_t, size_t) __attribute__((alias("__pread_chk")));
+SAME(__pread_chk, pread)
+SAME(__pread64_chk, pread)
 
 EXPORT ssize_t write(int fd, const void *from, size_t count)
 {
@@ -282,32 +258,18 @@ EXPORT ssize_t write(int fd, const void *from, size_t count)
 	return NEXT(write)(fd, from, count);
 }
 
-/* (a device gives no pages to pipes and files) */
-EXPORT ssize_t splice(int from, off64_t *at, int to, off64_t *there, size_t count, unsigned flags)
-{
-	init();
-	return is_device(from) || is_device(to) ? told(-EINVAL) : NEXT(splice)(from, at, to, there, count, flags);
-}
-
-EXPORT ssize_t tee(int from, int to, size_t count, unsigned flags)
-{
-	init();
-	return is_device(from) || is_device(to) ? told(-EINVAL) : NEXT(tee)(from, to, count, flags);
-}
-
-EXPORT ssize_t sendfile(int to, int from, off_t *at, size_t count)
-{
-	init();
-	return is_device(from) || is_device(to) ? told(-EINVAL) : NEXT(sendfile)(to, from, at, count);
-}
-
-EXPORT ssize_t sendfile64(int to, int from, off64_t *at, size_t count) { return sendfile(to, from, at, count); }
-
-EXPORT ssize_t copy_file_range(int from, off64_t *at, int to, off64_t *there, size_t count, unsigned flags)
-{
-	init();
-	return is_device(from) || is_device(to) ? told(-EINVAL) : NEXT(copy_file_range)(from, at, to, there, count, flags);
-}
+/* a device gives no pages to pipes and files, and takes none */
+#define MOVES(call, params, ...)                                                                         \
+	EXPORT ssize_t call params                                                                                      \
+	{                                                                                                               \
+		init();                                                                                                 \
+		return is_device(from) || is_device(to) ? told(-EINVAL) : NEXT(call)(__VA_ARGS__);                 \
+	}
+MOVES(splice, (int from, off64_t *at, int to, off64_t *there, size_t count, unsigned flags), from, at, to, there, count, flags)
+MOVES(copy_file_range, (int from, off64_t *at, int to, off64_t *there, size_t count, unsigned flags), from, at, to, there, count, flags)
+MOVES(tee, (int from, int to, size_t count, unsigned flags), from, to, count, flags)
+MOVES(sendfile, (int to, int from, off_t *at, size_t count), to, from, at, count)
+SAME(sendfile64, sendfile)
 
 /* ------ ioctl and fcntl */
 
@@ -330,9 +292,14 @@ EXPORT int ioctl(int fd, unsigned long number, ...)
 	return (int)told(device_ioctl(fd, at, (uint32_t)number, argument));
 }
 
-static int control(int fd, int command, long argument)
+EXPORT int fcntl(int fd, int command, ...)
 {
+	va_list list;
 	struct at at;
+	va_start(list, command);
+	long argument = va_arg(list, long);
+	va_end(list);
+	init();
 	if (is_own(fd))
 		return (int)told(-EBADF);
 	int result = NEXT(fcntl)(fd, command, argument);
@@ -343,25 +310,7 @@ static int control(int fd, int command, long argument)
 	return result;
 }
 
-EXPORT int fcntl(int fd, int command, ...)
-{
-	va_list list;
-	va_start(list, command);
-	long argument = va_arg(list, long);
-	va_end(list);
-	init();
-	return control(fd, command, argument);
-}
-
-EXPORT int fcntl64(int fd, int command, ...)
-{
-	va_list list;
-	va_start(list, command);
-	long argument = va_arg(list, long);
-	va_end(list);
-	init();
-	return control(fd, command, argument);
-}
+SAME(fcntl64, fcntl)
 
 /* ------ streams of the C library, which reads past its own read: those over a device are of calls */
 
@@ -391,14 +340,12 @@ static int stream_close(void *one)
 static FILE *stream_over(int fd, const char *mode)
 {
 	cookie_io_functions_t calls = { .read = stream_read, .write = stream_write, .close = stream_close };
-	struct pause pause;
-	enter(&pause);
+	HOLD_OWN();
 	struct stream *one = stream_of(NULL);
 	if (one) {
 		one->fd = fd;
 		one->file = fopencookie(one, mode, calls);
 	}
-	leave(&pause);
 	if (!one)
 		errno = EMFILE;
 	return one ? one->file : NULL;
@@ -420,7 +367,7 @@ EXPORT FILE *fopen(const char *path, const char *mode)
 	return file;
 }
 
-EXPORT FILE *fopen64(const char *path, const char *mode) { return fopen(path, mode); }
+SAME(fopen64, fopen)
 
 EXPORT FILE *fdopen(int fd, const char *mode)
 {
@@ -435,4 +382,4 @@ EXPORT int fileno(FILE *file)
 	return one && file ? one->fd : NEXT(fileno)(file);
 }
 
-EXPORT int fileno_unlocked(FILE *file) { return fileno(file); }
+SAME(fileno_unlocked, fileno)

@@ -49,7 +49,7 @@ int find(int fd, struct at *at)
 	return is_one;
 }
 
-/* ------ what can be read, inside of `take` */
+/* ------ what can be read, inside of HOLD_LINE */
 
 /* The device may have something: who reads it is woken. */
 void wake_readers(struct at at)
@@ -101,7 +101,7 @@ void look(struct at at, int fd)
 	device->state = device->tokens ? UNKNOWN : QUIET;
 }
 
-/* ------ open and close, inside of `enter` */
+/* ------ open and close, inside of HOLD_OWN */
 
 static int place_in(struct line *line)
 {
@@ -125,10 +125,9 @@ void device_begin(struct line *line, int place, int rings, int life)
  */
 static int begin(struct line *line, int kind, int flags, int rings)
 {
-	struct pause pause;
 	struct reply reply = { 0 };
 	struct stat made;
-	take(line, &pause);
+	HOLD_LINE(line);
 	int place = syscall(SYS_fstat, rings, &made) ? -1 : place_in(line), life = place < 0 ? -1 : lock_of(line, ++line->table->opens);
 	int error = place < 0 ? -EMFILE : 0;
 	struct device *device = &line->table->devices[place < 0 ? 0 : place];
@@ -149,12 +148,12 @@ static int begin(struct line *line, int kind, int flags, int rings)
 		if (kind == DVR)
 			look((struct at){ line, place }, -1);
 	}
-	give(line, &pause);
 	return error ? error : place;
 }
 
 static int open_in(int adapter, int kind, int flags)
 {
+	HOLD_OWN();
 	sweep_all();
 	struct line *line = line_to(adapter);
 	int ends[2], lock = kind == FRONTEND && (flags & O_ACCMODE) != O_RDONLY ? frontend_lock(adapter) : -1;
@@ -181,10 +180,7 @@ static int open_in(int adapter, int kind, int flags)
 
 int device_open(int adapter, int kind, int flags)
 {
-	struct pause pause;
-	enter(&pause);
 	int fd = open_in(adapter, kind, flags);
-	leave(&pause);
 	if (fd >= 0)
 		watch();
 	return fd;
@@ -208,12 +204,12 @@ static void close_node(struct at at)
  */
 static void end(struct at at, int is_over)
 {
-	struct pause pause;
 	struct mine *mine = &at.line->mine[at.place];
-	take(at.line, &pause);
-	if (is_over && device_at(at)->kind && device_at(at)->ino == mine->ino)
-		close_node(at);
-	give(at.line, &pause);
+	if (is_over) {
+		HOLD_LINE(at.line);
+		if (device_at(at)->kind && device_at(at)->ino == mine->ino)
+			close_node(at);
+	}
 	bell_done(at);
 	let_go(mine->rings);
 	let_go(mine->lock);
@@ -231,16 +227,14 @@ int is_others(struct line *line, int place)
 /* ends such a device where all that had it were killed */
 static void end_left(struct at at)
 {
-	struct pause pause;
 	if (!is_others(at.line, at.place) || is_locked(at.line, device_at(at)->open))
 		return;
-	take(at.line, &pause);
+	HOLD_LINE(at.line);
 	if (is_others(at.line, at.place) && !is_locked(at.line, device_at(at)->open))
 		close_node(at);
-	give(at.line, &pause);
 }
 
-/* ends the devices of which no descriptor is left, inside of `enter` */
+/* ends the devices of which no descriptor is left, inside of HOLD_OWN */
 void sweep_all(void)
 {
 	for (struct line *line = lines; line < &lines[MOST_LINES]; line++) {
@@ -261,10 +255,8 @@ void sweep_all(void)
 
 void sweep(void)
 {
-	struct pause pause;
-	enter(&pause);
+	HOLD_OWN();
 	sweep_all();
-	leave(&pause);
 }
 
 /* ------ read and ioctl */
@@ -300,9 +292,8 @@ struct reading {
 /* One request to read. Where nothing is there, and the descriptor waits for more, the device has a reader from then on. */
 static int read_once(int fd, struct at at, ino_t ino, void *into, uint32_t most, struct reading *reading)
 {
-	struct pause pause;
 	struct device *device = device_at(at);
-	take(at.line, &pause);
+	HOLD_LINE(at.line);
 	int error = device->ino != ino ? -EBADF : ask(at.line, READ, device->node, most, NULL, 0, &reading->reply, into);
 	reading->waits = error == -EAGAIN && !is_nonblocking(fd);
 	if (error == -EAGAIN)
@@ -312,7 +303,6 @@ static int read_once(int fd, struct at at, ino_t ino, void *into, uint32_t most,
 	if (reading->waits)
 		__atomic_add_fetch(&device->readers, 1, __ATOMIC_SEQ_CST);
 	reading->turn = device->turn;
-	give(at.line, &pause);
 	return error;
 }
 
@@ -400,7 +390,6 @@ static void clean(uint32_t number, char *bytes)
 
 static int demux_ioctl(int fd, struct at at, uint32_t number, void *argument)
 {
-	struct pause pause;
 	struct reply reply;
 	char bytes[ARGUMENT] = { 0 };
 	struct device *device = device_at(at);
@@ -414,29 +403,36 @@ static int demux_ioctl(int fd, struct at at, uint32_t number, void *argument)
 	else if (!is_readable(argument, bytes, length))
 		return -EFAULT;
 	clean(number, bytes);
-	take(at.line, &pause);
+	HOLD_LINE(at.line);
 	int error = device->kind ? ask(at.line, IOCTL, device->node, number, bytes, length, &reply, NULL) : -EBADF;
 	if (!error)
 		changed(fd, at, number, bytes);
-	give(at.line, &pause);
 	return error;
 }
 
-/* An ioctl of the frontend. That for the next event waits for one, where the descriptor does, and none has come since it was asked. */
-static int tuner_ioctl(int fd, struct at at, uint32_t number, void *argument)
+/* An ioctl of the frontend, which has a reader from then on where none of its events has come that the ioctl waits for. */
+static int tune_once(int fd, struct at at, uint32_t number, void *argument, struct reading *reading)
 {
 	struct device *device = device_at(at);
-	for (;;) {
-		struct pause pause;
-		take(at.line, &pause);
-		int error = frontend_ioctl(at.line->table->adapter, device->access, number, argument);
+	int error;
+	HOLD_LINE(at.line);
+	do {
+		error = frontend_ioctl(at.line->table->adapter, device->access, number, argument);
 		look(at, fd);
-		int waits = error == -EAGAIN && !is_nonblocking(fd), has_come = device->state == READY;
-		uint32_t turn = device->turn;
-		if (waits && !has_come)
-			__atomic_add_fetch(&device->readers, 1, __ATOMIC_SEQ_CST);
-		give(at.line, &pause);
-		if (!waits || (!has_come && (error = doze(device, turn, 0))))
+		reading->waits = error == -EAGAIN && !is_nonblocking(fd);
+	} while (reading->waits && device->state == READY);
+	if (reading->waits)
+		__atomic_add_fetch(&device->readers, 1, __ATOMIC_SEQ_CST);
+	reading->turn = device->turn;
+	return error;
+}
+
+static int tuner_ioctl(int fd, struct at at, uint32_t number, void *argument)
+{
+	for (;;) {
+		struct reading reading = { 0 };
+		int error = tune_once(fd, at, number, argument, &reading);
+		if (!reading.waits || (error = doze(device_at(at), reading.turn, 0)))
 			return error;
 	}
 }

@@ -163,23 +163,15 @@ void inherit(void)
 
 /* ------ the C library's calls */
 
-EXPORT int execve(const char *path, char *const words[], char *const env[])
-{
-	prepare();
-	return done(NEXT(execve)(path, words, env));
-}
-
-EXPORT int execvpe(const char *file, char *const words[], char *const env[])
-{
-	prepare();
-	return done(NEXT(execvpe)(file, words, env));
-}
-
-EXPORT int fexecve(int fd, char *const words[], char *const env[])
-{
-	prepare();
-	return done(NEXT(fexecve)(fd, words, env));
-}
+#define BECOMES(call, type, what)                                                                                       \
+	EXPORT int call(type what, char *const words[], char *const env[])                                              \
+	{                                                                                                               \
+		prepare();                                                                                              \
+		return done(NEXT(call)(what, words, env));                                                              \
+	}
+BECOMES(execve, const char *, path)
+BECOMES(execvpe, const char *, file)
+BECOMES(fexecve, int, fd)
 
 EXPORT int execv(const char *path, char *const words[]) { return execve(path, words, environ); }
 EXPORT int execvp(const char *file, char *const words[]) { return execvpe(file, words, environ); }
@@ -217,7 +209,18 @@ EXPORT int execl(const char *path, const char *first, ...) { BY_LIST(execve, 0);
 EXPORT int execlp(const char *path, const char *first, ...) { BY_LIST(execvpe, 0); }
 EXPORT int execle(const char *path, const char *first, ...) { BY_LIST(execve, 1); }
 
-/* (the library begins the shell of these by none of the calls above; while it runs the line stays open) */
+/* (the library begins a program by these, and the shell of those below, by none of the calls above; while that begins the line stays open) */
+#define BEGINS(call)                                                                                                    \
+	EXPORT int call(pid_t *child, const char *path, const posix_spawn_file_actions_t *actions,                      \
+			const posix_spawnattr_t *with, char *const words[], char *const env[])                          \
+	{                                                                                                               \
+		init();                                                                                                 \
+		keep_lines(1);                                                                                          \
+		return done(NEXT(call)(child, path, actions, with, words, env));                                        \
+	}
+BEGINS(posix_spawn)
+BEGINS(posix_spawnp)
+
 EXPORT int system(const char *command)
 {
 	init();
@@ -257,20 +260,4 @@ EXPORT void _exit(int status)
 	__builtin_unreachable();
 }
 
-EXPORT void _Exit(int status) { _exit(status); }
-
-EXPORT int posix_spawn(pid_t *child, const char *path, const posix_spawn_file_actions_t *actions, const posix_spawnattr_t *with,
-		       char *const words[], char *const env[])
-{
-	init();
-	keep_lines(1);
-	return done(NEXT(posix_spawn)(child, path, actions, with, words, env));
-}
-
-EXPORT int posix_spawnp(pid_t *child, const char *file, const posix_spawn_file_actions_t *actions, const posix_spawnattr_t *with,
-			char *const words[], char *const env[])
-{
-	init();
-	keep_lines(1);
-	return done(NEXT(posix_spawnp)(child, file, actions, with, words, env));
-}
+SAME(_Exit, _exit)

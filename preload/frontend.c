@@ -23,7 +23,8 @@ enum { SYSTEMS = 8, COMMANDS = DTV_MAX_COMMAND + 1, MOST_PROPERTIES = 64, GOOD =
 /* What python/src/dvbemu/server/channels.py has too. All frequencies are in Hz, or in kHz behind a satellite's converter. */
 struct front {
 	uint32_t wanted, granted, status, taken; /* tunings: how many were asked for, done, with what status, and told as an event */
-	uint32_t frequency, system, voltage, tone, stream, unused; /* what is tuned to; and what is on the cable */
+	uint32_t frequency, system, voltage, tone, stream; /* what is tuned to; and what is on the cable */
+	uint32_t seatless;                                 /* how many programs have found no seat of the server */
 	uint64_t packets;
 	uint32_t systems[SYSTEMS];               /* which it has; behind the last a 0 */
 	uint32_t asked[COMMANDS];                /* the properties, by their commands */
@@ -106,6 +107,15 @@ int frontend_lock(int adapter)
 static int is_granted(const struct front *front)
 {
 	return front->wanted && __atomic_load_n(&front->granted, __ATOMIC_SEQ_CST) == front->wanted;
+}
+
+/* this program has found no seat, which is told once */
+void frontend_seatless(int adapter)
+{
+	static int is_told;
+	struct front *front = front_of(adapter);
+	if (front && !__atomic_exchange_n(&is_told, 1, __ATOMIC_SEQ_CST))
+		__atomic_add_fetch(&front->seatless, 1, __ATOMIC_SEQ_CST);
 }
 
 int frontend_event(int adapter)

@@ -131,11 +131,9 @@ static void move_all(int fd)
 /* makes a number free that a program wants: 0, or -EBUSY where it can't be, as in a child of vfork */
 int give_way(int fd)
 {
-	struct pause pause;
 	if (is_own(fd) && getpid() == self) {
-		enter(&pause);
+		HOLD_OWN();
 		move_all(fd);
-		leave(&pause);
 	}
 	return is_own(fd) ? -EBUSY : 0;
 }

@@ -112,19 +112,6 @@ static void go_on(const struct pause *pause)
 /* a thread that was begun with all signals held back has them so to its end */
 void hold_for_good(void) { held++; }
 
-/* what this process has: its lines and the descriptors of its devices */
-void enter(struct pause *pause)
-{
-	hold_back(pause);
-	pthread_mutex_lock(&own);
-}
-
-void leave(struct pause *pause)
-{
-	pthread_mutex_unlock(&own);
-	go_on(pause);
-}
-
 static void find_back(struct line *line);
 
 /* whether the pipes of a line are closed in this process, past the preload */
@@ -133,23 +120,28 @@ static int is_cut(const struct line *line)
 	return line->ask >= 0 && (!is_object(line->ask, line->table->ask_ino) || !is_object(line->tell, line->table->tell_ino));
 }
 
-/* A line, also behind `enter`. Where a process was killed in it, the next one that can does what that one has left. */
-void take(struct line *line, struct pause *pause)
+/*
+ * What this process has, its lines and the descriptors of its devices, or a line. Where a process was killed in a line, the next one that
+ * can does what that one has left.
+ */
+void take(struct pause *pause)
 {
+	struct line *line = pause->line;
 	hold_back(pause);
-	if (pthread_mutex_lock(&line->table->one) == EOWNERDEAD) {
+	if (pthread_mutex_lock(line ? &line->table->one : &own) == EOWNERDEAD) {
 		line->table->is_left = 1;
 		pthread_mutex_consistent(&line->table->one);
 	}
-	if (line->table->is_left && !is_cut(line))
+	if (line && line->table->is_left && !is_cut(line))
 		find_back(line);
 }
 
-void give(struct line *line, struct pause *pause)
+void give(struct pause *pause)
 {
-	if (!line->table->is_left)
+	struct line *line = pause->line;
+	if (line && !line->table->is_left)
 		line->table->asked.verb = 0;
-	pthread_mutex_unlock(&line->table->one);
+	pthread_mutex_unlock(line ? &line->table->one : &own);
 	go_on(pause);
 }
 
@@ -299,8 +291,10 @@ static int come_in(struct line *line, char *ask, char *tell)
 static int sit_down(struct line *line, const char *tell)
 {
 	struct pollfd one = { line->tell, POLLIN, 0 };
-	if (wait_raw(&one, 1, SEAT_MS) < 1)
+	if (wait_raw(&one, 1, SEAT_MS) < 1) {
+		frontend_seatless(line->table->adapter);
 		return -1;
+	}
 	int fd = high(open_raw(tell, O_RDONLY | O_NONBLOCK));
 	if (fd < 0)
 		return -1;
@@ -402,7 +396,7 @@ static int pass_over(struct line *line)
 	return 0;
 }
 
-/* Somebody was killed in `take`. What was asked last, if anything, was done or never came to the server; and it is noted here. */
+/* Somebody was killed in HOLD_LINE. What was asked last, if anything, was done or never came to the server; and it is noted here. */
 static void find_back(struct line *line)
 {
 	struct table *table = line->table;
@@ -439,7 +433,7 @@ static int exchange(struct line *line, const struct request *request, struct rep
 	return taken < 0 ? -EIO : taken ? -EFAULT : -(int)reply->code;
 }
 
-/* One request and its reply, with at most as many bytes as a read asks for, behind `take`: 0 or a negative error. */
+/* One request and its reply, with at most as many bytes as a read asks for, behind HOLD_LINE: 0 or a negative error. */
 int ask(struct line *line, uint32_t verb, uint32_t node, uint32_t number, const void *argument, uint32_t length,
 	struct reply *reply, void *into)
 {

@@ -9,9 +9,12 @@
 #include <stdint.h>
 #include <sys/types.h>
 
-/* a call of the C library that stands in the place of the library's own, another name of it, and the library's own */
+/*
+ * A call of the C library that stands in the place of the library's own; another name of it, as that of 64 bits, which differs in nothing here, or one
+ * that has a size behind its arguments; and the library's own.
+ */
 #define EXPORT __attribute__((visibility("default")))
-#define SAME(other, name) EXPORT __typeof__(other) other __attribute__((alias(#name)));
+#define SAME(other, name) __asm__(".globl " #other "\n.set " #other ", " #name);
 #define NEXT(name)                                                                                                      \
 	({                                                                                                              \
 		static __typeof__(&name) found_;                                                                        \
@@ -83,14 +86,17 @@ extern char folders[MOST_ADAPTERS][FOLDER];
 extern int adapters;
 extern pid_t self;
 struct pause {
+	struct line *line;
 	sigset_t before;
 	int state;
 };
 void init(void);
-void enter(struct pause *pause);
-void leave(struct pause *pause);
-void take(struct line *line, struct pause *pause);
-void give(struct line *line, struct pause *pause);
+void take(struct pause *pause);
+void give(struct pause *pause);
+/* to the end of a block nobody else has what is this process's, or a line; in that order, where both are */
+#define HOLD(one, what) struct pause one __attribute__((cleanup(give))) = { .line = what }; take(&one)
+#define HOLD_OWN() HOLD(own_pause, NULL)
+#define HOLD_LINE(line) HOLD(line_pause, line)
 void hold_for_good(void);
 struct line *line_to(int adapter);
 void line_lost(struct line *line);
@@ -158,6 +164,7 @@ void place_of(struct at at, char *into);
 /* frontend.c: whether an event waits to be told; an ioctl, which gives 0 or a negative error; a lock of who may tune */
 int frontend_lock(int adapter);
 int frontend_event(int adapter);
+void frontend_seatless(int adapter);
 int frontend_ioctl(int adapter, int access, uint32_t number, void *argument);
 
 #endif

@@ -167,9 +167,6 @@ void place_of(struct at at, char *into)
 
 /* ------ the C library's calls */
 
-/* a path as it is, or its place in the tree */
-static const char *by(const char *path, char *into) { return leads(AT_FDCWD, path, into) ? into : path; }
-
 /* the number of a device, as a kernel gives them: 64 minors for each adapter */
 static unsigned minor_of(int adapter, int kind) { return (unsigned)(adapter * 64 + (kind == FRONTEND ? 3 : kind == DEMUX ? 4 : 5)); }
 
@@ -226,30 +223,27 @@ EXPORT int lstat(const char *path, struct stat *told)
 	return stat_in(AT_FDCWD, path, told, AT_SYMLINK_NOFOLLOW);
 }
 
-EXPORT int stat64(const char *path, struct stat64 *told) { return stat(path, (struct stat *)told); }
-EXPORT int lstat64(const char *path, struct stat64 *told) { return lstat(path, (struct stat *)told); }
-EXPORT int fstat64(int fd, struct stat64 *told) { return fstat(fd, (struct stat *)told); }
-EXPORT int fstatat64(int there, const char *path, struct stat64 *told, int flags)
-{
-	return fstatat(there, path, (struct stat *)told, flags);
-}
+SAME(stat64, stat)
+SAME(lstat64, lstat)
+SAME(fstat64, fstat)
+SAME(fstatat64, fstatat)
 
 /* the names that these have in programs of a C library before 2.33 */
-EXPORT int __xstat(int version, const char *path, struct stat *told);
-EXPORT int __xstat(int version, const char *path, struct stat *told) { return (void)version, stat(path, told); }
-EXPORT int __lxstat(int version, const char *path, struct stat *told);
-EXPORT int __lxstat(int version, const char *path, struct stat *told) { return (void)version, lstat(path, told); }
-EXPORT int __fxstat(int version, int fd, struct stat *told);
-EXPORT int __fxstat(int version, int fd, struct stat *told) { return (void)version, fstat(fd, told); }
+#define OLDER(call, name, type, where)                                                                             \
+	EXPORT int call(int version, type, struct stat *told);                                                          \
+	EXPORT int call(int version, type, struct stat *told) { return (void)version, name(where, told); }
+OLDER(__xstat, stat, const char *path, path)
+OLDER(__lxstat, lstat, const char *path, path)
+OLDER(__fxstat, fstat, int fd, fd)
+SAME(__xstat64, __xstat)
+SAME(__lxstat64, __lxstat)
+SAME(__fxstat64, __fxstat)
 EXPORT int __fxstatat(int version, int there, const char *path, struct stat *told, int flags);
 EXPORT int __fxstatat(int version, int there, const char *path, struct stat *told, int flags)
 {
 	return (void)version, fstatat(there, path, told, flags);
 }
-EXPORT int __xstat64(int, const char *, struct stat64 *) __attribute__((alias("__xstat")));
-EXPORT int __lxstat64(int, const char *, struct stat64 *) __attribute__((alias("__lxstat")));
-EXPORT int __fxstat64(int, int, struct stat64 *) __attribute__((alias("__fxstat")));
-EXPORT int __fxstatat64(int, int, const char *, struct stat64 *, int) __attribute__((alias("__fxstatat")));
+SAME(__fxstatat64, __fxstatat)
 
 EXPORT int statx(int there, const char *restrict path, int flags, unsigned int mask, struct statx *restrict told)
 {
@@ -284,30 +278,27 @@ EXPORT int faccessat(int there, const char *path, int mode, int flags)
 
 EXPORT int access(const char *path, int mode) { return faccessat(AT_FDCWD, path, mode, 0); }
 EXPORT int euidaccess(const char *path, int mode) { return faccessat(AT_FDCWD, path, mode, AT_EACCESS); }
-EXPORT int eaccess(const char *path, int mode) { return faccessat(AT_FDCWD, path, mode, AT_EACCESS); }
+SAME(eaccess, euidaccess)
 
-EXPORT DIR *opendir(const char *path)
-{
-	char into[PATH];
-	init();
-	return NEXT(opendir)(by(path, into));
-}
-
-EXPORT int scandir(const char *path, struct dirent ***names, int (*wanted)(const struct dirent *),
-		   int (*order)(const struct dirent **, const struct dirent **))
-{
-	char into[PATH];
-	init();
-	return NEXT(scandir)(by(path, into), names, wanted, order);
-}
-
-EXPORT int scandir64(const char *path, struct dirent64 ***names, int (*wanted)(const struct dirent64 *),
-		     int (*order)(const struct dirent64 **, const struct dirent64 **))
-{
-	char into[PATH];
-	init();
-	return NEXT(scandir64)(by(path, into), names, wanted, order);
-}
+/* calls of a path, which is led by its words alone, or by links too */
+#define OF_PATH(type, call, led_by, params, ...)                                                                        \
+	EXPORT type call params                                                                                         \
+	{                                                                                                               \
+		char into[PATH];                                                                                        \
+		init();                                                                                                 \
+		return NEXT(call)(led_by(AT_FDCWD, path, into) ? into : path __VA_OPT__(, ) __VA_ARGS__);               \
+	}
+OF_PATH(DIR *, opendir, leads, (const char *path))
+OF_PATH(int, chdir, leads, (const char *path))
+OF_PATH(int, scandir, leads,
+	(const char *path, struct dirent ***names, int (*wanted)(const struct dirent *), int (*order)(const struct dirent **, const struct dirent **)),
+	names, wanted, order)
+SAME(scandir64, scandir)
+/* (extended attributes, for which `ls -l` asks) */
+OF_PATH(ssize_t, getxattr, leads, (const char *path, const char *name, void *value, size_t room), name, value, room)
+OF_PATH(ssize_t, lgetxattr, led, (const char *path, const char *name, void *value, size_t room), name, value, room)
+OF_PATH(ssize_t, listxattr, leads, (const char *path, char *names, size_t room), names, room)
+OF_PATH(ssize_t, llistxattr, led, (const char *path, char *names, size_t room), names, room)
 
 static void closes(void *folder) { closedir(folder); }
 
@@ -326,46 +317,7 @@ EXPORT int glob(const char *restrict form, int flags, int (*failed)(const char *
 	return NEXT(glob)(form, flags, failed, names);
 }
 
-EXPORT int glob64(const char *restrict form, int flags, int (*failed)(const char *, int), glob64_t *restrict names)
-{
-	return glob(form, flags, failed, (glob_t *)names);
-}
-
-/* extended attributes, for which `ls -l` asks */
-EXPORT ssize_t getxattr(const char *path, const char *name, void *value, size_t room)
-{
-	char into[PATH];
-	init();
-	return NEXT(getxattr)(by(path, into), name, value, room);
-}
-
-EXPORT ssize_t lgetxattr(const char *path, const char *name, void *value, size_t room)
-{
-	char into[PATH];
-	init();
-	return NEXT(lgetxattr)(led(AT_FDCWD, path, into) ? into : path, name, value, room);
-}
-
-EXPORT ssize_t listxattr(const char *path, char *names, size_t room)
-{
-	char into[PATH];
-	init();
-	return NEXT(listxattr)(by(path, into), names, room);
-}
-
-EXPORT ssize_t llistxattr(const char *path, char *names, size_t room)
-{
-	char into[PATH];
-	init();
-	return NEXT(llistxattr)(led(AT_FDCWD, path, into) ? into : path, names, room);
-}
-
-EXPORT int chdir(const char *path)
-{
-	char into[PATH];
-	init();
-	return NEXT(chdir)(by(path, into));
-}
+SAME(glob64, glob)
 
 /* a path in the tree is told as that of /dev/dvb */
 static char *told(char *path)
@@ -405,16 +357,8 @@ EXPORT ssize_t readlinkat(int there, const char *restrict path, char *restrict i
 }
 
 EXPORT ssize_t readlink(const char *restrict path, char *restrict into, size_t room) { return readlinkat(AT_FDCWD, path, into, room); }
-EXPORT ssize_t __readlink_chk(const char *path, char *into, size_t room, size_t whole);
-EXPORT ssize_t __readlink_chk(const char *path, char *into, size_t room, size_t whole) { return (void)whole, readlink(path, into, room); }
-EXPORT ssize_t __readlinkat_chk(int there, const char *path, char *into, size_t room, size_t whole);
-EXPORT ssize_t __readlinkat_chk(int there, const char *path, char *into, size_t room, size_t whole)
-{
-	return (void)whole, readlinkat(there, path, into, room);
-}
-
+SAME(__readlink_chk, readlink)
+SAME(__readlinkat_chk, readlinkat)
 EXPORT char *canonicalize_file_name(const char *path) { return realpath(path, NULL); }
-EXPORT char *__realpath_chk(const char *path, char *into, size_t room);
-EXPORT char *__realpath_chk(const char *path, char *into, size_t room) { return (void)room, realpath(path, into); }
-EXPORT char *__getcwd_chk(char *into, size_t room, size_t whole);
-EXPORT char *__getcwd_chk(char *into, size_t room, size_t whole) { return (void)whole, getcwd(into, room); }
+SAME(__realpath_chk, realpath)
+SAME(__getcwd_chk, getcwd)

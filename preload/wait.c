@@ -14,17 +14,14 @@
 /* looks at a device where nothing is known of it; whether it is one */
 static int refresh(int fd, struct at *at)
 {
-	struct pause outer, pause;
 	if (!find(fd, at))
 		return 0;
-	enter(&outer);
-	take(at->line, &pause);
+	HOLD_OWN();
+	HOLD_LINE(at->line);
 	struct device *device = device_at(*at);
 	device->in_set = 1;
 	if (device->state == UNKNOWN && device->kind)
 		look(*at, fd);
-	give(at->line, &pause);
-	leave(&outer);
 	return 1;
 }
 
@@ -60,33 +57,20 @@ static void tell(struct pollfd *all, nfds_t count)
 	}
 }
 
-EXPORT int poll(struct pollfd *all, nfds_t count, int time)
-{
-	init();
-	int is_any = adapters && prepare(all, count), n = NEXT(poll)(all, count, time), saved = errno;
-	if (is_any)
-		tell(all, count);
-	errno = saved;
-	return n;
-}
-
-EXPORT int ppoll(struct pollfd *all, nfds_t count, const struct timespec *time, const sigset_t *signals)
-{
-	init();
-	int is_any = adapters && prepare(all, count), n = NEXT(ppoll)(all, count, time, signals), saved = errno;
-	if (is_any)
-		tell(all, count);
-	errno = saved;
-	return n;
-}
-
-EXPORT int __poll_chk(struct pollfd *all, nfds_t count, int time, size_t room);
-EXPORT int __poll_chk(struct pollfd *all, nfds_t count, int time, size_t room) { return (void)room, poll(all, count, time); }
-EXPORT int __ppoll_chk(struct pollfd *all, nfds_t count, const struct timespec *time, const sigset_t *signals, size_t room);
-EXPORT int __ppoll_chk(struct pollfd *all, nfds_t count, const struct timespec *time, const sigset_t *signals, size_t room)
-{
-	return (void)room, ppoll(all, count, time, signals);
-}
+#define POLLS(call, params, ...)                                                                                        \
+	EXPORT int call params                                                                                          \
+	{                                                                                                               \
+		init();                                                                                                 \
+		int is_any = adapters && prepare(all, count), n = NEXT(call)(all, count, __VA_ARGS__), saved = errno;   \
+		if (is_any)                                                                                             \
+			tell(all, count);                                                                               \
+		errno = saved;                                                                                          \
+		return n;                                                                                               \
+	}
+POLLS(poll, (struct pollfd *all, nfds_t count, int time), time)
+POLLS(ppoll, (struct pollfd *all, nfds_t count, const struct timespec *time, const sigset_t *signals), time, signals)
+SAME(__poll_chk, poll)
+SAME(__ppoll_chk, ppoll)
 
 /* ------ select: a device is waited for by reads and by exceptions alike */
 
@@ -125,48 +109,36 @@ static int part(int count, const fd_set *joined, const fd_set *asked, fd_set *re
 	return n;
 }
 
-EXPORT int pselect(int count, fd_set *reads, fd_set *writes, fd_set *others, const struct timespec *time, const sigset_t *signals)
-{
-	fd_set joined, asked;
-	init();
-	if (!adapters || !join(count, reads, others, &joined))
-		return NEXT(pselect)(count, reads, writes, others, time, signals);
-	asked = *others;
-	int n = NEXT(pselect)(count, &joined, writes, others, time, signals);
-	return n < 0 ? n : part(count, &joined, &asked, reads, others, n);
-}
-
-EXPORT int select(int count, fd_set *reads, fd_set *writes, fd_set *others, struct timeval *time)
-{
-	fd_set joined, asked;
-	init();
-	if (!adapters || !join(count, reads, others, &joined))
-		return NEXT(select)(count, reads, writes, others, time);
-	asked = *others;
-	int n = NEXT(select)(count, &joined, writes, others, time);
-	return n < 0 ? n : part(count, &joined, &asked, reads, others, n);
-}
+#define SELECTS(call, params, ...)                                                                                      \
+	EXPORT int call params                                                                                          \
+	{                                                                                                               \
+		fd_set joined, asked;                                                                                   \
+		init();                                                                                                 \
+		if (!adapters || !join(count, reads, others, &joined))                                                  \
+			return NEXT(call)(count, reads, writes, others, __VA_ARGS__);                                   \
+		asked = *others;                                                                                        \
+		int n = NEXT(call)(count, &joined, writes, others, __VA_ARGS__);                                        \
+		return n < 0 ? n : part(count, &joined, &asked, reads, others, n);                                      \
+	}
+SELECTS(select, (int count, fd_set *reads, fd_set *writes, fd_set *others, struct timeval *time), time)
+SELECTS(pselect, (int count, fd_set *reads, fd_set *writes, fd_set *others, const struct timespec *time, const sigset_t *signals), time, signals)
 
 /* ------ epoll */
 
 /* looks at the devices that are in a set, where nothing is known of them */
 static void refresh_sets(void)
 {
-	struct pause outer, pause;
-	struct device *device;
-	enter(&outer);
+	HOLD_OWN();
 	for (struct line *line = lines; line < &lines[MOST_LINES]; line++)
 		for (int i = 0; line->table && i < MOST_DEVICES; i++) {
 			struct mine *mine = &line->mine[i];
+			struct device *device = &line->table->devices[i];
 			if (mine->known < 0)
 				continue;
-			take(line, &pause);
-			device = &line->table->devices[i];
+			HOLD_LINE(line);
 			if (device->kind && device->ino == mine->ino && device->state == UNKNOWN)
 				look((struct at){ line, i }, mine->known);
-			give(line, &pause);
 		}
-	leave(&outer);
 }
 
 EXPORT int epoll_ctl(int set, int what, int fd, struct epoll_event *event)
@@ -182,26 +154,14 @@ EXPORT int epoll_ctl(int set, int what, int fd, struct epoll_event *event)
 	return NEXT(epoll_ctl)(set, what, fd, &other);
 }
 
-EXPORT int epoll_wait(int set, struct epoll_event *events, int most, int time)
-{
-	init();
-	if (adapters)
-		refresh_sets();
-	return NEXT(epoll_wait)(set, events, most, time);
-}
-
-EXPORT int epoll_pwait(int set, struct epoll_event *events, int most, int time, const sigset_t *signals)
-{
-	init();
-	if (adapters)
-		refresh_sets();
-	return NEXT(epoll_pwait)(set, events, most, time, signals);
-}
-
-EXPORT int epoll_pwait2(int set, struct epoll_event *events, int most, const struct timespec *time, const sigset_t *signals)
-{
-	init();
-	if (adapters)
-		refresh_sets();
-	return NEXT(epoll_pwait2)(set, events, most, time, signals);
-}
+#define WAITS(call, params, ...)                                                                                        \
+	EXPORT int call params                                                                                          \
+	{                                                                                                               \
+		init();                                                                                                 \
+		if (adapters)                                                                                           \
+			refresh_sets();                                                                                 \
+		return NEXT(call)(set, events, most, __VA_ARGS__);                                                      \
+	}
+WAITS(epoll_wait, (int set, struct epoll_event *events, int most, int time), time)
+WAITS(epoll_pwait, (int set, struct epoll_event *events, int most, int time, const sigset_t *signals), time, signals)
+WAITS(epoll_pwait2, (int set, struct epoll_event *events, int most, const struct timespec *time, const sigset_t *signals), time, signals)

@@ -66,18 +66,16 @@ void bell_done(struct at at)
 /* a device's bell has rung, or it is looked at as if it had */
 static void rang(struct at at)
 {
-	struct pause pause;
 	struct device *device = device_at(at);
-	take(at.line, &pause);
-	if (device->kind && device->ino == at.line->mine[at.place].ino) {
-		if (device->readers && !device->in_set && device->kind != FRONTEND) {
-			wake_readers(at);
-			device->state = UNKNOWN;
-		} else if (device->state != READY) {
-			look(at, -1);
-		}
+	HOLD_LINE(at.line);
+	if (!device->kind || device->ino != at.line->mine[at.place].ino)
+		return;
+	if (device->readers && !device->in_set && device->kind != FRONTEND) {
+		wake_readers(at);
+		device->state = UNKNOWN;
+	} else if (device->state != READY) {
+		look(at, -1);
 	}
-	give(at.line, &pause);
 }
 
 /* looks at the devices of this bell, or at all of them */
@@ -113,13 +111,11 @@ static void look_round(int may_be_gone)
 	long now = milliseconds();
 	for (struct line *line = lines; line < &lines[MOST_LINES]; line++) {
 		struct pollfd tell = { line->tell, 0, 0 };
-		struct pause pause;
 		if (!line->table)
 			continue;
 		if (may_be_gone && line->tell >= 0 && wait_raw(&tell, 1, 0) > 0 && tell.revents & (POLLHUP | POLLNVAL)) {
-			take(line, &pause);
+			HOLD_LINE(line);
 			line_lost(line);
-			give(line, &pause);
 		}
 		for (int i = 0; i < MOST_DEVICES; i++) {
 			struct device *device = &line->table->devices[i];
@@ -169,30 +165,27 @@ static int is_more(int told, const struct pollfd *all, nfds_t count)
 /* one turn of a watcher: 0 where it is to end */
 static int turn(int number, int told, struct pollfd *all, nfds_t *count, long *time)
 {
-	struct pause pause;
 	char bytes[64];
-	enter(&pause);
-	int goes_on = runs == number;
-	if (goes_on && !is_whole()) {
+	HOLD_OWN();
+	if (runs != number)
+		return 0;
+	if (!is_whole()) {
 		/* (the next call on a device begins anew) */
 		watch_stopped();
-		goes_on = 0;
+		return 0;
 	}
-	if (goes_on) {
-		int more = is_more(told, all, *count);
-		while (more && syscall(SYS_read, wake[0], bytes, sizeof bytes) > 0)
-			;
-		if (more || has_others)
-			sweep_all();
-		if (is_late)
-			look_at(ALL);
-		is_late = 0;
-		hear();
-		look_round(more);
-		*count = gather(all, time);
-	}
-	leave(&pause);
-	return goes_on;
+	int more = is_more(told, all, *count);
+	while (more && syscall(SYS_read, wake[0], bytes, sizeof bytes) > 0)
+		;
+	if (more || has_others)
+		sweep_all();
+	if (is_late)
+		look_at(ALL);
+	is_late = 0;
+	hear();
+	look_round(more);
+	*count = gather(all, time);
+	return 1;
 }
 
 static void *run(void *number)
@@ -209,7 +202,7 @@ static void *run(void *number)
 	return NULL;
 }
 
-/* Inside of `enter`: there is no watcher any more, as in a forked child; one that runs ends, and isn't within a request. */
+/* Inside of HOLD_OWN: there is no watcher any more, as in a forked child; one that runs ends, and isn't within a request. */
 void watch_stopped(void)
 {
 	watch_changed();
@@ -277,25 +270,21 @@ static int begin(void)
 /* sees that somebody watches, and that what has changed is seen */
 void watch(void)
 {
-	struct pause pause;
-	enter(&pause);
+	HOLD_OWN();
 	if (runs && getpid() == self && (!is_whole() || (bells >= 0 && !has_bells())))
 		watch_stopped();
 	if (runs || (getpid() == self && !is_ending && begin()))
 		watch_changed();
-	leave(&pause);
 }
 
 /* In front of an exec, and of the process's end, the watcher ends: so it is never ended within a request. */
 void watch_ends(int for_ever)
 {
-	struct pause pause;
 	if (getpid() != self)
 		return;
-	enter(&pause);
+	HOLD_OWN();
 	watch_stopped();
 	is_ending = for_ever;
-	leave(&pause);
 }
 
 void watch_changed(void)

@@ -10,7 +10,7 @@ import tempfile
 import time
 
 from airs import NAMES, TUNER, call, stations
-from room import RATE, SERVE, calls_of, is_passed, ran, without_hints
+from room import RATE, SERVE, cases_of, is_passed, ran, without_hints
 from dvbemu.server.adapters import end_with
 from dvbemu.server.clearing import VARIABLE, tell_program
 from dvbemu.server.commands import unseen_as
@@ -20,6 +20,9 @@ TELLS, CTRL_C = 20, b"\x03"
 # How many bells there are when a program begins, when it has opened a node, and that one once more with another.
 BELLS = "0\n1\n2\n"
 DEMUX = "/dev/dvb/adapter0/demux0"
+# How a program is linked, or made, that has the preload or hasn't, and what is said of it.
+UNSEEN = {"-O0": "None", "-static": "is linked statically", "-static-pie": "is linked statically", "-DGO": "is made by Go",
+          "-Wl,--dynamic-linker=/lib/ld-musl-x86_64.so.1": "has the C library musl"}  # fmt: skip
 # Scripts, with the statuses that they end with.
 ENDS = {"exit 77": 77, "kill -SEGV $$": 139, "kill -KILL $$": 137, "(trap '' TERM; sleep 100) & exit 5": 5}
 
@@ -63,11 +66,11 @@ def try_terminal(room):
         return
     terminal = Terminal(room)
     room.want(terminal.tells(b"> "), "a shell on a terminal", terminal.told)
-    os.write(terminal.end, f"echo beg''un; {calls_of(room)} wait 100; echo en''ded $?\n".encode())
+    os.write(terminal.end, f"echo beg''un; {cases_of(room)} +wait 100; echo en''ded $?\n".encode())
     room.want(terminal.tells(b"begun"), "its program begins", terminal.told)
     time.sleep(1)
     os.write(terminal.end, CTRL_C)
-    os.write(terminal.end, f"{calls_of(room)} beside; echo st''atus $?\n".encode())
+    os.write(terminal.end, f"{cases_of(room)} +beside; echo st''atus $?\n".encode())
     room.want(terminal.tells(b" 0 failed") and terminal.tells(b"status 0"), "Ctrl-C ends the program alone", terminal.told)
     os.write(terminal.end, b"exit 4\n")
     room.want(terminal.ends() == 4, "the shell's status is told", terminal.told)
@@ -76,19 +79,19 @@ def try_terminal(room):
 
 def try_bare(room):
     """A command runs without standard input and output, with few descriptors, and where all but temporary files is read-only."""
-    words = f"\"$0\" --keep none --packets {RATE} \"$1\" -- sh -c '\"$0\" beside > told' \"$2\" <&- >&- 2>&-"
-    ended = ran(["sh", "-c", f"cd {room.folder} && {words}", SERVE, room.stream, calls_of(room)])
+    words = f"\"$0\" --keep none --packets {RATE} \"$1\" -- sh -c '\"$0\" +beside > told' \"$2\" <&- >&- 2>&-"
+    ended = ran(["sh", "-c", f"cd {room.folder} && {words}", SERVE, room.stream, cases_of(room)])
     with open(room.path("told"), encoding="ascii") as file:
         told = file.read()
     room.want(ended.returncode == 0 and is_passed(told), "without standard input, output and errors", told)
-    out, status = room.run("sh", "-c", "ulimit -n 64; exec \"$0\" beside", calls_of(room))
+    out, status = room.run("sh", "-c", "ulimit -n 64; exec \"$0\" +beside", cases_of(room))
     room.want(status == 0 and is_passed(out), "a program of at most 64 descriptors", out)
     place = os.path.realpath(tempfile.gettempdir())
     bare = ["bwrap", "--unshare-all", "--ro-bind", "/", "/", "--dev", "/dev", "--bind", place, place]
     if not shutil.which("bwrap") or ran([*bare, "true"]).returncode:
         print("serve: bwrap isn't there, or may not, skipped")
         return
-    out, status = room.run(calls_of(room), "beside", before=bare)
+    out, status = room.run(cases_of(room), "+beside", before=bare)
     room.want(status == 0 and is_passed(out), f"all by bwrap, without /proc, status {status}", out)
 
 
@@ -140,10 +143,10 @@ def try_unseen(room):
     with open(source, "w", encoding="ascii") as file:
         file.write("int main(void) { return 0; }\n#ifdef GO\n__asm__(\".pushsection .note.go.buildid,\\\"a\\\",@note\\n"
                    ".long 4, 0, 4\\n.ascii \\\"Go\\\\0\\\\0\\\"\\n.popsection\");\n#endif\n")  # fmt: skip
-    for flags, wanted in ([], None), (["-static"], "is linked statically"), (["-static-pie"], "is linked statically"), (["-DGO"], "is made by Go"):
-        built = subprocess.call(["cc", *flags, "-o", plain, source])
+    for flag, wanted in UNSEEN.items():
+        built = subprocess.call(["cc", flag, "-o", plain, source])
         why = None if built else unseen_as(plain)
-        room.want(not built and str(why).startswith(str(wanted)), f"a program by {flags}", why)
+        room.want(not built and str(why).startswith(wanted), f"a program by {flag}", why)
     subprocess.call(["cc", "-static", "-o", plain, source])
     out = ran([SERVE, "--keep", "none", "--packets", RATE, room.stream, "--", plain]).stdout
     said = f"dvbemu serve: {plain} is linked statically: it will not see the emulated adapter\n"
@@ -164,6 +167,14 @@ def try_unseen(room):
     room.want(not os.path.exists(room.path("none")), "no report of it")
 
 
+def try_seatless(room):
+    """How many programs have found no seat is told at the end, each once."""
+    script = "\"$0\" +wait 12 & sleep 1; (exec 3<$1; exec 3<$1) & \"$0\" +beside & wait"
+    for seats, told in ("1", "dvbemu serve: 2 programs found no seat, as 1 may be in at a time (--seats)\n"), ("3", ""):
+        out, status = room.run("sh", "-c", script, cases_of(room), DEMUX, keep="none", seats=seats)
+        room.want(status == 0 and out.partition("dvbemu serve: ")[1:] == told.partition("dvbemu serve: ")[1:], f"{seats} seats", out)
+
+
 def try_parent(room):
     """A server ends at once where its parent has gone before it could say so, and else it begins."""
     for parent, wanted in (os.getpid(), 0), (1, -signal.SIGKILL):
@@ -181,4 +192,4 @@ def try_number(room):
         room.want(child.wait() == -signal.SIGKILL, "one of these adapters ends", child.returncode)
 
 
-PARTS = try_unseen, try_root, try_parent, try_number, try_terminal, try_bare, try_ends, try_nested, try_bells
+PARTS = try_unseen, try_seatless, try_root, try_parent, try_number, try_terminal, try_bare, try_ends, try_nested, try_bells

@@ -7,7 +7,7 @@ import shutil
 import tempfile
 
 from dvbemu.build import FLAGS, PARTS as SOURCES
-from room import HERE, TOP, calls_of, cases_of, is_passed, passes, ran
+from room import HERE, TOP, cases_of, is_passed, passes, ran
 
 # Children that are killed at whatever moment, hundreds of times, which is too often for such a tool.
 KILLED = "-killed_at_the_open", "-killed_within_a_request", "-killed_with_its_parents_device", "-several_are_killed_at_once"
@@ -80,8 +80,8 @@ def try_namespaces(room):
         if not shutil.which(words[0]) or ran([*words, "true"]).returncode:
             skipped(f"{words[0]} isn't there, or may not")
             continue
-        script = f"for i in {' '.join(map(str, range(FOUR)))}; do {shlex.join(words)} \"$0\" beside & done; wait"
-        out, status = room.run("sh", "-c", script, calls_of(room))
+        script = f"for i in {' '.join(map(str, range(FOUR)))}; do {shlex.join(words)} \"$0\" +beside & done; wait"
+        out, status = room.run("sh", "-c", script, cases_of(room))
         room.want(status == 0 and passes(out) == FOUR, f"four programs by {words[0]}", out)
         room.is_right(f"programs by {words[0]}")
 

@@ -7,7 +7,7 @@ import tempfile
 import time
 
 from airs import call
-from room import HERE, RATE, bytes_of, calls_of, is_passed, passes
+from room import HERE, RATE, bytes_of, cases_of, is_passed, passes
 from dvbemu.server.adapters import MARK
 
 BAD = os.path.join(HERE, "bad.py")
@@ -17,16 +17,16 @@ COMES, ENDS, OLD = 5, 20, 3600
 NOBODY = 65534
 
 
-def beside(room, kinds, script="exec \"$1\" beside", seats="3"):
+def beside(room, kinds, script="exec \"$1\" +beside", seats="3"):
     """What a script writes beside programs that ask badly, which say that they are there, and how it ends."""
     starts = "".join(f"\"$0\" {kind} > {kind} & until grep -q there {kind}; do sleep 0.1; done; " for kind in kinds)
-    return room.run("sh", "-c", starts + script, BAD, calls_of(room), seats=seats)
+    return room.run("sh", "-c", starts + script, BAD, cases_of(room), seats=seats)
 
 
 def try_bad_requests(room):
     """Each bad request has its answer, and the folder of pipes is its owner's alone."""
-    script = "\"$0\" many && stat -c 'mode %a' \"$DVBEMU_DIR\" && \"$0\" half; exec \"$1\""
-    out, status = room.run("sh", "-c", script, BAD, calls_of(room), seats="2")
+    script = "\"$0\" many && stat -c 'mode %a' \"$DVBEMU_DIR\" && \"$0\" half; exec \"$1\" +alone"
+    out, status = room.run("sh", "-c", script, BAD, cases_of(room), seats="2")
     room.want(status == 0 and is_passed(out), "a program behind others that ask badly", out)
     room.want(re.search(r"^\d+ answered$", out, re.M), "each bad request is answered", out)
     # (root's can be passed through by others, who see the tree below it and no pipe)
@@ -36,7 +36,7 @@ def try_bad_requests(room):
 
 def try_wild(room):
     """Whole requests with any numbers, in pieces, and noise, have an answer each; and the report is that of a run."""
-    out, status = room.run("sh", "-c", "\"$0\" wild && \"$0\" noise && exec \"$1\"", BAD, calls_of(room), seats="2")
+    out, status = room.run("sh", "-c", "\"$0\" wild && \"$0\" noise && exec \"$1\" +alone", BAD, cases_of(room), seats="2")
     room.want(status == 0 and is_passed(out) and out.count(" answered\n") == 2, "wild requests and noise", out)
     room.want(re.match(r"2000 answered\n2631 answered\n", out), "all are answered", out)
     room.is_right("wild requests")
@@ -44,7 +44,7 @@ def try_wild(room):
 
 def try_crowd(room):
     """Of a hundred programs that come in at once each is answered, and one behind them finds its seat."""
-    out, status = room.run("sh", "-c", "\"$0\" crowd > crowd & \"$1\" beside && wait && cat crowd", BAD, calls_of(room))
+    out, status = room.run("sh", "-c", "\"$0\" crowd > crowd & \"$1\" +beside && wait && cat crowd", BAD, cases_of(room))
     room.want(status == 0 and is_passed(out) and out.endswith("100 answered\n"), "a hundred programs at once", out)
     room.is_right("a hundred programs")
 
@@ -53,7 +53,7 @@ def try_names(room):
     """Names that are none, or of what is no pipe, keep no seat and no server, and a file of the user's stays as it was."""
     with open(room.path("mine"), "w", encoding="ascii") as file:
         file.write("This is mine.\n" * 100)
-    out, status = room.run("sh", "-c", "\"$0\" names && \"$1\" && date +%s.%N > ended", BAD, calls_of(room), seats="1")
+    out, status = room.run("sh", "-c", "\"$0\" names && \"$1\" +alone && date +%s.%N > ended", BAD, cases_of(room), seats="1")
     room.want(status == 0 and is_passed(out), "a program behind names that are none", out)
     took = time.time() - float(bytes_of(room.path("ended"))) if status == 0 else 0
     room.want(took < ENDS, "the server ends behind them", f"{took:.1f} s")
@@ -70,15 +70,15 @@ def try_bad_beside(room):
 
 def try_knocks(room):
     """A flood of names holds up nobody else: each of several programs comes in."""
-    out, status = beside(room, ["knocks"], f"for i in {' '.join(map(str, range(COMES)))}; do \"$1\" beside || exit 1; done")
+    out, status = beside(room, ["knocks"], f"for i in {' '.join(map(str, range(COMES)))}; do \"$1\" +beside || exit 1; done")
     room.want(status == 0 and passes(out) == COMES, "programs beside a flood of names", out)
     room.is_right("a flood of names")
 
 
 def try_emptied(room):
     """Where a program empties the folder who is in goes on, others are told that nothing is there, and the report comes."""
-    script = "\"$0\" wait 3 & sleep 1; rm -rf \"$DVBEMU_DIR\"/*; wait $! && ! cat /dev/dvb/adapter0/dvr0"
-    out, status = room.run("sh", "-c", script, calls_of(room))
+    script = "\"$0\" +wait 3 & sleep 1; rm -rf \"$DVBEMU_DIR\"/*; wait $! && ! cat /dev/dvb/adapter0/dvr0"
+    out, status = room.run("sh", "-c", script, cases_of(room))
     room.want(status == 0, f"programs of a folder that was emptied, status {status}", out)
     room.is_right("a folder that was emptied")
 

@@ -4,8 +4,9 @@ import os
 import shlex
 import subprocess
 
+from airs import call
 from dvbemu.build import built_server
-from room import HERE, PACKET, RATE, TOP, bytes_of, calls_of, is_passed
+from room import HERE, PACKET, RATE, TOP, bytes_of, cases_of, is_passed
 
 BAD = os.path.join(HERE, "bad.py")
 NULL = b"\x47\x1f\xff\x10" + 184 * b"\xff"
@@ -29,7 +30,7 @@ def try_once(room):
     room.stream = room.path("once")
     with open(room.stream, "wb") as file:
         file.write(AHEAD * NULL + pat + BEHIND * NULL)
-    out, status = room.run(calls_of(room), "last", air=["--once", "--packets", RATE, room.stream])
+    out, status = room.run(cases_of(room), "+last", air=["--once", "--packets", RATE, room.stream])
     all_passed(room, out, status, "the last section of a stream")
     told = f"\npackets={AHEAD + 1 + BEHIND} skipped=0 rest=0\n".encode()
     room.want(told in bytes_of(room.report), "the whole stream, once", bytes_of(room.report)[:200])
@@ -52,13 +53,22 @@ def try_full(room):
     folder, server = room.path("full"), room.path("a server")
     with open(server, "w", encoding="ascii", opener=lambda path, flags: os.open(path, flags, 0o700)) as file:
         file.write(f"#!/bin/sh\nulimit -f {BLOCKS}\nexec {shlex.join(built_server())} \"$@\"\n")
-    out, status = room.run(calls_of(room), keep=folder, before=["env", f"DVBEMU_SERVER={shlex.quote(server)}"])
+    out, status = room.run(cases_of(room), "+alone", keep=folder, before=["env", f"DVBEMU_SERVER={shlex.quote(server)}"])
     all_passed(room, out, status, "a program whose calls can't be written", 1)
     room.want("dvb_serve: what was called can't be written\n" in out, "that is told", out)
     sizes = [os.path.getsize(os.path.join(folder, name)) for name in os.listdir(folder)]
     room.want(BLOCKS * 512 <= max(sizes, default=0) <= BLOCKS * 1024, "a file is written as far as there is room", sizes)
     merged = subprocess.run([os.path.join(TOP, "dvbemu"), "merge", folder], stdin=subprocess.DEVNULL, capture_output=True, check=False)
     room.want(merged.returncode == 1 and b"has no file `head`" in merged.stderr, "no report is made", merged.stderr.decode())
+
+
+def try_full_played(room):
+    """Where what is played can't be kept all else goes on, and that is told at the end, by the file's name."""
+    words = ["--report", room.report, "--played", "/dev/full", "--packets", RATE, room.stream]
+    out, status = call(room, words, [cases_of(room), "+beside"])
+    room.want(status == 1 and is_passed(out), f"a program beside a file that is full, status {status}", out)
+    room.want(out.endswith("\ndvbemu serve: /dev/full: No space left on device\n"), "that is told", out)
+    room.is_right("a run whose packets can't be kept")
 
 
 def try_old(room):
@@ -79,7 +89,7 @@ def try_old(room):
 
 def try_many(room):
     """A seat that makes many calls."""
-    out, status = room.run(calls_of(room), "many", str(MANY))
+    out, status = room.run(cases_of(room), "+many", str(MANY))
     all_passed(room, out, status, f"{MANY} calls of a seat")
     room.want(room.calls_told("stop") == MANY, "each is told", room.calls_told("stop"))
     room.is_right("a seat of many calls")
@@ -87,9 +97,9 @@ def try_many(room):
 
 def try_stopped(room):
     """A program beside one that is stopped within a request, where nothing is kept."""
-    script = "\"$0\" stopped > stopped & until grep -q there stopped; do sleep 0.1; done; exec \"$1\" beside"
-    out, status = room.run("sh", "-c", script, BAD, calls_of(room), keep="none", seats="2")
+    script = "\"$0\" stopped > stopped & until grep -q there stopped; do sleep 0.1; done; exec \"$1\" +beside"
+    out, status = room.run("sh", "-c", script, BAD, cases_of(room), keep="none", seats="2")
     all_passed(room, out, status, "a program beside one that is stopped")
 
 
-PARTS = try_once, try_last_bell, try_full, try_old, try_many, try_stopped
+PARTS = try_once, try_last_bell, try_full, try_full_played, try_old, try_many, try_stopped

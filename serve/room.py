@@ -17,11 +17,6 @@ PACKET, BATCH = 188, 64
 RATE, MOST, AGAIN = "1500", 300, 300_000
 
 
-def calls_of(room):
-    """The program of serve/calls.c."""
-    return os.path.join(os.path.dirname(room.folder), "calls")
-
-
 def cases_of(room):
     """The program of preload/cases."""
     return os.path.join(os.path.dirname(room.folder), "cases")

@@ -29,11 +29,19 @@ struct one {
 	void (*try)(void);
 	int alone;
 };
-#define CASE(name) { #name, name, 0 }
-#define ALONE(name) { #name, name, 1 }
-extern const struct one paths[], descriptors[], waits[], reads[], tunings[], stacks[], killed[];
+/* the head of a case, which stands in a section of its own with all others */
+#define HEAD(name, alone)                                                                                               \
+	static void name(void);                                                                                         \
+	static const struct one one_##name __attribute__((used, section("cases"), aligned(8))) = { #name, name, alone };\
+	static void name(void)
+#define CASE(name) HEAD(name, 0)
+#define ALONE(name) HEAD(name, 1)
+extern const struct one __start_cases[], __stop_cases[];
 
 extern unsigned char bytes[1 << 21];
+
+const struct one *case_of(const char *name);
+int here(const char *word, const char *number);
 
 /* ends the case where this doesn't hold */
 void want(int holds, const char *what);

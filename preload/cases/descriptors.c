@@ -9,7 +9,7 @@
 
 #include "cases.h"
 
-static void doubled(void)
+CASE(doubled)
 {
 	int fd = pat(0), other = dup(fd), third = fcntl(fd, F_DUPFD_CLOEXEC, 50);
 	want(other >= 0 && is_pat(other), "dup");
@@ -17,20 +17,20 @@ static void doubled(void)
 	want(!close(fd) && is_pat(other) && !close(other) && is_pat(third), "the others go on behind a close");
 }
 
-static void moved_to_a_number(void)
+CASE(moved_to_a_number)
 {
 	int fd = pat(0);
 	want(dup2(fd, 0) == 0 && !close(fd) && is_pat(0), "dup2 to 0");
 	want(dup3(0, 77, O_CLOEXEC) == 77 && is_pat(77), "dup3");
 }
 
-static void replaced_by_dup2(void)
+CASE(replaced_by_dup2)
 {
 	int fd = pat(0), other = open("/etc/passwd", O_RDONLY);
 	want(dup2(other, fd) == fd && read(fd, bytes, 4) == 4 && bytes[0] != 0, "a file over a device is that file");
 }
 
-static void closed_by_fclose(void)
+CASE(closed_by_fclose)
 {
 	char name[] = "/tmp/cases.XXXXXX";
 	int fd = pat(0), other = mkstemp(name);
@@ -41,14 +41,14 @@ static void closed_by_fclose(void)
 	want(again == fd && read(again, bytes, 100) == 5 && !memcmp(bytes, "hello", 5), "a file with the number of a device that fclose closed");
 }
 
-static void closed_past_the_library(void)
+CASE(closed_past_the_library)
 {
 	int fd = pat(0), is_closed = !syscall(SYS_close, fd), other = open("/etc/passwd", O_RDONLY);
 	want(is_closed && other == fd, "a number is another's");
 	want(read(other, bytes, 4) == 4 && bytes[0] != 0, "and a read of it is a file's");
 }
 
-static void all_closed_past_the_library(void)
+CASE(all_closed_past_the_library)
 {
 	for (int i = 0; i < 12; i++) {
 		close(pat(0));
@@ -58,7 +58,7 @@ static void all_closed_past_the_library(void)
 	}
 }
 
-static void each_close_frees_the_node(void)
+ALONE(each_close_frees_the_node)
 {
 	int fds[MOST_NODES];
 	want(nodes_free(fds) == 32 && errno == EMFILE, "32 nodes");
@@ -72,7 +72,7 @@ static void each_close_frees_the_node(void)
 	want(nodes_free(fds) == 32, "and 32 again");
 }
 
-static void close_range_of_all(void)
+CASE(close_range_of_all)
 {
 	close(demux(0));
 	want(!close_range(3, ~0U, 0) && is_pat(pat(0)), "an open behind close_range(3, ~0)");
@@ -80,7 +80,7 @@ static void close_range_of_all(void)
 	want(is_pat(pat(0)), "and behind closefrom");
 }
 
-static void a_loop_of_closes(void)
+CASE(a_loop_of_closes)
 {
 	close(demux(0));
 	for (int i = 3; i < 65536; i++)
@@ -88,7 +88,7 @@ static void a_loop_of_closes(void)
 	want(is_pat(pat(0)), "an open behind a loop of closes");
 }
 
-static void numbers_of_the_preload(void)
+CASE(numbers_of_the_preload)
 {
 	int fd = pat(0), zero = open("/dev/null", O_RDONLY);
 	for (int i = 100; i < 1024; i++)
@@ -96,7 +96,7 @@ static void numbers_of_the_preload(void)
 	want(is_pat(fd), "and the device is there still");
 }
 
-static void closed_twice(void)
+CASE(closed_twice)
 {
 	int fd = pat(0);
 	struct pollfd one = { fd, POLLIN, 0 };
@@ -104,7 +104,7 @@ static void closed_twice(void)
 	want(poll(&one, 1, 100) == 1 && one.revents == POLLNVAL, "poll of a closed one");
 }
 
-static void few_descriptors(void)
+CASE(few_descriptors)
 {
 	struct rlimit few = { 64, 64 };
 	want(!setrlimit(RLIMIT_NOFILE, &few), "64 descriptors at most");
@@ -114,7 +114,7 @@ static void few_descriptors(void)
 	want(is_pat(first) && second >= 0, "a read");
 }
 
-static void a_high_number(void)
+CASE(a_high_number)
 {
 	struct rlimit many;
 	int zero = open("/dev/null", O_RDONLY), count = 0;
@@ -126,7 +126,7 @@ static void a_high_number(void)
 	want(many.rlim_max < 6000 || is_pat(pat(0)), "a device with a number above 4096");
 }
 
-static void flags_of_descriptors(void)
+CASE(flags_of_descriptors)
 {
 	int fd = open(DEMUX, O_RDONLY | O_NONBLOCK | O_CLOEXEC), other = demux(0), one = 1;
 	want((fcntl(fd, F_GETFL) & (O_ACCMODE | O_NONBLOCK)) == (O_RDONLY | O_NONBLOCK) && fcntl(fd, F_GETFD) == FD_CLOEXEC, "as it was opened");
@@ -142,11 +142,23 @@ static void read_pat(void *fd)
 		_exit(1);
 }
 
-static void in_a_forked_child(void)
+CASE(in_a_forked_child)
 {
 	int fd = pat(0);
 	want(child(read_pat, &fd) == 0, "a child reads");
 	want(is_pat(fd), "and then its parent");
+}
+
+static void closes_all(void *nothing)
+{
+	for (int i = 3; i < 1024; i++)
+		want(!nothing && (!close(i) || errno == EBADF), "a close");
+}
+
+CASE(closed_by_a_child)
+{
+	int fd = pat(0);
+	want(!child(closes_all, NULL) && !ioctl(fd, DMX_START) && is_pat(fd), "the node is still there behind a child's closes");
 }
 
 static void polls_and_reads(void *fd)
@@ -160,7 +172,7 @@ static void polls_and_reads(void *fd)
 		_exit(2);
 }
 
-static void in_a_daemon(void)
+CASE(in_a_daemon)
 {
 	int told[2], fd;
 	char said = 0;
@@ -179,7 +191,7 @@ static void in_a_daemon(void)
 	want(read(told[0], &said, 1) == 1 && said == '0' && !read(told[0], &said, 1), "a daemon has what its parent opened");
 }
 
-static void a_daemons_close_frees(void)
+ALONE(a_daemons_close_frees)
 {
 	int told[2], fds[MOST_NODES];
 	char said = 0;
@@ -200,7 +212,7 @@ static void a_daemons_close_frees(void)
 	want(read(told[0], &said, 1) == 1 && said == 32 && !read(told[0], &said, 1), "a daemon's closes free the nodes that its parent opened");
 }
 
-static void by_exec(void)
+CASE(by_exec)
 {
 	char script[80];
 	int all = recorder(O_RDONLY), fd = demux(0);
@@ -228,7 +240,7 @@ static int shell(const char *script)
 	return status;
 }
 
-static void by_the_shell(void)
+ALONE(by_the_shell)
 {
 	int fd = demux(0);
 	record_all(fd);
@@ -238,7 +250,7 @@ static void by_the_shell(void)
 	want(!shell("test $(dd if=" RECORDER " bs=188 count=100 iflag=fullblock status=none | wc -c) = 18800"), "dd if=dvr0");
 }
 
-static void by_spawn(void)
+CASE(by_spawn)
 {
 	extern char **environ;
 	char *words[] = { "sh", "-c", "test $(head -c 18800 | wc -c) = 18800", NULL };
@@ -253,7 +265,7 @@ static void by_spawn(void)
 	want(is_pat(pat(0)), "and its parent has its own");
 }
 
-static void by_vfork(void)
+CASE(by_vfork)
 {
 	char *words[] = { "true", NULL };
 	int fd = pat(0), status = -1;
@@ -267,7 +279,7 @@ static void by_vfork(void)
 	want(status == 0 && is_pat(fd), "what a child of vfork closes is its parent's still");
 }
 
-static void by_system_and_popen(void)
+CASE(by_system_and_popen)
 {
 	char script[80];
 	int all = recorder(O_RDONLY), fd = demux(0);
@@ -280,14 +292,14 @@ static void by_system_and_popen(void)
 	want(read(all, bytes, PACKET) == PACKET && is_pat(pat(0)), "and their parent has its own");
 }
 
-static void other_programs_beside(void)
+CASE(other_programs_beside)
 {
 	int fd = pat(0);
 	for (int i = 0; i < 5; i++)
 		want(!system("true") && is_pat(fd), "behind a program of system()");
 }
 
-static void streams(void)
+CASE(streams)
 {
 	int fd = demux(0);
 	record_all(fd);
@@ -300,7 +312,7 @@ static void streams(void)
 	want(!fopen("/dev/dvb/adapter0/demux5", "r") && errno == ENOENT, "fopen of what isn't there");
 }
 
-static void what_a_device_has_not(void)
+CASE(what_a_device_has_not)
 {
 	int ends[2], fd = pat(0);
 	off_t at = 0;
@@ -313,10 +325,3 @@ static void what_a_device_has_not(void)
 	want(write(open(DEMUX, O_RDONLY), bytes, 188) < 0 && errno == EBADF, "and EBADF where it is open to be read");
 	want(is_pat(fd), "none of it takes anything away");
 }
-
-const struct one descriptors[] = { CASE(doubled), CASE(moved_to_a_number), CASE(replaced_by_dup2), CASE(closed_by_fclose),
-				   CASE(closed_past_the_library), CASE(all_closed_past_the_library), ALONE(each_close_frees_the_node), CASE(close_range_of_all),
-				   CASE(a_loop_of_closes), CASE(numbers_of_the_preload), CASE(closed_twice), CASE(few_descriptors),
-				   CASE(a_high_number), CASE(flags_of_descriptors), CASE(in_a_forked_child), CASE(in_a_daemon),
-				   ALONE(a_daemons_close_frees), CASE(by_exec), ALONE(by_the_shell), CASE(by_spawn),
-				   CASE(by_vfork), CASE(by_system_and_popen), CASE(other_programs_beside), CASE(streams), CASE(what_a_device_has_not), { 0 } };

@@ -78,25 +78,25 @@ static void rounds(void (*does)(int), int number, int count)
 		close(fds[i]);
 }
 
-static void killed_at_the_open(void)
+ALONE(killed_at_the_open)
 {
 	rounds(opens, SIGKILL, 1);
 	rounds(opens, SIGTERM, 1);
 }
 
-static void killed_within_a_request(void)
+ALONE(killed_within_a_request)
 {
 	rounds(asks, SIGKILL, 1);
 	rounds(asks, SIGTERM, 1);
 }
 
-static void killed_with_its_parents_device(void)
+ALONE(killed_with_its_parents_device)
 {
 	rounds(asks_for_both, SIGKILL, 1);
 	rounds(asks_for_both, SIGTERM, 1);
 }
 
-static void several_are_killed_at_once(void)
+ALONE(several_are_killed_at_once)
 {
 	rounds(does_all, SIGKILL, GROUP);
 	rounds(does_all, SIGTERM, GROUP);
@@ -116,7 +116,7 @@ static void held(const char *path, int flags)
 	close(told[1]);
 }
 
-static void what_one_program_has_is_free(void)
+ALONE(what_one_program_has_is_free)
 {
 	int fd = pat(0);
 	close(recorder(O_RDONLY));
@@ -138,12 +138,9 @@ static void closes_all(void *nothing)
 	want(!nothing && !syscall(SYS_close_range, 3, ~0U, 0) && is_pat(pat(0)), "a child has its own");
 }
 
-static void a_child_closes_all_past_the_library(void)
+CASE(a_child_closes_all_past_the_library)
 {
 	int fd = pat(0);
 	for (int i = 0; i < 5; i++)
 		want(!child(closes_all, NULL) && is_pat(fd), "the parent's device goes on");
 }
-
-const struct one killed[] = { ALONE(killed_at_the_open), ALONE(killed_within_a_request), ALONE(killed_with_its_parents_device),
-			      ALONE(several_are_killed_at_once), ALONE(what_one_program_has_is_free), CASE(a_child_closes_all_past_the_library), { 0 } };

@@ -1,6 +1,6 @@
 /*
- * Own calls on an adapter, as serve/check has them: cases [NAME ..], cases -NAME .. for all others, cases +lock for whether the frontend
- * has one. Each case runs in a process of its own, several side by side. The last line is `N passed, M failed`.
+ * Own calls on an adapter, as serve/check has them: cases [NAME ..], cases -NAME .. for all others, each in a process of its own, several
+ * side by side; and cases +WORD [NUMBER], of here.c. The last line is `N passed, M failed`.
  */
 #define _GNU_SOURCE
 #include <time.h>
@@ -167,17 +167,23 @@ static int is_asked(const char *name, char **words)
 	return is_any;
 }
 
+const struct one *case_of(const char *name)
+{
+	for (const struct one *one = __start_cases; one < __stop_cases; one++)
+		if (!strcmp(one->name, name))
+			return one;
+	want(0, name);
+	return NULL;
+}
+
 int main(int count, char **words)
 {
-	const struct one *const all[] = { paths, descriptors, waits, reads, tunings, stacks, killed };
-	fe_status_t status = 0;
-	if (count == 2 && !strcmp(words[1], "+lock"))
-		return ioctl(open(TUNER, O_RDONLY), FE_READ_STATUS, &status) || !(status & FE_HAS_LOCK);
+	if (count > 1 && *words[1] == '+')
+		return here(words[1], words[2]);
 	for (int alone = 0; alone < 2; alone++)
-		for (size_t i = 0; i < sizeof all / sizeof *all; i++)
-			for (const struct one *one = all[i]; one->name; one++)
-				if (one->alone == alone && is_asked(one->name, words + 1))
-					run(one);
+		for (const struct one *one = __start_cases; one < __stop_cases; one++)
+			if (one->alone == alone && is_asked(one->name, words + 1))
+				run(one);
 	while (look())
 		pause_for(2);
 	printf("%d passed, %d failed\n", passed, failed);

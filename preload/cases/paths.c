@@ -10,7 +10,7 @@
 
 #include "cases.h"
 
-static void stat_of_a_device(void)
+CASE(stat_of_a_device)
 {
 	struct stat told;
 	want(!stat(DEMUX, &told) && S_ISCHR(told.st_mode) && major(told.st_rdev) == 212, "stat of demux0");
@@ -21,7 +21,7 @@ static void stat_of_a_device(void)
 	want(stat("/dev/dvb/adapter9", &told) && errno == ENOENT, "stat of adapter9");
 }
 
-static void statx_of_a_device(void)
+CASE(statx_of_a_device)
 {
 	struct statx told;
 	int fd = demux(0);
@@ -29,7 +29,7 @@ static void statx_of_a_device(void)
 	want(!statx(fd, "", AT_EMPTY_PATH, STATX_BASIC_STATS, &told) && S_ISCHR(told.stx_mode), "statx of a descriptor");
 }
 
-static void fstat_of_a_device(void)
+CASE(fstat_of_a_device)
 {
 	struct stat told;
 	want(!fstat(demux(0), &told) && S_ISCHR(told.st_mode) && major(told.st_rdev) == 212, "fstat of a demux");
@@ -37,7 +37,7 @@ static void fstat_of_a_device(void)
 }
 
 /* cp and others see by these whether a path and a descriptor are the same file */
-static void one_file_by_path_and_descriptor(void)
+CASE(one_file_by_path_and_descriptor)
 {
 	static const char *const all[] = { DEMUX, RECORDER, TUNER };
 	struct stat by_path, by_number, other;
@@ -55,7 +55,7 @@ static void one_file_by_path_and_descriptor(void)
 	}
 }
 
-static void stat_by_its_older_names(void)
+CASE(stat_by_its_older_names)
 {
 	int (*by_path)(int, const char *, struct stat *) = (__typeof__(by_path))dlsym(RTLD_DEFAULT, "__xstat64");
 	int (*by_number)(int, int, struct stat *) = (__typeof__(by_number))dlsym(RTLD_DEFAULT, "__fxstat");
@@ -65,7 +65,7 @@ static void stat_by_its_older_names(void)
 	want(by_number && !by_number(1, demux(0), &told) && S_ISCHR(told.st_mode), "__fxstat of a demux");
 }
 
-static void access_to_a_device(void)
+CASE(access_to_a_device)
 {
 	want(!access(DEMUX, R_OK | W_OK) && !access("/dev/dvb/adapter0", X_OK), "access");
 	want(access(DEMUX "x", F_OK) && errno == ENOENT, "access to what isn't there");
@@ -84,7 +84,7 @@ static int is_node(const struct dirent *entry) { return *entry->d_name != '.'; }
 
 static int is_node64(const struct dirent64 *entry) { return *entry->d_name != '.'; }
 
-static void folders_are_read(void)
+CASE(folders_are_read)
 {
 	struct dirent **names;
 	struct dirent64 **names64;
@@ -94,7 +94,7 @@ static void folders_are_read(void)
 	want(scandir("/dev/dvb/adapter0", &names, is_node, alphasort) == 3 && !strcmp(names[0]->d_name, "demux0"), "scandir of adapter0");
 }
 
-static void patterns(void)
+CASE(patterns)
 {
 	glob_t names;
 	glob64_t names64;
@@ -106,7 +106,7 @@ static void patterns(void)
 	want(glob("/dev/dvb/adapter7*", 0, NULL, &names) == GLOB_NOMATCH, "glob of no adapter");
 }
 
-static void attributes(void)
+CASE(attributes)
 {
 	want(lgetxattr(DEMUX, "user.none", bytes, 8) < 0 && errno != ENOENT, "lgetxattr");
 	want(getxattr(DEMUX, "user.none", bytes, 8) < 0 && errno != ENOENT, "getxattr");
@@ -114,7 +114,7 @@ static void attributes(void)
 	want(getxattr("/dev/dvb/adapter9", "user.none", bytes, 8) < 0 && errno == ENOENT, "getxattr of what isn't there");
 }
 
-static void open_from_a_folder(void)
+CASE(open_from_a_folder)
 {
 	int folder = open("/dev/dvb/adapter0", O_RDONLY | O_DIRECTORY), fd;
 	struct stat told;
@@ -126,7 +126,7 @@ static void open_from_a_folder(void)
 	want(!faccessat(folder, "frontend0", R_OK, 0), "faccessat from it");
 }
 
-static void open_from_the_working_folder(void)
+CASE(open_from_the_working_folder)
 {
 	char there[PATH_MAX];
 	want(!chdir("/dev/dvb/adapter0") && getcwd(there, sizeof there) && !strcmp(there, "/dev/dvb/adapter0"), "chdir, getcwd");
@@ -134,14 +134,14 @@ static void open_from_the_working_folder(void)
 	want(!access("dvr0", R_OK) && !chdir("..") && open("adapter0/demux0", O_RDWR) >= 0, "and from the folder above");
 }
 
-static void slashes_and_dots(void)
+CASE(slashes_and_dots)
 {
 	want(open("/dev/dvb/adapter0//demux0", O_RDWR) >= 0, "two slashes");
 	want(open("/dev/../dev/./dvb/adapter0/demux0", O_RDWR) >= 0, "dots");
 	want(open("/dev/dvb/../dvb/adapter0/demux0", O_RDWR) >= 0, "dots behind it");
 }
 
-static void links(void)
+CASE(links)
 {
 	char folder[] = "/tmp/cases.XXXXXX", link[64], other[64], below[80], real[PATH_MAX];
 	struct stat told;
@@ -161,7 +161,7 @@ static void links(void)
 	want(is_real, "realpath of a link");
 }
 
-static void real_paths(void)
+CASE(real_paths)
 {
 	char real[PATH_MAX], *made = realpath("/dev//dvb/adapter0/./demux0", NULL);
 	want(made && !strcmp(made, DEMUX), "realpath");
@@ -173,7 +173,7 @@ static void real_paths(void)
 	want(readlink("/proc/self/exe", real, sizeof real) > 0, "readlink of a link");
 }
 
-static void flags_of_open(void)
+CASE(flags_of_open)
 {
 	want(open(DEMUX, O_RDWR | O_CREAT | O_EXCL, 0600) < 0 && errno == EEXIST, "a new file is EEXIST");
 	want(open(DEMUX, O_RDONLY | O_DIRECTORY) < 0 && errno == ENOTDIR, "a folder is ENOTDIR");
@@ -184,7 +184,7 @@ static void flags_of_open(void)
 	want(is_pat(fd), "a filter of a demux that is open to be read");
 }
 
-static void other_files(void)
+CASE(other_files)
 {
 	char name[] = "/tmp/cases.XXXXXX";
 	int fd = mkstemp(name);
@@ -193,8 +193,3 @@ static void other_files(void)
 	want(open("/nowhere/file", O_RDONLY) < 0 && errno == ENOENT, "and none is too");
 	want(!chdir("/") && !access("etc", F_OK) && adapters_in(opendir("/tmp")) >= 0, "other folders too");
 }
-
-const struct one paths[] = { CASE(stat_of_a_device), CASE(statx_of_a_device), CASE(fstat_of_a_device),
-			     CASE(one_file_by_path_and_descriptor), CASE(stat_by_its_older_names), CASE(access_to_a_device),
-			     CASE(folders_are_read), CASE(patterns), CASE(attributes), CASE(open_from_a_folder), CASE(open_from_the_working_folder), CASE(slashes_and_dots),
-			     CASE(links), CASE(real_paths), CASE(flags_of_open), CASE(other_files), { 0 } };

@@ -5,21 +5,21 @@
 
 #include "cases.h"
 
-static void sections(void)
+CASE(sections)
 {
 	int fd = pat(0);
 	want(is_pat(fd) && read(fd, bytes, 0) == 0, "a section, and none of its bytes");
 	want(read(fd, bytes, 10) == 10 && read(fd, bytes, 4096) > 0, "one in two reads");
 }
 
-static void nothing_waits(void)
+CASE(nothing_waits)
 {
 	want(read(silent(O_NONBLOCK), bytes, 100) < 0 && errno == EAGAIN, "EAGAIN");
 }
 
-static void before_a_filter(void) { want(read(demux(0), bytes, 100) == 0, "no bytes before any filter"); }
+CASE(before_a_filter) { want(read(demux(0), bytes, 100) == 0, "no bytes before any filter"); }
 
-static void a_timeout(void)
+CASE(a_timeout)
 {
 	struct dmx_sct_filter_params params = { .pid = NEVER, .timeout = 300, .flags = DMX_IMMEDIATE_START };
 	int fd = demux(0), other = demux(O_NONBLOCK);
@@ -29,7 +29,7 @@ static void a_timeout(void)
 	want(!ioctl(other, DMX_SET_FILTER, &params) && poll(&one, 1, LATE_MS) == 1 && one.revents & POLLERR, "poll tells it by POLLERR");
 }
 
-static void an_overflow(void)
+CASE(an_overflow)
 {
 	struct dmx_pes_filter_params params = { .pid = ALL_PIDS, .input = DMX_IN_FRONTEND, .output = DMX_OUT_TSDEMUX_TAP,
 						.pes_type = DMX_PES_OTHER, .flags = DMX_IMMEDIATE_START };
@@ -43,14 +43,14 @@ static void an_overflow(void)
 	want(one.revents & POLLERR && read(fd, bytes, PACKET) < 0 && errno == EOVERFLOW, "an overflow is told by POLLERR and EOVERFLOW");
 }
 
-static void all_bytes_of_the_recorder(void)
+CASE(all_bytes_of_the_recorder)
 {
 	int fd = demux(0), all = recorder(O_RDONLY);
 	record_all(fd);
 	want(read(all, bytes, 1000 * PACKET) == 1000 * PACKET && bytes[0] == 0x47 && bytes[999 * PACKET] == 0x47, "a read waits for all");
 }
 
-static void by_few_bytes(void)
+CASE(by_few_bytes)
 {
 	int fd = demux(0), all = recorder(O_RDONLY);
 	record_all(fd);
@@ -60,7 +60,7 @@ static void by_few_bytes(void)
 		want(bytes[i * PACKET] == 0x47, "are packets together");
 }
 
-static void what_is_there(void)
+CASE(what_is_there)
 {
 	int fd = demux(0), all = recorder(O_RDONLY | O_NONBLOCK);
 	struct pollfd one = { all, POLLIN, 0 };
@@ -70,7 +70,7 @@ static void what_is_there(void)
 	want(n > 0 && n % PACKET == 0 && bytes[0] == 0x47, "a read that doesn't wait gives what is there");
 }
 
-static void in_parts(void)
+CASE(in_parts)
 {
 	int fd = demux(0), all = recorder(O_RDONLY);
 	struct iovec parts[3] = { { bytes, PACKET }, { bytes + PACKET, PACKET }, { bytes + 2 * PACKET, PACKET } };
@@ -79,7 +79,7 @@ static void in_parts(void)
 }
 
 /* A place in the file is kept and means nothing, as of a kernel's demux: default_llseek, and for a frontend noop_llseek. */
-static void at_a_place(void)
+CASE(at_a_place)
 {
 	struct iovec parts[2] = { { bytes, 8 }, { bytes + 8, 4088 } };
 	int fd = pat(0), tune = open(TUNER, O_RDONLY);
@@ -95,15 +95,23 @@ static void at_a_place(void)
 	want(pread(tune, bytes, 10, 0) < 0 && errno == EINVAL, "and all of a frontend");
 }
 
-static void one_recorder(void)
+CASE(one_recorder)
 {
-	int all = recorder(O_RDONLY);
+	int all = recorder(O_RDONLY), fd = demux(O_NONBLOCK);
+	uint16_t pid = 256;
+	record_all(fd);
+	want(ioctl(fd, DMX_SET_BUFFER_SIZE, 100000) < 0 && errno == EBUSY, "another size while it runs is EBUSY");
+	want(ioctl(fd, DMX_ADD_PID, &pid) < 0 && errno == EINVAL, "another PID of a filter that records is EINVAL");
+	want(!close(fd) && !fcntl(all, F_SETFL, O_NONBLOCK), "it ends");
+	while (read(all, bytes, sizeof bytes) > 0)
+		;
+	want(errno == EAGAIN || errno == EOVERFLOW, "and nothing is recorded any more");
 	want(all >= 0 && open(RECORDER, O_RDONLY) < 0 && errno == EBUSY, "a second one is EBUSY");
 	want(!close(all) && (all = recorder(O_RDONLY)) >= 0, "and behind a close isn't");
 	want(!ioctl(all, DMX_SET_BUFFER_SIZE, 7700480), "a size of it");
 }
 
-static void payloads(void)
+CASE(payloads)
 {
 	struct dmx_pes_filter_params params = { .pid = 256, .input = DMX_IN_FRONTEND, .output = DMX_OUT_TAP, .pes_type = DMX_PES_OTHER,
 						.flags = DMX_IMMEDIATE_START };
@@ -116,7 +124,7 @@ static void payloads(void)
 	want(!ioctl(fd, DMX_ADD_PID, &pid) && !ioctl(fd, DMX_REMOVE_PID, &pid), "DMX_ADD_PID, DMX_REMOVE_PID");
 }
 
-static void requests_that_it_has_not(void)
+CASE(requests_that_it_has_not)
 {
 	uint16_t pids[5];
 	struct dmx_requestbuffers buffers = { .count = 8, .size = 4096 };
@@ -130,7 +138,7 @@ static void requests_that_it_has_not(void)
 	want(ioctl(recorder(O_RDONLY), DMX_START) < 0 && errno == EINVAL, "DMX_START of dvr0 is EINVAL");
 }
 
-static void bad_pointers(void)
+CASE(bad_pointers)
 {
 	void *volatile nowhere = (void *)8;
 	int fd = pat(0);
@@ -141,7 +149,7 @@ static void bad_pointers(void)
 
 static void *reads_one(void *fd) { return (void *)(intptr_t)read(*(int *)fd, bytes, 4096); }
 
-static void a_thread_is_cancelled(void)
+CASE(a_thread_is_cancelled)
 {
 	int fd = silent(0);
 	pthread_t thread;
@@ -152,7 +160,7 @@ static void a_thread_is_cancelled(void)
 	want(is_pat(pat(0)), "and others read");
 }
 
-static void closed_by_another_thread(void)
+CASE(closed_by_another_thread)
 {
 	int fd = silent(0);
 	pthread_t thread;
@@ -172,7 +180,7 @@ static void *reads_many(void *pid)
 	return (void *)(intptr_t)bad;
 }
 
-static void many_threads(void)
+CASE(many_threads)
 {
 	pthread_t threads[16];
 	void *bad;
@@ -194,7 +202,7 @@ static void *opens_many(void *nothing)
 	return nothing;
 }
 
-static void threads_that_open(void)
+CASE(threads_that_open)
 {
 	pthread_t threads[4];
 	void *bad;
@@ -204,15 +212,10 @@ static void threads_that_open(void)
 		want(!pthread_join(threads[i], &bad) && !bad, "open and close side by side");
 }
 
-static void without_bells(void)
+ALONE(without_bells)
 {
 	for (int i = 0; i < 1000 && inotify_init1(0) >= 0; i++)
 		;
 	struct pollfd one = { pat(0), POLLIN, 0 };
 	want(poll(&one, 1, LATE_MS) == 1 && is_pat(one.fd), "where no inotify is left");
 }
-
-const struct one reads[] = { CASE(sections), CASE(nothing_waits), CASE(before_a_filter), CASE(a_timeout), CASE(an_overflow),
-			     CASE(all_bytes_of_the_recorder), CASE(by_few_bytes), CASE(what_is_there), CASE(in_parts), CASE(at_a_place), CASE(one_recorder),
-			     CASE(payloads), CASE(requests_that_it_has_not), CASE(bad_pointers), CASE(a_thread_is_cancelled),
-			     CASE(closed_by_another_thread), CASE(many_threads), CASE(threads_that_open), ALONE(without_bells), { 0 } };

@@ -136,7 +136,7 @@ static void *in_thread(void *one)
 	return NULL;
 }
 
-static void small_stacks(void)
+CASE(small_stacks)
 {
 	pthread_attr_t attributes;
 	pthread_t thread;
@@ -145,5 +145,3 @@ static void small_stacks(void)
 	for (size_t i = 0; i < sizeof all / sizeof *all; i++)
 		want(!pthread_create(&thread, &attributes, in_thread, (void *)&all[i]) && !pthread_join(thread, NULL), all[i].name);
 }
-
-const struct one stacks[] = { CASE(small_stacks), { 0 } };

@@ -34,7 +34,7 @@ static int tuned(int flags)
 	return fd;
 }
 
-static void one_may_tune(void)
+ALONE(one_may_tune)
 {
 	int first = tuner(O_RDWR), beside = open(TUNER, O_RDONLY);
 	want(open(TUNER, O_RDWR) < 0 && errno == EBUSY, "a second one that may is EBUSY");
@@ -43,7 +43,7 @@ static void one_may_tune(void)
 	want(open(TUNER, O_RDWR) >= 0, "behind its close another may");
 }
 
-static void who_looks_may_not_tune(void)
+CASE(who_looks_may_not_tune)
 {
 	struct dvb_frontend_event event;
 	struct dvb_frontend_info info;
@@ -54,7 +54,7 @@ static void who_looks_may_not_tune(void)
 	told(fd, DTV_API_VERSION);
 }
 
-static void another_process_sees_the_lock(void)
+CASE(another_process_sees_the_lock)
 {
 	int fd = tuned(0);
 	pid_t pid = fork();
@@ -67,7 +67,7 @@ static void another_process_sees_the_lock(void)
 	want(fd >= 0 && status == 0, "a program beside it has the lock too");
 }
 
-static void statistics_agree(void)
+CASE(statistics_agree)
 {
 	int fd = tuned(0);
 	uint16_t strength = 0, ratio = 0;
@@ -82,7 +82,7 @@ static void statistics_agree(void)
 	     "no lost blocks");
 }
 
-static void what_was_set_is_told(void)
+CASE(what_was_set_is_told)
 {
 	int fd = tuner(O_RDWR);
 	struct dtv_property systems = told(fd, DTV_ENUM_DELSYS);
@@ -93,7 +93,7 @@ static void what_was_set_is_told(void)
 	want(!set(fd, DTV_CLEAR, 0) && !told(fd, DTV_FREQUENCY).u.data && told(fd, DTV_MODULATION).u.data == QAM_AUTO, "cleared");
 }
 
-static void lists_of_properties(void)
+CASE(lists_of_properties)
 {
 	struct dtv_property many[65] = { { .cmd = DTV_API_VERSION } };
 	struct dtv_properties none = { 0, many }, all = { 65, many }, nowhere = { 1, (void *)8 };
@@ -106,7 +106,7 @@ static void lists_of_properties(void)
 }
 
 /* what lies outside of what FE_GET_INFO tells is EINVAL, and changes nothing */
-static void frequencies_that_it_has_not(void)
+CASE(frequencies_that_it_has_not)
 {
 	struct dvb_frontend_info info;
 	fe_status_t status;
@@ -123,7 +123,7 @@ static void frequencies_that_it_has_not(void)
 	want(!set(fd, DTV_FREQUENCY, info.frequency_max) && !set(fd, DTV_TUNE, 0) && is_locked(fd), "and the greatest");
 }
 
-static void an_event(void)
+CASE(an_event)
 {
 	int fd = tuner(O_RDWR | O_NONBLOCK);
 	struct dvb_frontend_parameters asked = { .frequency = FREQUENCY, .u.ofdm.bandwidth = BANDWIDTH_7_MHZ }, now;
@@ -135,14 +135,14 @@ static void an_event(void)
 	want(!ioctl(fd, FE_GET_FRONTEND, &now) && now.frequency == FREQUENCY && now.u.ofdm.bandwidth == BANDWIDTH_7_MHZ, "FE_GET_FRONTEND");
 }
 
-static void an_old_event_is_not_told(void)
+CASE(an_old_event_is_not_told)
 {
 	struct dvb_frontend_event event;
 	close(tuned(0));
 	want(ioctl(tuner(O_RDWR | O_NONBLOCK), FE_GET_EVENT, &event) < 0 && errno == EAGAIN, "an event from before its open");
 }
 
-static void an_event_is_waited_for(void)
+CASE(an_event_is_waited_for)
 {
 	int fd = tuner(O_RDWR);
 	struct dvb_frontend_parameters asked = { .frequency = FREQUENCY };
@@ -150,7 +150,7 @@ static void an_event_is_waited_for(void)
 	want(!ioctl(fd, FE_SET_FRONTEND, &asked) && !ioctl(fd, FE_GET_EVENT, &event) && event.status & FE_HAS_LOCK, "a call waits for it");
 }
 
-static void what_a_frontend_has_not(void)
+CASE(what_a_frontend_has_not)
 {
 	int fd = tuner(O_RDWR);
 	want(ioctl(fd, _IO('o', 200)) < 0 && errno == ENOTTY, "an unknown ioctl is ENOTTY");
@@ -158,7 +158,3 @@ static void what_a_frontend_has_not(void)
 	want(read(fd, bytes, 100) < 0 && errno == EINVAL && write(fd, bytes, 100) < 0 && errno == EINVAL, "read and write are EINVAL");
 	want(set(fd, DTV_MAX_COMMAND + 1, 0) < 0 && errno == EINVAL, "an unknown property is EINVAL");
 }
-
-const struct one tunings[] = { ALONE(one_may_tune), CASE(who_looks_may_not_tune), CASE(another_process_sees_the_lock), CASE(statistics_agree),
-			       CASE(what_was_set_is_told), CASE(lists_of_properties), CASE(frequencies_that_it_has_not), CASE(an_event), CASE(an_old_event_is_not_told),
-			       CASE(an_event_is_waited_for), CASE(what_a_frontend_has_not), { 0 } };

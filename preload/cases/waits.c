@@ -31,7 +31,7 @@ static void read_all(int fd)
 	want(errno == EAGAIN, "a read of nothing is EAGAIN");
 }
 
-static void poll_of_two(void)
+CASE(poll_of_two)
 {
 	int first = pat(O_NONBLOCK), second = demux(O_NONBLOCK), counts[2] = { 0, 0 };
 	struct dmx_sct_filter_params params = { .pid = 17, .flags = DMX_IMMEDIATE_START, .filter = { .filter = { 0x42 }, .mask = { 0xff } } };
@@ -49,7 +49,7 @@ static void poll_of_two(void)
 }
 
 /* packets of a PID that a running filter gets wake whoever waits, each time anew */
-static void an_added_pid(void)
+CASE(an_added_pid)
 {
 	struct dmx_pes_filter_params params = { .pid = NEVER, .input = DMX_IN_FRONTEND, .output = DMX_OUT_TSDEMUX_TAP,
 						.pes_type = DMX_PES_OTHER, .flags = DMX_IMMEDIATE_START };
@@ -64,13 +64,13 @@ static void an_added_pid(void)
 	}
 }
 
-static void poll_by_priority(void)
+CASE(poll_by_priority)
 {
 	struct pollfd one = { pat(0), POLLPRI, 0 };
 	want(poll(&one, 1, LATE_MS) == 1 && one.revents == POLLPRI && one.events == POLLPRI, "POLLPRI alone");
 }
 
-static void poll_of_many(void)
+CASE(poll_of_many)
 {
 	static struct pollfd many[3000];
 	struct rlimit limit;
@@ -84,7 +84,7 @@ static void poll_of_many(void)
 	want(limit.rlim_cur < 3000 || poll(many, 3000, LATE_MS) == 1, "poll over 3000");
 }
 
-static void select_in_each_set(void)
+CASE(select_in_each_set)
 {
 	int fd = pat(0);
 	fd_set reads, others;
@@ -101,7 +101,7 @@ static void select_in_each_set(void)
 	want(pselect(fd + 1, &reads, NULL, &others, &also, NULL) == 2 && FD_ISSET(fd, &others) && FD_ISSET(fd, &reads), "pselect of both");
 }
 
-static void ends_by_its_time(void)
+CASE(ends_by_its_time)
 {
 	int fd = silent(O_NONBLOCK);
 	struct pollfd one = { fd, POLLIN, 0 };
@@ -112,7 +112,7 @@ static void ends_by_its_time(void)
 	want(!poll(&one, 1, 50) && !select(fd + 1, &reads, NULL, NULL, &most) && !finds(set_with(fd, EPOLLIN), 50), "nothing comes");
 }
 
-static void nothing_is_left(void)
+CASE(nothing_is_left)
 {
 	int fd = pat(O_NONBLOCK);
 	struct pollfd one = { fd, POLLIN, 0 };
@@ -122,7 +122,7 @@ static void nothing_is_left(void)
 	want(!poll(&one, 1, 50) && !finds(set_with(fd, EPOLLIN), 50), "no wait finds what was read");
 }
 
-static void by_level(void)
+CASE(by_level)
 {
 	int fd = pat(O_NONBLOCK), set = set_with(fd, EPOLLIN);
 	want(finds(set, LATE_MS) == 1 && finds(set, 0) == 1, "epoll finds it until it is read");
@@ -131,7 +131,7 @@ static void by_level(void)
 	want(!finds(set, 50), "and not behind that");
 }
 
-static void by_edge(void)
+CASE(by_edge)
 {
 	int fd = pat(O_NONBLOCK), set = set_with(fd, EPOLLIN | EPOLLET);
 	for (int i = 0; i < 4; i++) {
@@ -141,14 +141,14 @@ static void by_edge(void)
 	}
 }
 
-static void by_edge_and_part(void)
+CASE(by_edge_and_part)
 {
 	int fd = pat(O_NONBLOCK), set = set_with(fd, EPOLLIN | EPOLLET);
 	for (int i = 0; i < 4; i++)
 		want(finds(set, LATE_MS) == 1 && read(fd, bytes, 4) > 0, "an edge behind a read of a part");
 }
 
-static void once_at_a_time(void)
+CASE(once_at_a_time)
 {
 	int fd = pat(O_NONBLOCK), set = set_with(fd, EPOLLIN | EPOLLONESHOT);
 	struct epoll_event one = { EPOLLIN | EPOLLONESHOT, { .fd = fd } };
@@ -156,7 +156,7 @@ static void once_at_a_time(void)
 	want(!epoll_ctl(set, EPOLL_CTL_MOD, fd, &one) && finds(set, LATE_MS) == 1, "and again");
 }
 
-static void a_set_in_a_set(void)
+CASE(a_set_in_a_set)
 {
 	int inner = set_with(pat(O_NONBLOCK), EPOLLIN), outer = set_with(inner, EPOLLIN);
 	struct pollfd one = { set_with(pat(O_NONBLOCK), EPOLLIN), POLLIN, 0 };
@@ -164,7 +164,7 @@ static void a_set_in_a_set(void)
 	want(poll(&one, 1, LATE_MS) == 1, "a set in poll");
 }
 
-static void by_each_wait(void)
+CASE(by_each_wait)
 {
 	int set = set_with(pat(O_NONBLOCK), EPOLLIN | EPOLLPRI);
 	struct epoll_event one;
@@ -193,7 +193,7 @@ static void *sets(void *with)
 	return NULL;
 }
 
-static void as_a_reactor_does(void)
+CASE(as_a_reactor_does)
 {
 	struct two added = { epoll_create1(0), pat(O_NONBLOCK) };
 	pthread_t thread;
@@ -203,7 +203,7 @@ static void as_a_reactor_does(void)
 	want(!pthread_create(&thread, NULL, sets, &set) && finds(set.set, LATE_MS) == 1, "and one of which another sets the filter");
 }
 
-static void set_while_one_waits(void)
+CASE(set_while_one_waits)
 {
 	struct two two = { 0, demux(O_NONBLOCK) };
 	struct pollfd one = { two.fd, POLLIN, 0 };
@@ -217,7 +217,7 @@ static void set_while_one_waits(void)
 	want(!pthread_create(&thread, NULL, sets, &two) && select(two.fd + 1, &reads, NULL, NULL, NULL) == 1, "select");
 }
 
-static void by_io_uring(void)
+CASE(by_io_uring)
 {
 	struct io_uring_params params = { 0 };
 	int fd = pat(O_NONBLOCK), ring = (int)syscall(SYS_io_uring_setup, 4, &params);
@@ -246,7 +246,7 @@ static void rings_every(int milliseconds, int flags)
 	setitimer(ITIMER_REAL, &time, NULL);
 }
 
-static void a_signal_ends_a_wait(void)
+CASE(a_signal_ends_a_wait)
 {
 	struct pollfd one = { silent(0), POLLIN, 0 };
 	rings_every(300, SA_RESTART);
@@ -266,7 +266,7 @@ static void *ends(void *of)
 	return NULL;
 }
 
-static void a_signal_begins_a_read_again(void)
+CASE(a_signal_begins_a_read_again)
 {
 	struct sigaction action = { .sa_handler = note };
 	pthread_t thread;
@@ -285,7 +285,7 @@ static void a_signal_begins_a_read_again(void)
 	want(read(fd, bytes, 10) < 0 && errno == EINTR && seconds() - begun > 0.8 && rang > 3, "a read goes on behind handlers with SA_RESTART");
 }
 
-static void a_signal_ends_a_read_in_part(void)
+CASE(a_signal_ends_a_read_in_part)
 {
 	int fd = demux(0), all = recorder(O_RDONLY);
 	record_all(fd);
@@ -294,7 +294,7 @@ static void a_signal_ends_a_read_in_part(void)
 	want(n > 0 && n < (ssize_t)sizeof bytes, "a read that has some bytes ends by any handler");
 }
 
-static void many_signals(void)
+CASE(many_signals)
 {
 	int fd = pat(0);
 	rings_every(1, SA_RESTART);
@@ -302,7 +302,7 @@ static void many_signals(void)
 		want(is_pat(fd), "reads with a signal each millisecond");
 }
 
-static void the_mask_of_a_wait(void)
+CASE(the_mask_of_a_wait)
 {
 	struct sigaction action = { .sa_handler = note };
 	struct timespec most = { 8, 0 };
@@ -316,10 +316,3 @@ static void the_mask_of_a_wait(void)
 	double begun = seconds();
 	want(ppoll(&one, 1, &most, &before) < 0 && errno == EINTR && seconds() - begun < 5, "ppoll lets a signal in that waits");
 }
-
-const struct one waits[] = { CASE(poll_of_two), CASE(an_added_pid), CASE(poll_by_priority), CASE(poll_of_many), CASE(select_in_each_set),
-			     CASE(ends_by_its_time), CASE(nothing_is_left), CASE(by_level), CASE(by_edge), CASE(by_edge_and_part), CASE(once_at_a_time),
-			     CASE(a_set_in_a_set), CASE(by_each_wait), CASE(as_a_reactor_does), CASE(set_while_one_waits), CASE(by_io_uring),
-			     CASE(a_signal_ends_a_wait), CASE(a_signal_begins_a_read_again),
-			     CASE(a_signal_ends_a_read_in_part), CASE(many_signals), CASE(the_mask_of_a_wait),
-			     { 0 } };

@@ -183,7 +183,7 @@ def not_written(options: Namespace, air: Sequence[Sequence[Channel]]) -> list[tu
 
 def made(path: str, option: str, others: list[tuple[os.stat_result, str]], opened: contextlib.ExitStack) -> BinaryIO:
     """Opens a file to be written, which is none of these others, and from now on one of them. A device or a pipe may be."""
-    file = opened.enter_context(open(path, "ab"))
+    file = opened.enter_context(open(path, "ab", buffering=0))
     there = os.fstat(file.fileno())
     for other, what in others:
         if stat.S_ISREG(there.st_mode) and os.path.samestat(there, other):
@@ -248,8 +248,10 @@ def outs_of(options: Namespace, air: Sequence[Sequence[Channel]], opened: contex
 def tell_end(options: Namespace, count: int, adapters: Sequence[Adapter], status: int) -> None:
     """Says where the report is, where no word has, and of a command that no signal has ended that nobody has opened an adapter."""
     if status < 128 and not any(adapter.was_opened() for adapter in adapters):
-        print("dvbemu serve: no program opened the adapter; one that is linked statically, made by Go, setuid or of 32 bits doesn't see it",
+        print("dvbemu serve: no program opened the adapter; one that is linked statically, made by Go, for musl or 32 bits, or setuid doesn't see it",
               file=sys.stderr)  # fmt: skip
+    if seatless := sum(adapter.front.seatless() for adapter in adapters):
+        print(f"dvbemu serve: {seatless} program{'s' * (seatless > 1)} found no seat, as {options.seats} may be in at a time (--seats)", file=sys.stderr)
     last = f".0 to .{count - 1}" if count > 1 else ""
     if options.keep not in ("all", "none"):
         print(f"dvbemu serve: `dvbemu merge {options.keep}{'/N' if count > 1 else ''}` writes the report", file=sys.stderr)
@@ -280,6 +282,8 @@ def serve(options: Namespace, command: Sequence[str], air: Sequence[Sequence[Cha
         end_all_but(set(), folder)
         raise
     tell_end(options, len(air), adapters, status)
+    for adapter in adapters:
+        adapter.see_kept()
     return status
 
 

@@ -170,6 +170,11 @@ class Adapter:
         except subprocess.TimeoutExpired:
             raise Stopped("the server didn't end, and was killed") from None
 
+    def see_kept(self) -> None:
+        """Sees that what was to be kept beside the report is."""
+        for name, fault in self.feeder.unkept.items():
+            raise Stopped(f"{name}: {fault}")
+
     def was_opened(self) -> bool:
         """Whether a program has opened one of its devices: its node then has a bell."""
         return self.front.was_opened() or bool(glob.glob(os.path.join(glob.escape(self.folder), "bell.*")))

@@ -135,7 +135,7 @@ class Front:
     """The page that a frontend's programs and this one share."""
 
     SIZE, MOST_SYSTEMS = 4096, 7
-    HEAD, PACKETS_AT, SYSTEMS_AT, SYSTEM_AT = struct.Struct("=9I"), 40, 48, 80 + 4 * 17
+    HEAD, SEATLESS_AT, PACKETS_AT, SYSTEMS_AT, SYSTEM_AT = struct.Struct("=9I"), 36, 40, 48, 80 + 4 * 17
 
     def __init__(self, path: str, systems: Sequence[int]) -> None:
         self.file = os.open(path, os.O_RDWR | os.O_CREAT | os.O_CLOEXEC, 0o600)
@@ -152,6 +152,11 @@ class Front:
     def was_opened(self) -> bool:
         """Whether a program has used the frontend: it has a delivery system from then on."""
         return struct.unpack_from("=I", self.page, self.SYSTEM_AT) != (0,)
+
+    def seatless(self) -> int:
+        """How many programs have found no seat."""
+        found: int = struct.unpack_from("=I", self.page, self.SEATLESS_AT)[0]
+        return found
 
     def grant(self, wanted: int, status: int) -> None:
         """A tuning is done. Programs that wait are told of it by the file."""

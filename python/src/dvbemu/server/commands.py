@@ -19,8 +19,8 @@ if TYPE_CHECKING:
 
     from .adapters import Folder
 
-# Of an executable file: the kind of a segment that names the system's loader, and the kind and name of a note of Go's linker.
-PT_INTERP, GO_NOTE = b"\3\0\0\0", b"\4\0\0\0Go\0\0"
+# Of an executable file: the kind of a segment that names the system's loader, the kind and name of a note of Go's linker, and the loader of musl.
+PT_INTERP, GO_NOTE, MUSL = b"\3\0\0\0", b"\4\0\0\0Go\0\0", b"/ld-musl-"
 
 
 def children() -> list[int]:
@@ -60,6 +60,8 @@ def unseen_as(path: str) -> str | None:
     kinds = [head[at:at + 4] for at in range(begin, begin + size * count, size or 1)]
     if GO_NOTE in head:
         return "is made by Go, which calls the kernel past the C library"
+    if MUSL in head:
+        return "has the C library musl, which can't load the preload"
     return None if PT_INTERP in kinds or len(head) < begin + size * count else "is linked statically"
 
 

@@ -32,6 +32,7 @@ class Feeder(threading.Thread):
         self.front, self.pipe, self.once, self.live = front, pipe, once, live
         self.played: BinaryIO | None = None
         self.tunings: BinaryIO | None = None
+        self.unkept: dict[str, str] = {}
         self.fault: Exception | None = None
         self.on_fault: Callable[[], object] | None = None
         self.ended, self.count, self.begun = threading.Event(), 0, time.monotonic()
@@ -42,10 +43,18 @@ class Feeder(threading.Thread):
         rest = memoryview(piece)
         while rest:
             rest = rest[self.pipe.write(rest):]
-        if self.played:
-            self.played.write(piece)
+        self.keep(self.played, piece)
         self.count += len(piece) // PACKET
         self.front.pass_packets(self.count)
+
+    def keep(self, file: BinaryIO | None, data: bytes) -> None:
+        """Writes what is kept beside the report, up to the first write that fails."""
+        rest = memoryview(data)
+        try:
+            while file and rest and file.name not in self.unkept:
+                rest = rest[file.write(rest):]
+        except OSError as fault:
+            self.unkept[file.name if file else ""] = fault.strerror or str(fault)
 
     def pass_all(self) -> None:
         """What was written has passed all nodes: a batch is filled with null packets, and the server has come to read the next one."""
@@ -74,10 +83,8 @@ class Feeder(threading.Thread):
             if found:
                 self.players[found].begin(now, now - self.begun if self.live else 0.0)
             self.now = found
-        if self.tunings:
-            what = found.recording.path if found else "no lock"
-            self.tunings.write(os.fsencode(f"{self.count} {tuning[1].words()} {what}\n"))
-            self.tunings.flush()
+        what = found.recording.path if found else "no lock"
+        self.keep(self.tunings, os.fsencode(f"{self.count} {tuning[1].words()} {what}\n"))
         self.front.grant(tuning[0], status)
 
     def feed(self) -> bool:
