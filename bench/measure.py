@@ -8,41 +8,30 @@ import time
 from statistics import median
 from typing import NamedTuple
 
+from dvbemu.stream.packets import packet
+from dvbemu.stream.sections import section
+
+# (what is started isn't to find the package by it)
+os.environ.pop("PYTHONPATH", None)
 # Of 16 packets ten are of PID 256, three of PID 257, and one each of the others, on average.
 PIDS = [256] * 10 + [257] * 3 + [0, 8191, 512]
 # A script with one section filter, which is drained.
 ONE_FILTER = b"c0 open n0\nc0 section n0 0 0 5 0=00/ff/00\nc0 drain n0 4096\nstream\n"
 
 
-def crc(data):
-    """The CRC_32 of a section (ISO/IEC 13818-1, annex A)."""
-    register = 0xFFFFFFFF
-    for byte in data:
-        register ^= byte << 24
-        for _ in range(8):
-            register = (register << 1 ^ (0x04C11DB7 if register >> 31 else 0)) & 0xFFFFFFFF
-    return register
-
-
-def section(table, number):
-    """A section of 20 bytes."""
-    data = bytes([table, 0xB0, 0x11]) + (number & 0xFFFF).to_bytes(2, "big") + bytes([0xC1, 0, 0]) + number.to_bytes(8, "big")
-    return data + crc(data).to_bytes(4, "big")
-
-
 def mixed_packets(count, seed):
-    """Packets of five PIDs, each with its PID. Each of PID 0 and of PID 512 is a section, from its byte 5 on, and bytes ff."""
+    """Packets of five PIDs, each with its PID. Each of PID 0 and of PID 512 is a section of 20 bytes, from its byte 5 on, and bytes ff."""
     make = random.Random(seed)
     counters = dict.fromkeys(PIDS, 0)
     for number in range(count):
         word = make.getrandbits(32)
         pid = PIDS[word % 16]
         if pid in (0, 512):
-            start, payload = True, (b"\x00" + section(0x00 if pid == 0 else 0x42, number)).ljust(184, b"\xff")
+            start, payload = True, b"\0" + section(0x00 if pid == 0 else 0x42, number & 0xFFFF, number.to_bytes(8, "big"))
         else:
             start, payload = word // 65536 % 8 == 0, bytes((number + j) % 256 for j in range(184))
-        yield pid, bytes([0x47, (0x40 if start else 0) | pid >> 8, pid & 255, 0x10 | counters[pid]]) + payload
-        counters[pid] = (counters[pid] + 1) % 16
+        yield pid, packet(pid, counters[pid], payload, start)
+        counters[pid] += 1
 
 
 # How much of what a program writes is taken from its pipe at once.

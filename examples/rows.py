@@ -19,14 +19,13 @@ A file has sessions, one behind the other. Empty lines, and lines that begin wit
 
 In texts `|` parts pieces, `0*368` is 368 times `0`, `\\0a` is that byte; `|` in front of a line says that it is none of the words above.
 By threads replies aren't compared. Beside this, each report of `steps` and `run` that ends with Ok is given to `check`, which has to say
-yes, and python/src/dvbemu/oracle/second.py has to come to the same status, report and answer; a report of `run` is judged by python/src/dvbemu/oracle/judge.py.
+yes, and tests/oracle/second.py has to come to the same status, report and answer; a report of `run` is judged by tests/oracle/judge.py.
 """
 import re
 import subprocess
 from typing import NamedTuple
 
-from dvbemu.oracle import judge
-from dvbemu.oracle import second
+from oracle import judge, second
 from checks import asked_of
 
 BATCHES = "steps --batch 1", "steps --batch 3", "steps --batch 64"

@@ -10,9 +10,10 @@ import time
 from dvbemu.server.building import built_server
 from programs import packets_of
 from room import HERE, SERVE, TOP, bytes_of, ran, without_hints
-from stations import NULL, RATE, Station
+from stations import RATE, Station
 from dvbemu.server.adapters import MARK
-from dvbemu import clock
+from dvbemu.stream.packets import NULL_PACKET, pcr_of
+from dvbemu.stream.pace import TICKS, WRAP
 
 TUNER = os.path.join(HERE, "tuner.py")
 # Where a Python that is started finds the package.
@@ -83,7 +84,7 @@ def is_pure(room, lines, ends):
 
 def some(data):
     """The packets that aren't null packets."""
-    return [packet for packet in packets_of(data) if packet != NULL]
+    return [packet for packet in packets_of(data) if packet != NULL_PACKET]
 
 
 def try_systems(room):
@@ -169,7 +170,7 @@ def try_forms(room):
         out, status = call(room, ["--keep", "none", name], [TUNER, "474000000"])
         room.want(status == 0 and out.endswith("474000000 Alpha Beta\n"), f"a recording: {name}", out)
     with open(room.path("timeless"), "wb") as file:
-        file.write(b"".join(NULL if packet[3] & 0x20 else packet for packet in packets))
+        file.write(b"".join(NULL_PACKET if packet[3] & 0x20 else packet for packet in packets))
     for words in ["--packets", str(RATE)], ["--rate", str(RATE * 188 * 8)]:
         out, status = call(room, ["--keep", "none", *words, "timeless"], [TUNER, "474000000"])
         room.want(status == 0 and out == "474000000 Alpha Beta\n", f"a recording without a clock, {words}", out)
@@ -206,7 +207,7 @@ def try_faults(room):
         file.write("a text of the user's\n")
     with open(room.path("noise"), "wb") as file:
         file.write(os.urandom(300_000).replace(b"\x47", b"\x48"))
-    for name, data in ("timeless", NULL * 1000), ("empty", b""), ("short", NULL[:100]):
+    for name, data in ("timeless", NULL_PACKET * 1000), ("empty", b""), ("short", NULL_PACKET[:100]):
         with open(room.path(name), "wb") as file:
             file.write(data)
     for words, told in (
@@ -282,10 +283,10 @@ def try_libudev(room):
 
 def leaping(data, begin, leap, flag=0):
     """A stream whose clock is later by so many ticks, and leaps in the middle, where it gets this flag of an adaptation field."""
-    packets, middle = packets_of(data), SECONDS * clock.TICKS // 2
+    packets, middle = packets_of(data), SECONDS * TICKS // 2
     for number, packet in enumerate(packets):
-        if (ticks := clock.pcr_of(packet)) is not None:
-            base, rest = divmod((begin + ticks + (leap if ticks >= middle else 0)) % clock.WRAP, 300)
+        if (ticks := pcr_of(packet)) is not None:
+            base, rest = divmod((begin + ticks + (leap if ticks >= middle else 0)) % WRAP, 300)
             field = struct.pack(">BIH", packet[5] | (flag if ticks == middle else 0), base >> 1, (base & 1) << 15 | 0x7E00 | rest)
             packets[number] = packet[:5] + field + packet[12:]
     return b"".join(packets)
@@ -299,7 +300,7 @@ def try_clocks(room):
     data = bytes_of(stations(room)[0])
     other = Station(2, NAMES[1], HERTZ).stream(3 * SECONDS)
     half = len(data) // 376 * 188
-    leap, over = 3 * clock.TICKS, clock.WRAP - SECONDS * clock.TICKS // 2 - 1
+    leap, over = 3 * TICKS, WRAP - SECONDS * TICKS // 2 - 1
     joins = (("two", other + data, 4), ("halves", data[half:] + data[:half], 1), ("again", data * 3, 3),
              ("leap", leaping(data, 0, leap), 2.5), ("wrap", leaping(data, over, leap), 2.5),
              ("another clock", leaping(data, 0, leap, 0x80), 1))  # fmt: skip

@@ -6,7 +6,7 @@ import re
 import shutil
 import time
 
-from programs import following, has_all, is_recording, packets_of, pid_of, put
+from programs import following, packets_of, pid_of, put
 from room import PACKET, bytes_of, ran
 from stations import EVENTS, Station
 

@@ -2,19 +2,13 @@
 import os
 import re
 import subprocess
-import sys
 import time
+
+from checks import EXAMPLES, Tally, asked_of, bytes_of
+from oracle import judge, second
 
 HERE = os.path.dirname(os.path.realpath(__file__))
 TOP = os.path.dirname(HERE)
-sys.path[1:1] = [os.path.join(TOP, "tools", "lib"), os.path.join(TOP, "fuzz")]
-sys.path.insert(1, os.path.join(os.path.dirname(os.path.realpath(__file__)), "..", "python", "src"))
-sys.dont_write_bytecode = True
-
-from dvbemu.oracle import judge
-from dvbemu.oracle import second
-from checks import EXAMPLES, Tally, asked_of, bytes_of
-
 SERVE = os.path.join(TOP, "dvbemu-serve")
 CHECKER = os.path.join(TOP, "crates", "dvbemu", "out", "dvbemu")
 PACKET, BATCH = 188, 64

@@ -21,7 +21,7 @@ from packets import session_of
 # (the command line sets these for its process, which this one isn't)
 HANDLERS = {number: signal.getsignal(number) for number in (signal.SIGINT, signal.SIGPIPE)}
 from dvbemu import cli as command_line, standard
-from dvbemu.oracle import second
+from oracle import second
 
 for handler in HANDLERS.items():
     signal.signal(*handler)

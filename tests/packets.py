@@ -1,26 +1,7 @@
 """Packets and sections that tests are made of, and sessions of them."""
 from __future__ import annotations
 
-import zlib
-
-
-def packet(pid: int, counter: int, payload: bytes = b"", start: bool = False) -> bytes:
-    """A packet with a payload, filled with 0xFF."""
-    head = bytes([0x47, (0x40 if start else 0) | pid >> 8, pid & 0xFF, 0x10 | counter % 16])
-    return (head + payload).ljust(188, b"\xff")
-
-
-def with_crc(data: bytes) -> bytes:
-    """A section with its CRC_32: that of zlib, in its mirror image, without the last inversion."""
-    mirrored = zlib.crc32(bytes(int(f"{byte:08b}"[::-1], 2) for byte in data)) ^ 0xFFFFFFFF
-    return data + int(f"{mirrored:032b}"[::-1], 2).to_bytes(4, "big")
-
-
-def section(table: int, extension: int, version: int, number: int, last: int, body: bytes) -> bytes:
-    """A section with section_syntax_indicator 1."""
-    size = len(body) + 9
-    head = bytes([table, 0xB0 | size >> 8, size & 0xFF, extension >> 8, extension & 0xFF, 0xC1 | version << 1, number, last])
-    return with_crc(head + body)
+from dvbemu.stream.packets import packet
 
 
 def in_packets(pid: int, data: bytes, count: int) -> bytes:

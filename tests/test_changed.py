@@ -1,13 +1,11 @@
-"""What reads a report, over lawful and changed reports: explain, picture, page, hint, and json there and back.
+"""What reads a report, over lawful and changed reports: explain, with the stream too, picture, page, and json there and back.
 
-The reports are those of sessions of fuzz/fuzz, by the plain second program, and changed ones, each with one to three changes of
-fuzz/changes.py, or with another number, line or word; CHANGED_COUNT and CHANGED_FIRST in the environment name how many and the first of
+The reports are those of sessions of oracle/fuzz.py, by the plain second program, and changed ones, each with one to three changes of
+oracle/changes.py, or with another number, line or word; CHANGED_COUNT and CHANGED_FIRST in the environment name how many and the first of
 their seeds, 200 and 1 without. Over a lawful report each tool gives its answer. Over a changed one it does, or it names the line that is
 wrong; nothing else may come of it. What the reader takes is a report for the program's `check` too, and what it refuses is none there
 either, but for what docs/BEHAVIOUR.md rules out and `check` tells as another fault; of more than 200 it is asked about each twentieth.
 """
-import importlib.machinery
-import importlib.util
 import io
 import os
 import random
@@ -15,17 +13,16 @@ import re
 import subprocess
 from functools import lru_cache
 
-import changes
 import pytest
 from checks import asked_of
-from conftest import PROGRAM, ROOT
+from conftest import PROGRAM
 from dvbemu import objects, reports
-from dvbemu.commands import hint
 from dvbemu.explain import played
+from dvbemu.explain.offered import Stream
 from dvbemu.explain.told import Part, page as explained
-from dvbemu.oracle import second
 from dvbemu.picture.drawing import picture
 from dvbemu.picture.sheet import page
+from oracle import changes, fuzz, second
 
 COUNT, EACH, ASKED = 200, 10, 20
 ASKED_COUNT, FIRST = int(os.environ.get("CHANGED_COUNT", COUNT)), int(os.environ.get("CHANGED_FIRST", 1))
@@ -94,17 +91,6 @@ end
 """
 
 
-def script(path):
-    """A script of this repository as a module."""
-    loader = importlib.machinery.SourceFileLoader(os.path.basename(path), str(ROOT / path))
-    module = importlib.util.module_from_spec(importlib.util.spec_from_loader(loader.name, loader))
-    loader.exec_module(module)
-    return module
-
-
-FUZZ = script("fuzz/fuzz")
-
-
 # ------ the reports
 
 
@@ -112,7 +98,7 @@ FUZZ = script("fuzz/fuzz")
 def lawful(seed):
     """A session with a script without a fault, and its report."""
     while True:
-        made, batch, packet = FUZZ.session(seed)
+        made, batch, packet = fuzz.session(seed)
         try:
             return made, second.report(made, batch, packet)
         except second.Fault:
@@ -146,7 +132,7 @@ def lines_less(rng, text):
 
 
 def by_changes(rng, text):
-    """A change of fuzz/changes.py; the text as it is where that makes none of it."""
+    """A change of oracle/changes.py; the text as it is where that makes none of it."""
     change = rng.choices(list(changes.CHANGES), list(changes.CHANGES.values()))[0]
     try:
         return (change(rng, text) or (text, None))[0]
@@ -189,9 +175,9 @@ TOOLS = {
     "explain": lambda text, _: explained(read(text), Part()),
     "picture": lambda text, _: picture(read(text), "changed"),
     "page": lambda text, _: page(read(text), "changed"),
-    "hint": lambda text, session: hint.page(read(text), hint.packets_of(session, read(text))),
+    "explain with the stream": lambda text, session: explained(read(text), Part(), Stream(played.packets_of(session, read(text)))),
 }
-LINE = r"line \d+: |no session of this report"
+LINE = r"line \d+: |no session"
 
 
 def fault_of(make, *given):

@@ -22,7 +22,7 @@ ROOT_LINE, UNOPENED = re.compile("dvbemu serve: started by root: .*\n"), re.comp
 LINES = {
     "steps": "steps session", "run": "run session", "check": "check report session", "make": "make 7", "selftest": "selftest 7",
     "serve": "serve --help", "explain": "explain report", "picture": "picture report", "page": "page report", "json": "json report",
-    "hint": "hint report session", "why": "why report session", "bytes": "bytes report", "session": "session served recording",
+    "why": "why report session", "bytes": "bytes report", "session": "session served recording",
     "test": "test tests", "words": "words session", "packet": "packet 0 0 payload 00", "pace": "pace --rate 1000 stream",
     "calls": "calls true", "merge": "merge kept", "--help": "--help", "--version": "--version",
 }  # fmt: skip
@@ -39,7 +39,7 @@ READS = {
     "steps -": "dvbemu: standard input", "run -": "dvbemu: standard input", "check - session": "dvbemu: standard input",
     "check report -": "dvbemu: standard input", "explain": "dvbemu explain: standard input", "picture": "dvbemu picture: standard input",
     "page": "dvbemu page: standard input", "json": "dvbemu json: standard input", "json --back": "dvbemu json: standard input",
-    "hint - session": "dvbemu hint: standard input", "hint report -": "dvbemu hint: standard input", "bytes": "dvbemu bytes: standard input",
+    "explain - session": "dvbemu explain: standard input", "explain report -": "dvbemu explain: standard input", "bytes": "dvbemu bytes: standard input",
     "why - session": "dvbemu why: standard input", "why report -": "dvbemu why: standard input", "words": "dvbemu words: standard input",
     "session - session": "dvbemu session: standard input", "session report -": "dvbemu session: standard input",
     "pace": "dvbemu pace: standard input",

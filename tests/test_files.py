@@ -9,7 +9,7 @@ import re
 import subprocess
 
 import pytest
-from conftest import EXAMPLES, PROGRAM
+from conftest import EXAMPLES, PROGRAM, SERVED
 from dvbemu import inputs
 
 NULL_PACKET = b"\x47\x1f\xff\x10" + 184 * b"\xff"
@@ -195,8 +195,10 @@ def test_unwritable(room, line, ends):
     assert (ran.returncode, ran.stderr) == (6, b"dvbemu: write failed\n")
 
 
-def test_standard_input_twice(room):
-    assert room.run("steps - -") == (1, b"", "dvbemu: -: standard input can be named once\n")
+@pytest.mark.parametrize("line, report", [("steps - -", b""), ("explain - -", SERVED.read_bytes()), ("session - -", SERVED.read_bytes())])
+def test_standard_input_twice(room, line, report):
+    teller = "dvbemu" if line.startswith("steps") else f"dvbemu {line.partition(' ')[0]}"
+    assert room.run(line, report) == (1, b"", f"{teller}: -: standard input can be named once\n")
 
 
 # ------ bytes: what a node gave as a file, and what was lost in between

@@ -1,4 +1,5 @@
-"""`dvbemu hint`: what it says of filters that got nothing and of overflows, over sessions of which each number was counted by hand.
+"""What `dvbemu explain` says with the stream at hand, of filters that got nothing and of overflows, over sessions of which each number was
+counted by hand.
 
 The reports are those of the plain second program.
 """
@@ -7,9 +8,10 @@ import time
 
 import pytest
 from conftest import EXAMPLES
-from dvbemu.explain import offered
-from dvbemu.oracle import second
-from packets import PES, PMT, PMTS, WRONG, in_packets, packet, session_of
+from dvbemu.stream.packets import packet
+from dvbemu.stream.sections import Cutter
+from oracle import second
+from packets import PES, PMT, PMTS, WRONG, in_packets, session_of
 
 
 def clocked(pid, counter):
@@ -72,14 +74,14 @@ SAID = [
     (OPEN + "c0 pes n0 256 frontend tsdemux_tap 20 4|c0 add n0 301|feed 9|c0 read n0 99", PMTS, [NOTHING]),
     (OPEN + "c0 section n0 256 0 0|feed 9", PMTS, ["Nothing to tell: no filter ran."]),
     (OPEN + "c0 size n0 377|c0 pes n0 256 frontend tsdemux_tap 20 4|feed 3|c0 read n0 9|feed 6|c0 read n0 9", WHOLE, [
-        "Line 5, n0: the Overflow 0..564 lost 3 packets, of the stream's packets 0 to 2, at 0.000 s to 0.200 s from the first PCR on.",
-        "Line 7, n0: the Overflow 564..1692 lost 6 packets, of the stream's packets 3 to 8, at 0.300 s to 0.800 s from the first PCR on."]),
+        "Client 0, line 5, n0: the Overflow 0..564 lost 3 packets, of the stream's packets 0 to 2, at 0.000 s to 0.200 s from the first PCR on.",
+        "Client 0, line 7, n0: the Overflow 564..1692 lost 6 packets, of the stream's packets 3 to 8, at 0.300 s to 0.800 s from the first PCR on."]),
     (OPEN + "c0 size n0 377|c0 pes n0 256 frontend tsdemux_tap 20 260|feed 3|c0 readw n0 376|c0 read n0 9", WHOLE, [
-        "Line 6, n0: the Overflow 376..564 lost 1 packet, of the stream's packet 2, at 0.200 s from the first PCR on."]),
+        "Client 0, line 6, n0: the Overflow 376..564 lost 1 packet, of the stream's packet 2, at 0.200 s from the first PCR on."]),
     (OPEN + "c0 size n0 20|c0 section n0 256 0 4|feed 1|c0 read n0 16|feed 3|c0 read n0 9", PMTS, [
-        "Line 7, n0: the Overflow 16..64 lost 3 sections, whose last bytes came by the stream's packets 1 to 3."]),
+        "Client 0, line 7, n0: the Overflow 16..64 lost 3 sections, whose last bytes came by the stream's packets 1 to 3."]),
     ("c0 open dvr|c0 size dvr 377|c0 open n0|c0 pes n0 256 frontend ts_tap 20 4|feed 3|c0 read dvr 9", WHOLE, [
-        "Line 6, the dvr node: the Overflow 0..564 lost 3 packets, of the stream's packets 0 to 2,"]),
+        "Client 0, line 6, the dvr node: the Overflow 0..564 lost 3 packets, of the stream's packets 0 to 2,"]),
 ]  # fmt: skip
 
 # The same, and what mustn't stand in the page: a byte goes nowhere else because its value happens to stand there.
@@ -102,12 +104,13 @@ MANY, SECONDS = 10000, 10
 
 @pytest.fixture
 def hint(tool, tmp_path):
-    """The word over a report and a session."""
+    """What the word writes over a report and a session, of what it writes the part on the stream."""
 
-    def over(report, session):
+    def over(report, session, *words):
         (tmp_path / "report").write_bytes(report)
         (tmp_path / "session").write_bytes(session)
-        return tool("hint", str(tmp_path / "report"), str(tmp_path / "session"))
+        ran = tool("explain", *words, str(tmp_path / "report"), str(tmp_path / "session"))
+        return ran._replace(out=ran.out.partition("What the stream says\n\n")[2])
 
     return over
 
@@ -126,7 +129,19 @@ def test_unsaid(hint, report_of, script, stream, wanted, unwanted):
 
 
 def test_filter_of_a_served_client(hint):
-    assert hint(SERVED.encode(), PMTS).out.startswith("Client 1, line 2, n0: ")
+    assert hint(SERVED.encode(), PMTS).out.startswith("  Client 1, line 2, n0: ")
+
+
+@pytest.mark.parametrize("words, count", [((), 2), (("--node", "n1"), 1), (("--client", "c0"), 1), (("--node", "n1", "--client", "c0"), 0)])
+def test_parts(hint, report_of, words, count):
+    script = "c0 open n0|c0 section n0 256 0 4 0=43/ff/00|c1 open n1|c1 size n1 20|c1 section n1 256 0 4|feed 4|c1 read n1 9"
+    told = hint(report_of(script, PMTS), session_of(script, PMTS), *words).out
+    assert told.count("Client ") == count and ("Nothing to tell" in told) == (count == 0)
+
+
+def test_the_word_that_it_was(tool):
+    ran = tool("hint", "report", "session")
+    assert (ran.status, ran.out, ran.err) == (2, "", "dvbemu: `hint` is a part of `explain`: dvbemu explain REPORT SESSION\n")
 
 
 def test_sections_come_packet_by_packet():
@@ -137,13 +152,13 @@ def test_sections_come_packet_by_packet():
         for _ in range(chosen.randrange(1, 20)):
             counter += chosen.choice((0, 1, 1, 1, 1, 1, 1, 2))
             payload = bytes(chosen.choice((0, 0, 1, 3, 0xB0, 0xFF, 66, 183)) for _ in range(4)) + chosen.choice((bytes(180), PMT * 12))
-            made = bytearray(packet(256, counter, payload, chosen.random() < 0.3))
+            made = bytearray(packet(256, counter, payload[:184], chosen.random() < 0.3))
             made[1] |= 0x80 if chosen.random() < 0.05 else 0
             made[3] &= 0xCF if chosen.random() < 0.05 else 0xFF
             packets.append(chosen.choice(packets) if packets and chosen.random() < 0.1 else bytes(made))
-        reader, found = offered.Sections(), []
+        cutter, found = Cutter(), []
         for number, one in enumerate(packets):
-            found += reader.take(one)
+            found += [whole.data for whole in cutter.take(one)]
             assert found == second.sections(packets[: number + 1], 256)
         tried += len(found)
     assert tried > 1000
@@ -183,7 +198,7 @@ def test_recordings(hint, given, report):
     (SCRIPT + PMTS + PATS, REPORT, "no session of this report: it has 4 packets of PID 0 (PAT) in 8, the report 0"),
     (PMTS + PATS, REPORT, "no recording of this report: it has 4 packets of PID 0 (PAT) in 8, the report 0"),
     (PMTS * 2 + PATS, second.report(SCRIPT + PMTS + PATS, 1).encode(), "it has 0 packets of PID 0 (PAT) in 8, the report 4"),
-    (b"c0 opne n0\nstream\n", REPORT, "script line 1: command"),
+    (b"c0 open n0\n", REPORT, "no session, which has a line `stream`, and no recording"),
     (SCRIPT, b"no report\n", "line 1: expected `dvbemu 1`"),
 ])  # fmt: skip
 def test_refused(hint, given, report, told):

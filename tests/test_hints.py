@@ -12,8 +12,9 @@ from dvbemu import reports
 from dvbemu.explain import hints, told
 from dvbemu.explain.sentences import lost_text, many, reply_text, wrapped
 from dvbemu.explain.story import Story
-from dvbemu.oracle import second
-from packets import PES, PMT, PMTS, WRONG, packet, session_of
+from dvbemu.stream.packets import packet
+from oracle import second
+from packets import PES, PMT, PMTS, WRONG, session_of
 
 
 def section(counter):
@@ -280,7 +281,7 @@ SAID = [
     (
         "c0 open n0|c0 section n0 256 0 5 0=43/ff/00 3=06/3e/00|feed 4|c0 read n0 9",
         SECTIONS,
-        ["4 packets of PID 256 (0x100) passed", "its filter bytes 0 and 3 or flag 1,", "`c0 section n0 256 0 4`", "dvbemu hint REPORT SESSION"],
+        ["4 packets of PID 256 (0x100) passed", "its filter bytes 0 and 3 or flag 1,", "`c0 section n0 256 0 4`", "dvbemu explain REPORT SESSION"],
         ["at least"],
     ),
     (
@@ -347,10 +348,10 @@ HELD = [
 ]
 # What the hint says of several Overflows, by the words of the script, the batch, and the words that must stand in it and mustn't.
 PACED = [
-    (HELD[4][0], 1, "one of 941 would have held all that came, at 2 Overflows; `dvbemu hint", "passes at once"),
+    (HELD[4][0], 1, "one of 941 would have held all that came, at 2 Overflows; `dvbemu explain", "passes at once"),
     (HELD[5][0], 4, "one of 753 would have held all that came, at 2 Overflows; a batch of up to 4 packets passes at once, and no client reads "
      "in between: set that size, or try `--batch 1`", "none is told"),
-    (HELD[5][0].replace("c0 drain", "feed 4|c0 drain"), 4, "one of 753 would have held all that came, at 2 Overflows; `dvbemu hint", "at once"),
+    (HELD[5][0].replace("c0 drain", "feed 4|c0 drain"), 4, "one of 753 would have held all that came, at 2 Overflows; `dvbemu explain", "at once"),
 ]  # fmt: skip
 # A report of `serve` of a recording that has begun again twice: breaks in place of @, of the third PID; and whether these are all the loop's.
 LOOPED = """dvbemu 1
@@ -461,35 +462,61 @@ def test_pace(report_of, script, batch, there, absent):
     assert there in said and absent not in said
 
 
-def drawn(chosen):
-    """A script and a batch."""
+# Sections of 8 bytes and of 16, all of PID 256.
+LONG_AND_SHORT = b"".join(section(counter) if counter % 3 else packet(256, counter, b"\0" + PMT, True) for counter in range(60))
+# Scripts where a size was named that is too small, and their batch: the Overflows of a node are of several kinds, or reads wait behind one.
+ONCE_TOO_SMALL = [
+    ("c0 open n0|c0 size n0 13|c0 section n0 256 0 4|feed 4|c0 poll n0|feed 1|feed 3|c0 read n0 23|c0 drain n0 46|c0 read n0 45|feed 1", 4),
+    ("c0 open n0|c0 size n0 543|c0 pes n0 256 frontend tap 20 4|c0 poll n0|c0 readw n0 564|feed 3|feed 2|c0 readw n0 10|c0 readw n0 812|feed 5|"
+     "c0 poll n0|feed 3|feed 3|c0 readw n0 345", 1),
+    (f"c0 open n0|c0 size n0 671|c0 pes n0 256 {WHOLE} 4|c0 read n0 29|feed 4|c0 read n0 16|c0 poll n0|c0 poll n0|c0 readw n0 679|feed 4|"
+     "c0 read n0 669|c0 poll n0|feed 3|feed 1", 1),
+    (f"c0 open n0|c0 size n0 516|c0 pes n0 256 {WHOLE} 4|c0 read n0 341|feed 5|c0 poll n0|feed 4|c0 read n0 634|c0 readw n0 461|feed 1|feed 3|"
+     "c0 readw n0 63|feed 3|c0 poll n0|c0 readw n0 657", 1),
+]  # fmt: skip
+# Reads that wait behind an Overflow, and then a capture that begins at other packets than without it, or another node whose reads wait.
+BEHIND = [
+    f"c0 open n0|c0 size n0 579|c0 pes n0 256 {WHOLE} 4|feed 8|c0 read n0 749|c0 readw n0 264|c0 start n0|feed 9|c0 read n0 549",
+    f"c1 open n1|c1 size n1 377|c1 pes n1 256 {WHOLE} 4|c0 open n0|c0 size n0 579|c0 pes n0 256 {WHOLE} 4|feed 8|c0 read n0 749|c0 readw n0 264|"
+    "c1 read n1 9|c1 readw n1 188",
+]
+
+
+def drawn(chosen, most):
+    """A script and a batch; most of its reads wait, or none does."""
     kind = chosen.choice(("section n0 256 0", f"pes n0 256 {WHOLE}", "pes n0 256 frontend tap 20"))
     few = kind.startswith("section")
     calls = [f"c0 open n0|c0 size n0 {chosen.randrange(2, 60) if few else chosen.randrange(189, 900)}|c0 {kind} 4"]
-    for _ in range(chosen.randrange(2, 12)):
+    for _ in range(chosen.randrange(2, 14)):
         count = chosen.randrange(1, 50) if few else chosen.randrange(1, 900)
-        words = chosen.choice(("read", "read", "readw", "drain" if chosen.random() < 0.1 else "read"))
-        calls.append(chosen.choice((f"feed {chosen.randrange(1, 6)}", f"feed {chosen.randrange(1, 6)}", f"c0 {words} n0 {count}", "c0 poll n0")))
+        words = chosen.choice(("read", most, "drain" if chosen.random() < 0.1 else most))
+        again = chosen.choice((f"c0 {kind} 4", "c0 start n0")) if chosen.random() < 0.1 else "c0 poll n0"
+        calls.append(chosen.choice((f"feed {chosen.randrange(1, 6)}", f"feed {chosen.randrange(1, 6)}", f"c0 {words} n0 {count}", again)))
     return "|".join(calls), chosen.randrange(1, 5)
 
 
-def test_size_that_holds_in_drawn_sessions(report_of):
-    chosen, tried, count = random.Random(2), 0, 150
-    stream = b"".join(section(counter) if counter % 3 else packet(256, counter, b"\0" + PMT, True) for counter in range(60))
+@pytest.mark.parametrize("seed, most, count", [(2, "read", 150), (3, "readw", 300)])
+def test_size_that_holds_in_drawn_sessions(report_of, seed, most, count):
+    chosen, tried = random.Random(seed), 0
     for _ in range(count):
-        script, batch = drawn(chosen)
-        size = held(report_of(script, stream, batch))
+        script, batch = drawn(chosen, most)
+        size = held(report_of(script, LONG_AND_SHORT, batch))
         if size is not None:
             tried += 1
-            assert not overflows(script, stream, batch, size), f"{script}, in batches of {batch}: a size of {size}"
+            assert not overflows(script, LONG_AND_SHORT, batch, size), f"{script}, in batches of {batch}: a size of {size}"
     assert tried > count // 4
 
 
-def test_size_that_holds_overflows_of_several_kinds(report_of):
-    script = "c0 open n0|c0 size n0 13|c0 section n0 256 0 4|feed 4|c0 poll n0|feed 1|feed 3|c0 read n0 23|c0 drain n0 46|c0 read n0 45|feed 1"
-    stream = b"".join(section(counter) if counter % 3 else packet(256, counter, b"\0" + PMT, True) for counter in range(60))
-    size = held(report_of(script, stream, 4))
-    assert size is not None and not overflows(script, stream, 4, size)
+@pytest.mark.parametrize("script, batch", ONCE_TOO_SMALL)
+def test_size_that_holds_all(report_of, script, batch):
+    size = held(report_of(script, LONG_AND_SHORT, batch))
+    assert size is not None and not overflows(script, LONG_AND_SHORT, batch, size)
+
+
+@pytest.mark.parametrize("script", BEHIND)
+def test_no_size_where_other_packets_would_have_passed(report_of, script):
+    said = said_of(report_of(script, LONG_AND_SHORT))
+    assert "no size is named, since reads waited behind it" in said and held(report_of(script, LONG_AND_SHORT)) is None
 
 
 @pytest.mark.parametrize("text, is_loop", LOOPS)

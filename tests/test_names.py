@@ -8,7 +8,7 @@ import pytest
 from conftest import EXAMPLES
 from dvbemu import reports
 from dvbemu.psi import fields
-from packets import packet
+from dvbemu.stream.packets import packet
 
 FILTERS = [
     ("0=00/ff/00", "table_id 0x00 (PAT)"),

@@ -1,13 +1,16 @@
-"""`dvbemu pace`: when packets are due, worked out by hand (ISO/IEC 13818-1, 2.4.2.2: between two PCRs the bytes come evenly; 27,000,000 ticks
-are a second), and what it writes over the stream of examples/programs, compared with the PCRs that stand there. No packet may come before it
-is due; how late one may come is asked loosely, since the machine may be busy."""
+"""The pace of a stream: when packets are due, worked out by hand (ISO/IEC 13818-1, 2.4.2.2: between two PCRs the bytes come evenly; 27,000,000
+ticks are a second), for `dvbemu pace` and for a recording that is served alike; and what `pace` writes over the stream of examples/programs,
+compared with the PCRs that stand there. No packet may come before it is due; how late one may come is asked loosely, since the machine may be
+busy."""
 import os
 import subprocess
 import time
 
 import pytest
 from conftest import EXAMPLES, PROGRAM
-from dvbemu import clock
+from dvbemu.server.recording import Recording, Unplayable
+from dvbemu.stream import pace
+from dvbemu.stream.packets import DISCONTINUITY, adaptation_field, packet, pcr_of
 
 SECOND, TENTH = 27_000_000, 2_700_000
 WRAP = 2**33 * 300
@@ -16,14 +19,12 @@ SLACK, FAST = 5.0, 8
 
 def plain(pid=256):
     """A packet without a PCR."""
-    return bytes([0x47, pid >> 8, pid & 0xFF, 0x10]) + bytes(184)
+    return packet(pid, 0, bytes(184))
 
 
 def with_pcr(pcr, pid=256, is_new=False):
-    """A packet with a PCR: 33 bits of 90 kHz, 6 bits 1, 9 bits of the rest."""
-    base, rest = divmod(pcr, 300)
-    field = bytes([7, 0x90 if is_new else 0x10]) + (base << 15 | 0x7E00 | rest).to_bytes(6, "big")
-    return (bytes([0x47, pid >> 8, pid & 0xFF, 0x30]) + field).ljust(188, b"\0")
+    """A packet with a PCR."""
+    return packet(pid, 0, bytes(176), field=adaptation_field(8, pcr, DISCONTINUITY if is_new else 0))
 
 
 # What is tried, the stream's pieces, the PID that is named, and the seconds at which the pieces are due; None without a clock.
@@ -32,7 +33,7 @@ DUE = [
         "evenly between two PCRs, and on at the same pace",
         [plain(), with_pcr(0), plain(), plain(), plain(), with_pcr(TENTH), plain()],
         None,
-        [0, 0, 0.025, 0.05, 0.075, 0.1, 0.125],
+        [-0.025, 0, 0.025, 0.05, 0.075, 0.1, 0.125],
     ),
     ("two paces", [with_pcr(9), plain(), with_pcr(9 + TENTH), with_pcr(9 + SECOND)], None, [0, 0.05, 0.1, 1]),
     ("over the clock's end", [with_pcr(WRAP - TENTH), plain(), with_pcr(TENTH), plain()], None, [0, 0.1, 0.2, 0.3]),
@@ -49,7 +50,14 @@ DUE = [
         [0, 0.1, 0.2, 1.2],
     ),
     ("the first PID's clock", [with_pcr(0), with_pcr(5, 257), with_pcr(SECOND), with_pcr(6, 257)], None, [0, 0.5, 1, 1.5]),
-    ("the clock of a PID that is named", [with_pcr(0), with_pcr(5, 257), plain(), with_pcr(5 + SECOND, 257)], 257, [0, 0, 0.5, 1]),
+    ("the clock of a PID that is named", [with_pcr(0), with_pcr(5, 257), plain(), with_pcr(5 + SECOND, 257)], 257, [-0.5, 0, 0.5, 1]),
+    ("a clock that stands still", [with_pcr(0), with_pcr(TENTH), with_pcr(TENTH), plain(), with_pcr(2 * TENTH)], None, [0, 0.1, 0.2, 0.25, 0.3]),
+    (
+        "in front of the first step of a clock",
+        [plain(), with_pcr(0), with_pcr(99 * SECOND), plain(), with_pcr(99 * SECOND + SECOND)],
+        None,
+        [-0.5, 0, 0.5, 1, 1.5],
+    ),
     (
         "bytes between packets take time",
         [with_pcr(0), bytes(188), plain(), bytes(188), with_pcr(SECOND)],
@@ -66,8 +74,16 @@ DUE = [
 def due_of(chunks, pid):
     """The pieces of a stream and when they are due."""
     try:
-        return [(round(at, 9), piece) for at, piece in clock.timed(chunks, pid)]
-    except clock.NoClock:
+        return [(round(at, 9), piece) for at, piece in pace.timed(chunks, pid)]
+    except pace.NoClock:
+        return None
+
+
+def length_of(path):
+    """The seconds that a recording takes; None where it can't be played."""
+    try:
+        return round(Recording(str(path)).length(), 9)
+    except Unplayable:
         return None
 
 
@@ -108,8 +124,35 @@ def test_due(stream, pid, wanted):
     assert due_of([whole[place : place + 7] for place in range(0, len(whole), 7)], pid) == right
 
 
+def length_by(wanted):
+    """The seconds from the first packet of a row to the end of the last, which takes as long as the one before, or is one of two alone."""
+    return None if wanted is None else round(wanted[-1] - wanted[0] + wanted[-1] - wanted[-2], 9)
+
+
+# The rows of packets alone, with no PID that is named.
+SERVED = [row for row in DUE if row[2] is None and all(piece[0] == 0x47 for piece in row[1])]
+
+
+@pytest.mark.parametrize("stream, wanted", [(row[1], row[3]) for row in SERVED], ids=[row[0] for row in SERVED])
+def test_served_alike(tmp_path, stream, wanted):
+    (tmp_path / "it.ts").write_bytes(b"".join(stream))
+    assert length_of(tmp_path / "it.ts") == length_by(wanted)
+
+
+def test_a_clock_that_goes_silent(tmp_path):
+    """Behind 100,000 packets without a PCR the next PID that has one is the clock; a PID that is named stays."""
+    clock = [with_pcr(9, 257), plain(), with_pcr(9 + TENTH, 257)]
+    stream = [with_pcr(0), with_pcr(TENTH), with_pcr(5, 257), *[plain()] * 99_998, *clock]
+    due = [at for at, _ in pace.timed(stream)]
+    assert [round(at, 6) for at in due[:4] + due[-3:]] == [0, 0.1, 0.2, 0.3, 10000.1, 10000.15, 10000.2]
+    assert round([at for at, _ in pace.timed(stream, 256)][-1], 6) == 10000.3
+    assert round([at for at, _ in pace.timed(stream[:-4] + clock)][-1], 6) == 10000.2
+    (tmp_path / "it.ts").write_bytes(b"".join(stream))
+    assert round(length_of(tmp_path / "it.ts"), 6) == 10000.25
+
+
 def test_the_largest_pcr():
-    assert clock.pcr_of(with_pcr(WRAP - 1)) == WRAP - 1
+    assert pcr_of(with_pcr(WRAP - 1)) == WRAP - 1
 
 
 @pytest.mark.alone

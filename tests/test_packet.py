@@ -1,6 +1,6 @@
 """`dvbemu packet`: packets worked out by hand from ISO/IEC 13818-1, and sections read back by the second program."""
 import pytest
-from dvbemu.oracle import second
+from oracle import second
 
 # The words, and the packet by hand. The PAT, with the CRC_32 of its own, is that of many muxers for one service.
 PACKETS = [

@@ -18,8 +18,8 @@ import browser
 import pytest
 from conftest import EXAMPLES, examples
 from dvbemu import reports
-from dvbemu.oracle import second
 from dvbemu.picture import drawing, sheet
+from oracle import second
 
 # Three clients, of which the last calls a node that isn't its own.
 SCRIPT = """c0 open n0

@@ -1,23 +1,21 @@
 """`dvbemu picture`: what its bands name, its axis, its areas, its legend, title and moments, over reports whose picture was worked out by
-hand from the rules of docs/BEHAVIOUR.md, and over sessions of fuzz/fuzz.
+hand from the rules of docs/BEHAVIOUR.md, and over sessions of oracle/fuzz.py.
 
 The reports are those of the plain second program, or stand here.
 """
-import importlib.machinery
-import importlib.util
 import io
 import re
 import xml.dom.minidom
 
 import pytest
-from conftest import EXAMPLES, ROOT, examples
+from conftest import EXAMPLES, examples
 from dvbemu import reports
 from dvbemu.explain.unread import History
-from dvbemu.oracle import second
 from dvbemu.picture.axis import Axis, parts, shares
 from dvbemu.picture.lanes import ranges
 from dvbemu.picture.svg import LEFT, WIDTH
-from packets import packet
+from dvbemu.stream.packets import packet
+from oracle import fuzz, second
 
 # A report of threads: batch 0 passes n0 before client 0 calls it and n1 after, so that the two calls stand on its two sides.
 THREADS = """dvbemu 1
@@ -272,19 +270,10 @@ def test_sign_of_a_number_that_is_left_out(report_of, drawn, script, count, is_s
     assert any(words.startswith("· stands") for words in texts) == is_signed
 
 
-# ------ sessions of fuzz/fuzz
+# ------ sessions of oracle/fuzz.py
 
 
-@pytest.fixture(scope="module")
-def fuzz():
-    """The module that fuzz/fuzz is."""
-    loader = importlib.machinery.SourceFileLoader("fuzz", str(ROOT / "fuzz" / "fuzz"))
-    module = importlib.util.module_from_spec(importlib.util.spec_from_loader("fuzz", loader))
-    loader.exec_module(module)
-    return module
-
-
-def made(fuzz, seed):
+def made(seed):
     """The report of a session; of a later one, where the script has a fault."""
     while True:
         try:
@@ -294,8 +283,8 @@ def made(fuzz, seed):
 
 
 @pytest.mark.parametrize("seed", range(1, 21))
-def test_made_sessions(drawn, fuzz, seed):
+def test_made_sessions(drawn, seed):
     """The picture is XML, its columns are in order, and no call is a letter."""
-    report = made(fuzz, seed)
+    report = made(seed)
     assert [words for words in texts_of(drawn(report)) if re.fullmatch(r"[A-Z+-][0-9]*", words)] == []
     assert columns_fit(read(report))

@@ -48,7 +48,7 @@ def tool(name, *words, given=REPORT, status=0):
 
 CASES = [
     *(tool(name) for name in ("explain", "picture", "page", "json")),
-    tool("hint", "-", SCAN + ".session"),
+    tool("explain", "-", SCAN + ".session"),
     tool("why", "-", SCAN + ".session"),
     tool("explain", given=REPORT[:-4] + b"nd\n", status=1),
     Case("steps", [PROGRAM, "steps", "-"], SESSION, rf"dvbemu: {BYTES} *"),

@@ -6,8 +6,8 @@ import re
 
 import pytest
 from conftest import EXAMPLES, ROOT
-from dvbemu.oracle import judge, second
-from packets import packet
+from dvbemu.stream.packets import packet
+from oracle import judge, second
 
 SERVED = (ROOT / "tests" / "served.report").read_text()
 STREAM = (EXAMPLES / "programs" / "scan.session").read_bytes().split(b"\nstream\n", 1)[1]

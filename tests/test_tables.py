@@ -10,7 +10,15 @@ import subprocess
 
 import pytest
 from dvbemu.psi import descriptors, letters, tables
-from packets import packet, section, with_crc
+from dvbemu.psi.fields import TABLES
+from dvbemu.stream.packets import packet
+from dvbemu.stream.sections import section as section_of, with_crc
+from dvbemu.stream.tables import Descriptor, made, moment_text, read
+
+
+def section(table, extension, version, number, last, body):
+    """A section."""
+    return section_of(table, extension, body, version, number, last)
 
 
 def descriptor(tag, data):
@@ -104,9 +112,16 @@ def test_no_table(data):
     assert tables.text_of(data) is None
 
 
+@pytest.mark.parametrize("data", [data for _, data, _ in SAID], ids=[TABLES[data[0]] for _, data, _ in SAID])
+def test_made_of_what_was_read(data):
+    """A table is made into the section that it was read from, but for reserved bits."""
+    table = read(data)
+    assert read(made(table)) == table and len(made(table)) == len(data)
+
+
 @pytest.mark.parametrize("tag, data, wanted", DESCRIBED)
 def test_descriptor(tag, data, wanted):
-    assert descriptors.texts_of([descriptors.Descriptor(tag, data)]) == [wanted]
+    assert descriptors.texts_of([Descriptor(tag, data)]) == [wanted]
 
 
 @pytest.mark.parametrize("data, wanted", TEXTS)
@@ -158,10 +173,10 @@ def times(block):
 
 # What a table has by name, and how tshark prints it.
 PRINTED = {
-    "version_number": r"Version Number: (0x\w+)", "program_number": r"Program Number: (0x\w+)", "pcr_pid": r"PCR PID: (0x\w+)",
+    "version_number": r"Version Number: (0x\w+)", "program_number": r"Program Number: (0x\w+)", "PCR_PID": r"PCR PID: (0x\w+)",
     "transport_stream_id": r"Transport Stream ID: (0x\w+)", "original_network_id": r"Original Network ID: (0x\w+)",
     "service_id": r"Service ID: (0x\w+)", "network_id": r"(?<!Original )Network ID: (0x\w+)", "bouquet_id": r"Bouquet ID: (0x\w+)",
-    "pid": r"(?:Program Map PID|Elementary PID): (0x\w+)", "stream_type": r"Stream type: .*\((0x\w+)\)", "event_id": r"Event ID: (0x\w+)",
+    "PID": r"(?:Program Map PID|Elementary PID): (0x\w+)", "stream_type": r"Stream type: .*\((0x\w+)\)", "event_id": r"Event ID: (0x\w+)",
     "running_status": r"Running Status: .*\((0x\w+)\)",
 }  # fmt: skip
 
@@ -177,17 +192,18 @@ def both(table, block):
         own[name] = [table.fields[name]] if name in table.fields else []
         own[name] += parts_of(table, name) if table.parts and name in table.parts[0].fields else []
         found[name] = numbers(pattern, block)[: len(own[name])]
-    own["times"] = [table.fields["time"]] if "time" in table.fields else parts_of(table, "start") if table.name.startswith("EIT") else []
+    starts = [table.fields["UTC_time"]] if "UTC_time" in table.fields else parts_of(table, "start_time") if table.table_id in range(0x4E, 0x70) else []
+    own["times"] = list(map(moment_text, starts))
     found["times"] = times(block)
     found["durations"] = re.findall(r"Duration: 0x(\w+)", block)
-    own["durations"] = parts_of(table, "duration") if found["durations"] else []
+    own["durations"] = [f"{length:06x}" for length in parts_of(table, "duration")] if found["durations"] else []
     return own, found
 
 
 @pytest.mark.parametrize("place", range(len(SAID)))
 def test_section_by_tshark(dissected, place):
     data, block = SAID[place][1], dissected[place]
-    own, found = both(tables.read(data), block)
+    own, found = both(read(data), block)
     assert own == found
     names = re.findall(r"(?:Network|Bouquet|Service|Provider|Event) (?:Name|Text): (.+)", block)
     said = tables.text_of(data)

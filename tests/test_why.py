@@ -9,7 +9,7 @@ import rows
 from checks import asked_of
 from conftest import EXAMPLES, examples
 from dvbemu import quick, reasons
-from dvbemu.oracle import second
+from oracle import second
 
 RIGHT = "right: it is a report of a run of this session"
 # What is changed in the report of an example, and what is told of it.

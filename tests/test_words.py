@@ -10,7 +10,7 @@ import test_calls
 from conftest import EXAMPLES
 from dvbemu import naming
 from dvbemu.commands import calls
-from dvbemu.oracle import second
+from oracle import second
 
 SET_FILTER, SET_PES, SET_SIZE, ADD_PID, REMOVE_PID, START = 0x403C6F2B, 0x40146F2C, 0x6F2D, 0x40026F33, 0x40026F34, 0x6F29
 

@@ -9,6 +9,8 @@ from typing import NamedTuple
 
 # (what a shell starts in the background passes Ctrl-C over, and so would all that a check starts)
 signal.signal(signal.SIGINT, signal.default_int_handler)
+# (tests/python sets it for a check alone)
+os.environ.pop("PYTHONPATH", None)
 
 ROOT = os.path.dirname(os.path.dirname(os.path.dirname(os.path.realpath(__file__))))
 TOOLS = os.path.join(ROOT, "tools")

@@ -41,10 +41,9 @@ PROVED = {
 # The tools: the module of each, in `commands`, and what it does.
 TOOLS = {
     "serve": ("serve", "runs DVB programs, as they are, on a recording, and writes a report of their calls"),
-    "explain": ("explain", "tells a report in sentences, with hints"),
+    "explain": ("explain", "tells a report in sentences, with hints; with its stream too, why filters got nothing"),
     "picture": ("picture", "draws a report"),
     "page": ("page", "writes a report as a page for a browser"),
-    "hint": ("hint", "why filters got nothing and what overflows lost, by a report and its stream"),
     "json": ("json", "writes a report as JSON Lines, and back"),
     "why": ("why", "what is wrong with a report: the line, what stands there, what the rules give"),
     "bytes": ("bytes", "the bytes that were read from a node, as a file"),
@@ -282,6 +281,9 @@ def done(word: str, behind: Sequence[str]) -> int:
 
 def refuse(word: str | None) -> int:
     """Names a word that is none, and the nearest one; the status is 2."""
+    if word == "hint":
+        print("dvbemu: `hint` is a part of `explain`: dvbemu explain REPORT SESSION", file=sys.stderr)
+        return 2
     known = [*PROVED, *TOOLS, "--help", "--version"]
     if word is None:
         told = "a word is missing"

@@ -102,9 +102,6 @@ class PidCount(NamedTuple):
     errors: int
 
 
-PidRow = PidCount  # (as explain names it)
-
-
 class Outcome(NamedTuple):
     """What became of one command: its line, its first step, the step after its last, and how it ended, as it is told."""
 

@@ -168,6 +168,8 @@ class Command(argparse.ArgumentParser):
                 self.fail_on(name, fault)
         if sys.stdin is None:
             self.fail("standard input: it is closed")
+        if sys.stdin.closed:
+            self.fail("-: standard input can be named once")
         self.tell_waiting()
         return sys.stdin.buffer
 

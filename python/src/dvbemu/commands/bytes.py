@@ -11,7 +11,6 @@ from typing import TYPE_CHECKING
 
 from .. import tool
 from .. import reports
-from ..explain.captures import Filter
 from ..inputs import many
 from ..explain.refusals import refusal
 from ..explain.walk import Walk
@@ -20,7 +19,7 @@ if TYPE_CHECKING:
     from argparse import Namespace
     from typing import BinaryIO, Iterator, Sequence
 
-    from ..reports import Act, Entry, Report
+    from ..reports import Entry, Report
 
 # The calls that say what comes.
 ASKING = "section", "pes", "add", "start"
@@ -71,14 +70,6 @@ def chosen(words: tool.Command, given: Namespace, report: Report) -> int:
 
 class Asked(Walk):
     """What clients have asked a node for."""
-
-    filter: Filter | None
-
-    def begin_capture(self, entry: Entry) -> None:
-        """What comes stands in the reads."""
-
-    def set_filter(self, entry: Entry, act: Act) -> None:
-        self.filter = Filter(act, 0, int(entry.who[1]))
 
     def refused(self, entries: Sequence[Entry]) -> Iterator[tuple[int, str, str]]:
         """The calls that were refused: the place of each, the call, and why."""

@@ -11,6 +11,8 @@ import sys
 from .. import progress
 from .. import reports
 from .. import tool
+from ..explain import played
+from ..explain.offered import Stream
 from ..explain.told import Part, page
 
 
@@ -18,22 +20,33 @@ def command() -> tool.Command:
     """The command and its words."""
     words = tool.Command(
         "explain",
-        "[--node NODE] [--client CLIENT] [REPORT]",
-        "Tells a report in sentences: what each client asked, got, lost and was refused, with hints.",
-        reads="a report, as `steps`, `run` and `serve` write it, from the file REPORT; from standard input without it or for `-`",
+        "[--node NODE] [--client CLIENT] [REPORT [SESSION]]",
+        "Tells a report in sentences: what each client asked, got, lost and was refused, with hints; with its stream at hand also why filters "
+        "got nothing, and which packets an Overflow lost.",
+        reads="a report, as `steps`, `run` and `serve` write it, from the file REPORT; from standard input without it or for `-`; and SESSION, "
+        "of which it is one: script and stream, or the recording that `serve` played",
         writes="text",
-        status="0; 1 where REPORT can't be read or is no report; 2 for wrong words",
+        status="0; 1 where a file can't be read, or isn't what it should be; 2 for wrong words",
         example="dvbemu steps my.script my.ts | dvbemu explain --node n0",
     )
     words.add_argument("--node", metavar="NODE", type=tool.reader(reports.node_of, "n0 to n31 or dvr"), help="only what concerns this node: n0 to n31, or dvr")
     words.add_argument("--client", metavar="CLIENT", type=tool.reader(client_of, "c0 to c7"), help="only what this client did: c0 to c7")
     words.add_argument("report", metavar="REPORT", nargs="?", help="the report")
+    words.add_argument("session", metavar="SESSION", nargs="?", help="the session of the report, or its recording")
     return words
 
 
 def client_of(word: str) -> int:
     """The client that a word of the command line names."""
     return reports.number(word.removeprefix("c"), reports.CLIENTS - 1)
+
+
+def stream_of(words: tool.Command, name: str, report: reports.Report) -> Stream:
+    """The stream that a report is of."""
+    try:
+        return Stream(played.packets_of(words.bytes_of(name), report))
+    except played.NotPlayed as wrong:
+        words.fail_on(name, wrong)
 
 
 def main() -> None:
@@ -48,7 +61,8 @@ def main() -> None:
             words.fail(f"no client called {reports.node_name(part.node)}")
         if part.client is not None and part.client >= len(report.clients):
             words.fail(f"the report has no client {part.client}")
-        text = page(report, part)
+        stream = stream_of(words, given.session, report) if given.session else None
+        text = page(report, part, stream)
     except (reports.NotAReport, OSError) as wrong:
         words.fail_on(given.report, wrong)
     progress.clear()

@@ -1,8 +1,7 @@
 """Writes a transport stream at the pace of its program clock, or a number of times as fast: `dvbemu pace --help`.
 
-The clock is that of the PCRs of one PID: of the first PID that has one, or of P.
-Between two PCRs the bytes come evenly; what stands before the first comes at once. Where the clock makes a leap, by more than ten
-seconds or as the stream says itself, the pace before goes on. So a program that reads this meets the packets as a receiver would:
+The clock is that of the PCRs of one PID: of the first PID that has one, or of P; stream/pace.py says what it is where these are missing or
+make a leap. So a program that reads this meets the packets as a receiver would:
 
     dvbemu pace my.ts | dvbemu run my.script -
 
@@ -14,8 +13,8 @@ import sys
 import time
 from typing import TYPE_CHECKING
 
-from .. import clock
 from .. import tool
+from ..stream.pace import NoClock, timed
 
 if TYPE_CHECKING:
     from typing import BinaryIO, Iterable, Iterator
@@ -59,7 +58,7 @@ def write(pieces: Iterable[tuple[float, bytes]], times: float, out: BinaryIO) ->
     begin = None
     for at, piece in pieces:
         now = time.monotonic()
-        begin = now if begin is None else begin
+        begin = now - at / times if begin is None else begin
         early = begin + at / times - now
         if early > 0:
             out.flush()
@@ -74,8 +73,8 @@ def main() -> None:
     given = words.parse_args()
     try:
         with words.opened(given.stream) as file:
-            write(clock.timed(chunks_of(file), given.pid), given.rate, sys.stdout.buffer)
-    except clock.NoClock:
+            write(timed(chunks_of(file), given.pid), given.rate, sys.stdout.buffer)
+    except NoClock:
         of = "" if given.pid is None else f" on PID {given.pid}"
         words.fail_on(given.stream, f"fewer than two PCRs{of}, so there is no clock to go by")
     except OSError as wrong:

@@ -14,65 +14,11 @@ import sys
 from typing import TYPE_CHECKING
 
 from .. import tool
+from ..stream.packets import LAST_PID, full_packet, section_packets
+from ..stream.sections import whole
 
 if TYPE_CHECKING:
     from argparse import Namespace
-
-SYNC, ROOM, LAST_PID = 0x47, 184, 8191
-# section_length is at most 4093: the bytes behind it, the CRC_32 among them.
-LONGEST = 4093
-POLYNOMIAL = 0x04C11DB7
-
-
-class NoPackets(Exception):
-    """What is asked for can't be packets."""
-
-
-def crc(data: bytes) -> int:
-    """The CRC_32 of these bytes (annex A)."""
-    register = 0xFFFFFFFF
-    for bit in (byte >> place & 1 for byte in data for place in range(7, -1, -1)):
-        differs = register >> 31 ^ bit
-        register = register << 1 & 0xFFFFFFFF ^ (POLYNOMIAL if differs else 0)
-    return register
-
-
-def whole(section: bytes) -> bytes:
-    """A section with its length and its CRC_32."""
-    if len(section) < 3:
-        raise NoPackets("a section has at least its table_id and its length, 3 bytes")
-    has_crc = section[1] >> 7
-    length = len(section) - 3 + 4 * has_crc
-    if length > LONGEST:
-        raise NoPackets(f"a section has at most {LONGEST} bytes behind its length")
-    front = bytes([section[0], section[1] & 0xF0 | length >> 8, length & 0xFF]) + section[3:]
-    return front + (crc(front).to_bytes(4, "big") if has_crc else b"")
-
-
-def field(room: int) -> bytes:
-    """An adaptation field of so many bytes that says nothing."""
-    return bytes([room - 1]) + (b"\0" + b"\xff" * (room - 2) if room > 1 else b"")
-
-
-def packet(pid: int, counter: int, start: bool, payload: bytes) -> bytes:
-    """The packet of a payload."""
-    over = ROOM - len(payload)
-    head = bytes([SYNC, start << 6 | pid >> 8, pid & 0xFF, (0x30 if over else 0x10) | counter])
-    return head + (field(over) if over else b"") + payload
-
-
-def of_payload(pid: int, counter: int, start: bool, payload: bytes) -> bytes:
-    """The packet of a payload that was named."""
-    if not 1 <= len(payload) <= ROOM:
-        raise NoPackets(f"a payload has 1 to {ROOM} bytes")
-    return packet(pid, counter, start, payload)
-
-
-def of_section(pid: int, counter: int, section: bytes) -> bytes:
-    """The packets of a section."""
-    data = b"\0" + whole(section)
-    payloads = [data[at : at + ROOM].ljust(ROOM, b"\xff") for at in range(0, len(data), ROOM)]
-    return b"".join(packet(pid, (counter + place) % 16, not place, payload) for place, payload in enumerate(payloads))
 
 
 def command() -> tool.Command:
@@ -101,12 +47,10 @@ def packets_of(args: Namespace) -> bytes:
     try:
         data = bytes.fromhex(" ".join(args.bytes))
     except ValueError:
-        raise NoPackets("bytes are two hexadecimal digits each") from None
+        raise ValueError("bytes are two hexadecimal digits each") from None
     if args.kind == "section":
-        packets = of_section(args.pid, args.counter, data)
-    else:
-        packets = of_payload(args.pid, args.counter, args.start, data)
-    return packets
+        return b"".join(section_packets(args.pid, whole(data), args.counter))
+    return full_packet(args.pid, args.counter, data, args.start)
 
 
 def main() -> None:
@@ -115,6 +59,6 @@ def main() -> None:
     args = words.parse_args()
     try:
         packets = packets_of(args)
-    except NoPackets as wrong:
+    except ValueError as wrong:
         words.fail(wrong)
     sys.stdout.buffer.write(packets if args.raw else packets.hex().encode() + b"\n")

@@ -19,7 +19,8 @@ from ..server.adapters import Adapter, Folder, adopt
 from ..server.building import Stopped, build_preload, built_server
 from ..server.channels import LINE, SATELLITE, SYSTEMS, channels_of, lines_in
 from ..server.commands import Interrupted, Signals, end_all_but, run_command, unseen_as
-from ..server.recording import PACKET, Unplayable
+from ..server.recording import Unplayable
+from ..stream.packets import PACKET
 
 if TYPE_CHECKING:
     from argparse import Namespace

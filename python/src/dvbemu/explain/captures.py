@@ -1,18 +1,18 @@
-"""What is known of the filters and captures of a report, for tools/explain."""
+"""What is known of the filters and captures of a report."""
 from __future__ import annotations
 
 from typing import TYPE_CHECKING
 
 from ..psi.fields import streams_in
-from .walk import KEEP, ONESHOT, Answered
+from ..stream.packets import PACKET
+from . import walk
+from .offered import Brought
 
 if TYPE_CHECKING:
     from typing import Iterable
 
-    from ..reports import Act
+    from ..reports import Act, Entry
     from .story import Stumble
-
-PACKET = 188
 
 
 class Offered:
@@ -41,22 +41,16 @@ class Offered:
         return packets - seen + pids * sum(first > 0 for first, _ in self.stretches)
 
 
-class Filter:
-    """A filter of a demux node: whose it is, what its set call asked, with KEEP or without, whether it takes what clients write, the PIDs
-    that it has and ever had, whether it was ever started, what of the stream it was offered, by PID, and how many packets clients wrote
-    while it ran. `gave` says that anything came through it, and `empty` what it had been offered, as stretches of its PID, when the report
-    last showed that nothing had."""
+class Filter(walk.Filter):
+    """What is known of a filter: the line of its set call, whether it was ever started, what of the stream it was offered, by PID, how many packets clients wrote while
+    it ran, and, with the stream at hand, the places of the packets that each capture was offered. `gave` says that anything came through
+    it, and `empty` what it had been offered, as stretches of its PID, when the report last showed that nothing had."""
 
-    def __init__(self, act: Act, line: int, client: int) -> None:
-        self.kind, self.pid, self.line, self.client = act["name"], act["pid"], line, client
-        self.output = act.get("output", "")
-        self.is_played = act.get("input") == "dvr"
-        self.once = self.kind == "section" and bool(act["flags"] & ONESHOT)
-        self.keeps = bool(act["flags"] & KEEP)
-        self.act = act
-        self.ever, self.started = {self.pid}, False
+    def __init__(self, entry: Entry, act: Act, line: int) -> None:
+        super().__init__(entry, act)
+        self.line, self.started, self.written, self.gave = line, False, 0, False
         self.offered: dict[int, Offered] = {}
-        self.written, self.gave = 0, False
+        self.places: list[list[int]] = []
         self.empty: list[tuple[int, int]] | None = None
 
     def take(self, act: Act, pids: Iterable[int]) -> None:
@@ -75,17 +69,19 @@ class Filter:
             offered.leave()
 
 
-class Capture(Answered):
+class Capture(walk.Answered):
     """What is known of a capture: whose it is, the line that began it, how much of the stream had passed then, in how many batches, whether
     the stream had ended when it began, how many bytes and items were answered, and where in a section the reader stands.
     `clear` is how much of the stream had passed when all that had come was read, `clear_passes` in how many batches, and `early` has the
     lines of the reads that found nothing before the first packet passed; it is None once something else is found, or a later read is made.
     `held` is how many bytes its reads would have given at least, had no Overflow come, `over` the Overflow that came last, `known` how many
     bytes had come when so much of the stream had passed, where a reply last told that, and `loops` says that the last read wasn't the last
-    call of its command. `lengths` has those of the sections that were read, the last one at the end. Of a dvr node's capture `tapped` says
-    whether a tap was attached, and `dry` has the lines of the reads that found nothing."""
+    call of its command. `lag` is how many bytes at most came while reads waited that wouldn't have had to, had no Overflow come, so that they
+    would have come later then, and `waits` says that such a read waits. `lengths` has those of the sections that were read, the last one at the end. Of a dvr node's capture `tapped` says
+    whether a tap was attached, and `dry` has the lines of the reads that found nothing. With the stream at hand `places` has those of the
+    packets that the capture was offered, and `brought` what they brought."""
 
-    def __init__(self, client: int, line: int, passed: int, passes: int, is_late: bool) -> None:
+    def __init__(self, client: int, used: Filter | None, line: int, passed: int, passes: int, is_late: bool) -> None:
         super().__init__()
         self.client, self.line, self.begin, self.is_late = client, line, passed, is_late
         self.items, self.have, self.digits, self.tail = 0, 0, "", ""
@@ -94,15 +90,24 @@ class Capture(Answered):
         self.clear, self.clear_passes = passed, passes
         self.early: list[int] | None = []
         self.held, self.known, self.loops, self.tapped = 0, (0, passed), False, False
+        self.lag, self.waits = 0, False
         self.over: Stumble | None = None
+        self.places: list[int] = []
+        self.brought = Brought(used)
         self.dry: list[int] = []
 
     def hold(self, least: int, most: int, count: int) -> int:
         """Takes a read of at most so many bytes, of a capture to which at least and at most so many had come: tells how many a buffer has to
         hold that no Overflow comes to this read."""
+        if self.waits:
+            self.lag, self.waits = self.lag + most - self.answered, False
         wanted = max(0, most - self.held)
-        self.held = min(least, self.held + count)
+        self.held = max(self.held, min(least - self.lag, self.held + count))
         return wanted
+
+    def hold_all(self) -> None:
+        """All that has come would have been read too, had no Overflow come."""
+        self.held, self.lag, self.waits = self.answered, 0, False
 
     def most(self, passed: int, size: int, is_section: bool) -> int:
         """How many bytes may have come by now, where so much of the stream has passed, and no Overflow is told: no more than the buffer holds,

@@ -1,4 +1,4 @@
-"""The clients of a report, what they called, and what they got, for tools/explain."""
+"""The clients of a report, what they called, and what they got."""
 from __future__ import annotations
 
 from bisect import bisect_right
@@ -6,7 +6,8 @@ from typing import TYPE_CHECKING, NamedTuple
 
 from ..psi.fields import NAMES, head_of
 from ..reports import DVR
-from ..psi.tables import read
+from ..stream.packets import PACKET
+from ..stream.tables import read
 
 if TYPE_CHECKING:
     from typing import Optional, Sequence, Tuple
@@ -16,8 +17,6 @@ if TYPE_CHECKING:
 
     # A table_id, a table_id_extension, and whether the sections are those of the table of this number.
     Kind = Tuple[int, Optional[int], bool]
-
-PACKET = 188
 
 
 class Call:

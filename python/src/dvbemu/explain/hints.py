@@ -1,4 +1,4 @@
-"""Hints for a receiver's writer, for tools/explain: each with what the report shows and the rule that it comes from.
+"""Hints for a receiver's writer: each with what the report shows and the rule that it comes from.
 
 RULES has for each kind of stumble the heading or paragraph of docs/BEHAVIOUR.md and words that stand there; tests/test_hints.py looks
 for them.
@@ -7,12 +7,11 @@ from __future__ import annotations
 
 from typing import TYPE_CHECKING
 
-from ..psi.fields import as_hex, pid_text
-from .refusals import LARGEST_SIZE
 from ..inputs import many
+from ..psi.fields import as_hex, pid_text
 from ..reports import DVR, node_name
+from .refusals import CRC, LARGEST_SIZE
 from .sentences import NAMES, joined, lines_text, node_text, pids_text
-from .walk import CRC
 
 if TYPE_CHECKING:
     from .story import Facts, Stumble
@@ -74,6 +73,8 @@ def size_words(stumble: Stumble) -> str:
         return f"an Overflow that no reading in time avoids, only a greater size: {item}"
     what = "what came" if facts["times"] == 1 else f"all that came, at {facts['times']:,} Overflows"
     held = f"; one of {facts['wanted']} would have held {what}" if 0 < facts["wanted"] <= LARGEST_SIZE else ""
+    if facts.get("unsure"):
+        held = "; no size is named, since reads waited behind it, and let packets pass sooner than they would have with a greater buffer"
     if held and facts["batch"]:
         held += f"; a batch of up to {facts['batch']} packets passes at once, and no client reads in between" + (
             ": set that size" if facts["served"] else ": set that size, or try `--batch 1`")  # fmt: skip
@@ -81,7 +82,7 @@ def size_words(stumble: Stumble) -> str:
         given = f"which is the one that Open gives; SetSize takes others up to {LARGEST_SIZE:,}"
         return f"an Overflow at the buffer size {facts['size']}, {given}{held}"
     late = f"more came before the client read than the buffer size {facts['size']} has room for{held}"
-    return f"an Overflow: {late}{'' if facts['played'] else '; `dvbemu hint REPORT SESSION` tells which packets were lost, and when'}"
+    return f"an Overflow: {late}{'; `dvbemu explain REPORT SESSION` tells which packets were lost, and when' if facts['asks'] else ''}"
 
 
 def size_of_packets_words(facts: Facts) -> str:
@@ -148,8 +149,10 @@ def nothing_words(stumble: Stumble) -> str:
         return f"{shown}: by the PMT that was read the PID carries {facts['carried']}, which `pes` takes"
     if not why:
         return f"{shown}, though it takes every one: the packets bring none that is whole, or carry no sections"
+    if not facts["asks"]:
+        return f"{shown}; the stream says why, below"
     other = f"that may be for {' or '.join(why)}; try it without, `{again_without(stumble)}`"
-    return f"{shown}: {other}, or let `dvbemu hint REPORT SESSION` find what rules each section out"
+    return f"{shown}: {other}, or let `dvbemu explain REPORT SESSION` find what rules each section out"
 
 
 def late_words(stumble: Stumble) -> str:

@@ -1,240 +1,94 @@
-"""What the packets of a stream brought to the filters of a report's nodes, for tools/hint: the sections that passed a filter that gave
-none, and the packets and sections that an Overflow lost.
-
-The rules are those of the plain second program, fuzz/second.py, which works out all sections of a capture anew at each packet; here each
-packet is taken once.
+"""What the packets of a stream brought to the filters of a report's nodes: the items of a capture, what an Overflow lost, and which bytes of
+a section filter rule a section out.
 """
 from __future__ import annotations
 
 from bisect import bisect_left, bisect_right
 from typing import TYPE_CHECKING, NamedTuple
 
-from .. import reports
-from ..psi.tables import has_right_crc
-from .plain import second
-from .walk import CRC, ONESHOT, Walk
+from ..stream.packets import ALL_PACKETS, PACKET, payload_of, pid_of
+from ..stream.sections import Cutter, is_intact
+from .refusals import CRC
 
 if TYPE_CHECKING:
     from typing import Iterable, Iterator, Mapping, Sequence
 
-    from ..reports import Act, Entry, FilterBytes, Reply
-    from .story import Story
-
-PACKET = 188
+    from ..reports import Act, FilterBytes
+    from .walk import Filter
 
 
-class Sections:
-    """The sections of a PID, by the rules of second.sections, each given with the packet that completes it."""
+class Stream:
+    """The packets of a stream, and the places of those of each PID, and of all for the PID that names every packet."""
 
-    def __init__(self) -> None:
-        self.last: bytes | None = None
-        self.open: bytearray | None = None
+    def __init__(self, packets: Sequence[bytes]) -> None:
+        self.packets = packets
+        found: dict[int, list[int]] = {}
+        for place, packet in enumerate(packets):
+            found.setdefault(pid_of(packet), []).append(place)
+        self.by_pid: Mapping[int, Sequence[int]] = {ALL_PACKETS: range(len(packets)), **found}
 
-    def take(self, packet: bytes) -> list[bytes]:
-        """The sections that the PID's next packet completes."""
-        payload = second.payload_of(packet)
-        if second.error_bit(packet) or payload is None:
-            return []
-        last, self.last = self.last, packet
-        if last is not None and second.counter_of(last) == second.counter_of(packet) and second.payload_of(last) == payload:
-            return []
-        if last is not None and not second.joins(last, packet):
-            self.open = None
-        if not second.unit_start(packet):
-            return self.extend(payload)
-        behind = 1 + payload[0]
-        found = self.extend(payload[1:behind]) if behind <= len(payload) else []
-        self.open = bytearray() if behind <= len(payload) else None
-        return found + self.extend(payload[behind:])
-
-    def extend(self, data: bytes) -> list[bytes]:
-        """The sections that are whole with further bytes of the open segment. It ends where no section can follow."""
-        if self.open is None:
-            return []
-        self.open += data
-        found, place = [], 0
-        while (after := end_of_section(self.open, place)) and after <= len(self.open):
-            found.append(bytes(self.open[place:after]))
-            place = after
-        del self.open[:place]
-        if after is None:
-            self.open = None
-        return found
+    def places(self, pids: Iterable[int], first: int, after: int) -> list[int]:
+        """The places of the packets of some PIDs in a batch."""
+        found: set[int] = set()
+        for pid in pids:
+            places = self.by_pid.get(pid, ())
+            found.update(places[bisect_left(places, first) : bisect_left(places, after)])
+        return sorted(found)
 
 
-def end_of_section(segment: bytearray, place: int) -> int | None:
-    """Where the section of an open segment ends that begins here; 0 where that isn't known yet, and None where none can begin."""
-    head = segment[place : place + 3]
-    if head[:1] == b"\xff":
-        return None
-    if len(head) < 3:
-        return 0
-    length = (head[1] & 0x0F) << 8 | head[2]
-    return place + 3 + length if length <= 4093 else None
-
-
-def sections_of(packets: Iterable[bytes]) -> list[bytes]:
-    """The sections of packets of one PID."""
-    reader = Sections()
-    return [section for packet in packets for section in reader.take(packet)]
-
-
-def is_intact(section: bytes) -> bool:
-    """Whether a section's CRC_32 is right, or it has none."""
-    return section[1] >> 7 == 0 or has_right_crc(section)
-
-
-def selects(act: Act, section: bytes) -> bool:
-    """Whether a section filter, given by its set call, selects a section."""
-    return second.matches(act["bytes"], section) and (not act["flags"] & CRC or is_intact(section))
+# ------ items
 
 
 class Lost(NamedTuple):
-    """What an Overflow lost: its line, the node and the span, whether the items are sections, and the places in the stream of the packets
-    that brought the first and the last of so many items."""
+    """What an Overflow lost: how many items, whether these are sections, and the places in the stream of the packets that brought the first
+    and the last of them."""
 
-    line: int
-    node: int
-    span: tuple[int, int]
-    is_section: bool
     items: int
+    is_section: bool
     first: int
     last: int
 
 
-class Used(NamedTuple):
-    """A section filter that ran and gave nothing, or any one that no packet passed: whose, its line, its node, its set call, the places of the
-    packets that each of its captures was offered, and its PIDs."""
+class Brought:
+    """The items that packets bring to a capture: where in it each ends, and the place of the packet that completes it."""
 
-    client: int
-    line: int
-    node: int
-    act: Act
-    places: list[list[int]]
-    pids: set[int]
-
-
-class Offered(Walk):
-    """A node with the stream at hand. `used` has its filters that gave nothing, `lost` what its Overflows lost, and `ran` says whether a
-    filter ran at all."""
-
-    filter: Act | None
-
-    def __init__(self, number: int, story: Story, packets: Sequence[bytes], by_pid: Mapping[int, Sequence[int]]) -> None:
-        super().__init__(number)
-        self.story, self.packets, self.by_pid = story, packets, by_pid
-        self.used: list[Used] = []
-        self.lost: list[Lost] = []
-        self.ran, self.gave, self.line, self.client = False, False, 0, 0
-        self.ever: set[int] = set()
-        self.places: list[int] = []
-        self.all_places: list[list[int]] = []
+    def __init__(self, used: Filter | None) -> None:
+        self.used, self.cutter, self.taken = used, Cutter(), 0
         self.ends: list[int] = []
         self.bringers: list[int] = []
-        self.taken, self.sections = 0, Sections()
-        self.taps: dict[int, list[int]] = {}
 
-    def take(self, entry: Entry) -> None:
-        """Takes the next entry."""
-        act, reply = reports.act_of(entry), reports.reply_of(entry)
-        name, told = act["name"], reply["name"]
-        if name == "pass":
-            self.take_pass(act)
-        elif name in ("attach", "detach"):
-            self.taps[act["node"]] = act.get("pids", [])
-        elif told == "overflow":
-            self.take_overflow(entry, reply)
-        elif told == "data" and reply["length"]:
-            self.gave = True
-        elif told == "done":
-            self.gave = self.gave or reply["drop"][1] > reply["drop"][0]
-            self.accept(entry, act, reply)
-
-    def take_pass(self, act: Act) -> None:
-        """A batch passes; what clients write has no place in the stream."""
-        runs = self.runs or self.number == reports.DVR and self.owner is not None
-        if act["input"] != "frontend" or not runs or self.is_played():
-            return
-        if self.due is not None and not self.gave and act["at"] >= self.due:
-            return
-        first, after = act["first"], act["first"] + act["count"]
-        pids = set().union(*self.taps.values()) if self.number == reports.DVR else self.pids
-        if second.ALL_PACKETS in pids:
-            self.places += range(first, after)
-            return
-        found: list[int] = []
-        for pid in pids:
-            places = self.by_pid.get(pid, [])
-            found += places[bisect_left(places, first) : bisect_left(places, after)]
-        self.places += sorted(found)
-
-    def is_played(self) -> bool:
-        """Whether the filter takes what clients write."""
-        return self.filter is not None and self.filter.get("input") == "dvr"
-
-    def set_filter(self, entry: Entry, act: Act) -> None:
-        """A filter, which has given nothing yet."""
-        self.filter, self.all_places, self.gave, self.ever = act, [], False, set()
-        self.line, self.client = self.story.line_of(entry), int(entry.who[1])
-
-    def change_pids(self, entry: Entry, act: Act) -> None:
-        """The filter has another PID, or one less."""
-        self.ever |= self.pids if self.runs else set()
-
-    def begin_capture(self, entry: Entry) -> None:
-        """A capture is offered packets from here on."""
-        self.places, self.ran = [], True
-        self.ever |= self.pids if self.filter else set()
-        self.taken, self.ends, self.bringers, self.sections = 0, [], [], Sections()
-
-    def end_capture(self, entry: Entry, reply: Reply) -> None:
-        """A capture has ended."""
-        self.all_places.append(self.places)
-        self.places = []
-
-    def end_filter(self) -> None:
-        """The filter's time is over."""
-        self.all_places.append(self.places)
-        used = self.filter
-        if used and self.ever and not self.gave and (used["name"] == "section" or used["input"] != "dvr" and not any(self.all_places)):
-            self.used.append(Used(self.client, self.line, self.number, used, self.all_places, self.ever))
-        self.filter, self.places, self.all_places = None, [], []
-
-    # ------ items
-
-    def take_items(self) -> None:
-        """Takes the items of the packets that have been offered to the capture: `ends` has where in it each ends, and `bringers` the place of
-        the packet that completes it."""
-        for place in self.places[self.taken :]:
-            for length in self.lengths(self.packets[place]):
+    def take(self, packets: Sequence[bytes], places: Sequence[int]) -> None:
+        """Takes the packets that the capture has been offered, those that were taken before among them."""
+        for place in places[self.taken :]:
+            for length in self.lengths(packets[place]):
                 self.ends.append(length + (self.ends[-1] if self.ends else 0))
                 self.bringers.append(place)
-        self.taken = len(self.places)
+        self.taken = len(places)
 
     def lengths(self, packet: bytes) -> list[int]:
         """The lengths of the items that the capture's next packet completes."""
-        if self.filter and self.filter["name"] == "section":
-            found = [len(section) for section in self.sections.take(packet) if selects(self.filter, section)]
-            return found[: not self.ends] if self.filter["flags"] & ONESHOT else found
-        if self.filter and self.filter["output"] == "tap":
-            return [len(payload)] if (payload := second.payload_of(packet)) else []
+        if self.used and self.used.kind == "section":
+            found = [len(section.data) for section in self.cutter.take(packet) if selects(self.used.act, section.data)]
+            return found[: not self.ends] if self.used.once else found
+        if self.used and self.used.output == "tap":
+            return [len(payload)] if (payload := payload_of(packet)) else []
         return [PACKET]
 
-    def take_overflow(self, entry: Entry, reply: Reply) -> None:
-        """Finds what an Overflow lost."""
-        self.gave = True
-        if self.node.capture is None or self.is_played():
-            return
-        begin, after = reply["span"]
-        self.take_items()
+    def lost(self, begin: int, after: int) -> Lost | None:
+        """The items of a span; None where the packets bring none such."""
         first, last = bisect_right(self.ends, begin), bisect_left(self.ends, after)
-        if first <= last < len(self.ends):
-            is_section = self.filter is not None and self.filter["name"] == "section"
-            places = self.bringers[first], self.bringers[last]
-            self.lost.append(Lost(self.story.line_of(entry), self.number, (begin, after), is_section, last - first + 1, *places))
+        if not first <= last < len(self.ends):
+            return None
+        is_section = self.used is not None and self.used.kind == "section"
+        return Lost(last - first + 1, is_section, self.bringers[first], self.bringers[last])
 
 
-# ------ what ruled a section out
+# ------ what a section filter selects
+
+
+def byte_at(place: int) -> int:
+    """The byte of a section that a filter byte stands against."""
+    return place if place == 0 else place + 2
 
 
 class Ruled(NamedTuple):
@@ -246,25 +100,31 @@ class Ruled(NamedTuple):
     bits: int
 
 
-def byte_at(place: int) -> int:
-    """The byte of a section that a filter byte stands against."""
-    return place if place == 0 else place + 2
-
-
 def ruled_out(places: FilterBytes, section: bytes) -> tuple[Ruled, ...]:
     """What of a filter rules a section out, by the places of its bytes; nothing where it selects it."""
-    if second.matches(places, section):
-        return ()
-    found = []
+    found, negative, differs = [], [], False
     for place, (value, mask, mode) in sorted(places.items()):
         at = byte_at(place)
         if mask and at >= len(section):
             found.append(Ruled(place, None, 0))
-        elif mask and (value ^ section[at]) & mask & ~mode:
-            found.append(Ruled(place, section[at], (value ^ section[at]) & mask & ~mode))
-    if not found:
-        found = [Ruled(place, section[byte_at(place)], 0) for place, (_, mask, mode) in sorted(places.items()) if mask & mode]
-    return tuple(found)
+        elif mask:
+            bits = (value ^ section[at]) & mask
+            if bits & ~mode:
+                found.append(Ruled(place, section[at], bits & ~mode))
+            if mask & mode:
+                negative.append(Ruled(place, section[at], 0))
+            differs = differs or bits & mode != 0
+    return tuple(found if found or differs else negative)
+
+
+def matches(places: FilterBytes, section: bytes) -> bool:
+    """Whether filter bytes match a section."""
+    return not ruled_out(places, section)
+
+
+def selects(act: Act, section: bytes) -> bool:
+    """Whether a section filter, given by its set call, selects a section."""
+    return matches(act["bytes"], section) and (not act["flags"] & CRC or is_intact(section))
 
 
 class Like(NamedTuple):
@@ -293,7 +153,7 @@ def tries(places: FilterBytes, sections: Sequence[bytes]) -> Iterator[FilterByte
 
 def like(places: FilterBytes, flags: int, sections: Iterable[bytes]) -> Like | None:
     """A filter with these bytes and flags, without the flag for the CRC_32 where only that keeps sections away; None where it selects none."""
-    matched = [section for section in sections if second.matches(places, section)]
+    matched = [section for section in sections if matches(places, section)]
     right = [section for section in matched if not flags & CRC or is_intact(section)]
     if right:
         return Like(places, flags, len(right))

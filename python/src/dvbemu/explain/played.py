@@ -1,16 +1,18 @@
 """The packets that a report is of: those of its session, or of the recording that was played, which is told by how many packets of each PID
-there are. For tools/hint and tools/session."""
+there are."""
 from __future__ import annotations
 
 from collections import Counter
 from typing import TYPE_CHECKING
 
-from ..inputs import many
+from ..inputs import LINE, many
 from ..psi.fields import pid_text
-from .plain import second
+from ..stream.packets import cut, pid_of
 
 if TYPE_CHECKING:
     from typing import Iterable, Iterator, Mapping, Tuple
+
+    from ..reports import Report
 
     # The head of a report: packets, skipped and rest.
     Head = Tuple[int, int, int]
@@ -26,16 +28,30 @@ class NotPlayed(Exception):
 
 def counted(packets: Iterable[bytes]) -> Counter[int]:
     """How many packets each PID has."""
-    return Counter(map(second.pid_of, packets))
+    return Counter(map(pid_of, packets))
+
+
+def packets_of(given: bytes, report: Report) -> list[bytes]:
+    """The packets of a report, by its session, or by the recording that was played."""
+    head, counts = (report.packets, report.skipped, report.rest), {row.pid: row.packets for row in report.pids}
+    if is_recording(given):
+        try:
+            return of_session(given, head, counts)
+        except NotPlayed:
+            return of_recording(given, head, counts)
+    _, line, stream = (b"\n" + given).partition(b"\n" + LINE)
+    if not line:
+        raise NotPlayed("no session, which has a line `stream`, and no recording")
+    return of_session(stream, head, counts)
 
 
 def of_session(stream: bytes, head: Head, counts: Mapping[int, int]) -> list[bytes]:
     """The packets of a session's stream, by its report's head (packets, skipped and rest) and how many packets each PID has there."""
     for size in (188, 204):
-        packets, skipped, rest = second.cut(stream, size)
+        packets, skipped, rest = cut(stream, size)
         if (len(packets), skipped, rest) == head and counted(packets) == counts:
             return packets
-    packets = second.cut(stream)[0]
+    packets = cut(stream)[0]
     raise NotPlayed(f"no session of this report: {difference(counted(packets), len(packets), head[0], counts)}")
 
 
@@ -45,7 +61,7 @@ def cuts_of(recording: bytes) -> Iterator[list[bytes]]:
         for at in range(ahead, size + ahead):
             syncs = recording[at : at + SHOWN * size : size]
             if syncs and syncs == SYNC * len(syncs):
-                yield second.cut(recording[at:], size)[0]
+                yield cut(recording[at:], size)[0]
                 break
 
 

@@ -1,47 +1,26 @@
-"""Why a call is refused, by the rules of docs/BEHAVIOUR.md, 'Refusals', for tools/explain."""
+"""Why a call is refused, by the rules of docs/BEHAVIOUR.md, 'Refusals', and the numbers that these name."""
 from __future__ import annotations
 
 from typing import TYPE_CHECKING
 
 from ..reports import DVR
-from .walk import FLAGS
+from ..stream.packets import ALL_PACKETS, LAST_PID
 
 if TYPE_CHECKING:
-    from typing import Optional, Protocol
-
     from ..reports import Act
-    from .captures import Filter
+    from .walk import Walk
 
-    class Asked(Protocol):
-        """A node that is asked: what its state is."""
-
-        number: int
-        filter: Optional[Filter]
-
-        @property
-        def owner(self) -> Optional[int]:
-            """The client that the node belongs to, or None."""
-
-        @property
-        def size(self) -> Optional[int]:
-            """The buffer's size; None of a node that is free."""
-
-        @property
-        def pids(self) -> set[int]:
-            """The PIDs of the filter."""
-
-        @property
-        def runs(self) -> bool:
-            """Whether the filter is started and not stopped."""
-
+CRC, ONESHOT, IMMEDIATE, KEEP = 1, 2, 4, 256
+# The flags that a set call takes, by their bits.
+FLAGS = {CRC: "DMX_CHECK_CRC", ONESHOT: "DMX_ONESHOT", IMMEDIATE: "DMX_IMMEDIATE_START", KEEP: "KEEP"}
 SMALLEST_SIZE, LARGEST_SIZE = 2, 16777216
-MOST_PIDS, ALL_PACKETS, LARGEST_PID, LARGEST_TYPE = 128, 0x2000, 0x1FFF, 20
+MOST_PIDS, LARGEST_TYPE = 128, 20
 
 
 def wrong_argument(act: Act) -> str:
     """Why a call is refused by its arguments alone, or nothing."""
     name = act["name"]
-    most = LARGEST_PID if name == "section" else ALL_PACKETS
+    most = LAST_PID if name == "section" else ALL_PACKETS
     if act.get("pid", 0) > most:
         return f"a PID above 0x{most:X}"
     if name == "size" and not SMALLEST_SIZE <= act["size"] <= LARGEST_SIZE:
@@ -57,7 +36,7 @@ def wrong_argument(act: Act) -> str:
     return "input DVR with output TS_TAP" if (act.get("input"), act.get("output")) == ("dvr", "ts_tap") else ""
 
 
-def wrong_pids(node: Asked, act: Act) -> tuple[str, str] | None:
+def wrong_pids(node: Walk, act: Act) -> tuple[str, str] | None:
     """Why an AddPid or RemovePid is refused by the node's state: the error and the reason, or None."""
     if node.filter is None:
         return "EINVAL", f"{'AddPid' if act['name'] == 'add' else 'RemovePid'} without a filter"
@@ -70,7 +49,7 @@ def wrong_pids(node: Asked, act: Act) -> tuple[str, str] | None:
     return ("ENOSPC", "128 PIDs are in the set") if len(node.pids) >= MOST_PIDS else None
 
 
-def refusal(node: Asked, client: int, act: Act) -> tuple[str, str] | None:
+def refusal(node: Walk, client: int, act: Act) -> tuple[str, str] | None:
     """The error that the rules give for a call in the node's state, and its reason; None where they give none."""
     if node.owner is None:
         return "EBADF", "the node is Free"

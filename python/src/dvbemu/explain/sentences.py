@@ -1,16 +1,15 @@
-"""Calls and replies of a report in plain words, for tools/explain."""
+"""Calls and replies of a report in plain words."""
 from __future__ import annotations
 
 from typing import TYPE_CHECKING
 
-from .clients import PACKET
+from ..inputs import many
 from ..psi.fields import NAMES as FIELD_NAMES
 from ..psi.fields import filter_texts, head_of, head_text, pid_name, pid_text, stream_text, table_text
-from ..inputs import many
-from .refusals import ALL_PACKETS
-from ..reports import DVR, act_of, moment, node_name, reply_of
 from ..psi.tables import short_text, text_of
-from .walk import FLAGS
+from ..reports import DVR, act_of, moment, node_name, reply_of
+from ..stream.packets import ALL_PACKETS, PACKET
+from .refusals import FLAGS
 
 if TYPE_CHECKING:
     from typing import Iterable, Mapping, Sequence, Tuple, Union

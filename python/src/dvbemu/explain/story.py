@@ -7,24 +7,27 @@ from __future__ import annotations
 
 from typing import TYPE_CHECKING, NamedTuple
 
-from .captures import Capture, Filter
-from .clients import PACKET, Call, Client, Got, Through, Waits, lost_by
 from ..psi.fields import as_hex, is_pes_head
-from .refusals import ALL_PACKETS, LARGEST_PID, refusal
-from ..reports import DVR, act_of, first_moment, moment, reply_of
 from ..psi.tables import carried_by
+from ..reports import DVR, act_of, first_moment, moment, reply_of
+from ..stream.packets import ALL_PACKETS, LAST_PID, PACKET
+from .captures import Capture, Filter
+from .clients import Call, Client, Got, Through, Waits, lost_by
+from .refusals import refusal
 from .walk import Walk
 
 if TYPE_CHECKING:
     from typing import Collection, Hashable, Optional, Tuple, TypedDict
 
-    from ..reports import Act, Entry, PidRow, Reply, Report
+    from ..reports import Act, Entry, PidCount, Reply, Report
+    from .offered import Lost, Stream
 
     class Facts(TypedDict, total=False):
         """The facts of a stumble: those that its kind has, of which hints.py makes words."""
 
         act: Act
         about: int
+        asks: bool
         batch: int
         begin: int
         bytes: int
@@ -43,13 +46,13 @@ if TYPE_CHECKING:
         packets: int
         pid: int
         pids: Tuple[int, ...]
-        played: bool
         read_as: dict[int, int]
         served: bool
         size: int
         skipped: int
         tapped: int
         times: int
+        unsure: bool
         wanted: int
         whole: int
         why: str
@@ -80,21 +83,22 @@ class Tap(NamedTuple):
 
 
 class Node(Walk):
-    """The state of a node that follows from the calls accepted so far, and counts of what came by."""
+    """The state of a node that follows from the calls accepted so far, and counts of what came by. `is_ahead` says that packets have passed
+    which wouldn't have yet, had no Overflow come."""
 
     filter: Filter | None
-    capture: Capture | None
 
     def __init__(self, number: int, story: Story) -> None:
         super().__init__(number)
-        self.story, self.ended_by = story, ""
+        self.capture: Capture | None = None
+        self.story, self.ended_by, self.is_ahead = story, "", False
         self.passed, self.passes, self.batch, self.calls, self.free_packets = 0, 0, 0, 0, 0
         self.end: int | None = None
         self.waiting: dict[int, Waiting] = {}
         self.busy: dict[int, int] = {}
         self.openers: set[int] = set()
         self.taps: dict[int, Tap] = {}
-        self.attached: dict[int, int] = {}
+        self.attached: dict[int, tuple[int, list[int]]] = {}
         self.untapped: list[tuple[int, int, Facts]] = []
 
     def begin_capture(self, entry: Entry) -> None:
@@ -102,7 +106,12 @@ class Node(Walk):
         is_late = self.end is not None and not (self.filter and self.filter.is_played)
         if self.filter:
             self.filter.started = True
-        self.capture = Capture(int(entry.who[1]), self.story.line_of(entry), self.passed, self.passes, is_late)
+        if self.is_ahead:
+            self.story.unsure.add(self.number)
+        self.capture = Capture(int(entry.who[1]), self.filter, self.story.line_of(entry), self.passed, self.passes, is_late)
+        self.story.ran = True
+        if self.filter:
+            self.filter.places.append(self.capture.places)
         self.capture.tapped = bool(self.attached)
         if is_late:
             self.story.note_late(self, entry)
@@ -111,19 +120,16 @@ class Node(Walk):
         """The capture ends, where there is one."""
         if self.capture and entry.act.startswith("size "):
             self.ended_by = "SetSize to another size has ended the capture"
+        self.is_ahead = self.is_ahead or self.capture is not None and self.capture.lag > 0
         self.tell(reply["drop"][1] > reply["drop"][0])
         self.story.leave_capture(self)
         if self.filter:
             self.filter.leave()
 
-    def set_filter(self, entry: Entry, act: Act) -> None:
+    def filter_of(self, entry: Entry, act: Act) -> Filter:
         """Another filter, which doesn't run yet."""
-        self.filter, self.ended_by = Filter(act, self.story.line_of(entry), int(entry.who[1])), ""
-
-    def change_pids(self, entry: Entry, act: Act) -> None:
-        """An accepted AddPid or RemovePid."""
-        assert self.filter is not None
-        self.filter.ever |= self.pids
+        self.ended_by = ""
+        return Filter(entry, act, self.story.line_of(entry))
 
     def end_filter(self) -> None:
         """The filter's time is over."""
@@ -194,14 +200,22 @@ SIZES = "larger", "first size", "overflow"
 
 
 class Story:
-    """A report gone through: its clients by number, and the stumbles."""
+    """A report gone through: its clients by number, the stumbles, and whether a capture ran. With the stream at hand `silent` has the filters that gave nothing, each
+    with its node, and `exact` what the Overflows lost, each with its client, its line, its
+    node and its span."""
 
-    def __init__(self, report: Report) -> None:
-        self.report = report
+    def __init__(self, report: Report, stream: Stream | None = None) -> None:
+        self.report, self.stream = report, stream
+        self.ran = False
+        self.silent: list[tuple[int, Filter]] = []
+        self.exact: list[tuple[int, int, int, tuple[int, int], Lost]] = []
         self.clients = {number: Client(number, outcomes) for number, outcomes in enumerate(report.clients)}
         self.packets = {row.pid: row for row in report.pids}
         self.stumbles: dict[tuple[str, int | None, int | None, Hashable], Stumble] = {}
         self.first_moment, self.is_served, self.joints = first_moment(report), is_served(report), joints(report)
+        # Nodes where reads waited behind an Overflow, and those whose later captures would have begun at other packets without it.
+        self.waited: set[int] = set()
+        self.unsure: set[int] = set()
         self.is_misread = self.look_at_skipped()
         for number, entries in sorted(report.nodes.items()):
             node = Node(number, self)
@@ -261,9 +275,14 @@ class Story:
                     call.reason = "as a write does that completes no packet"
 
     def join_sizes(self) -> None:
-        """The size that is named holds what came at each Overflow of a client's node, of whatever kind each of them is."""
+        """The size that is named holds what came at each Overflow of a client's node, of whatever kind each of them is. None is named where
+        it can't be told which packets would have passed by then."""
+        over = {number for kind, _, number, _ in self.stumbles if kind in SIZES}
+        mixed = over & {number for client in self.clients.values() for number in client.waits}
         for (kind, client, node, subject), stumble in self.stumbles.items():
-            if kind in SIZES and stumble.facts["wanted"]:
+            if kind in SIZES and (node in self.unsure or node in self.waited and mixed - {node}):
+                stumble.facts.update({"wanted": 0, "unsure": True})
+            elif kind in SIZES and stumble.facts["wanted"]:
                 same = (self.stumbles.get((other, client, node, subject)) for other in SIZES)
                 stumble.facts["wanted"] = max(one.facts["wanted"] for one in same if one)
 
@@ -314,9 +333,17 @@ class Story:
         node.passed, node.batch = act["first"] + act["count"], act["count"]
         if node.taps and node.owner is None:
             node.free_packets += act["count"]
-        if node.runs and node.capture and node.filter and not node.filter.is_played:
-            if node.due is None or act["at"] < node.due:
-                node.filter.take(act, node.pids)
+        if node.capture and not (node.filter and node.filter.is_played) and (node.runs or node.number == DVR):
+            self.offer(node, node.capture, act)
+
+    def offer(self, node: Node, capture: Capture, act: Act) -> None:
+        """A batch of the stream is offered to a capture, where its timeout isn't over."""
+        is_in_time = node.due is None or act["at"] < node.due
+        if node.filter and is_in_time:
+            node.filter.take(act, node.pids)
+        if self.stream and (is_in_time or node.filter and node.filter.gave):
+            pids = node.pids if node.filter else {pid for _, pids in node.attached.values() for pid in pids}
+            capture.places += self.stream.places(pids, act["first"], node.passed)
 
     def take_played(self, node: Node, call: Call) -> None:
         """Packets that a client has written pass a node."""
@@ -350,7 +377,7 @@ class Story:
             self.stumble("busy", client.number, node, line, facts={"opened": node.busy[client.number]})
         elif call.reply == "EBADF" and node.owner is None and client.number not in node.openers:
             self.stumble("not open", client.number, node, line)
-        elif call.reply == "EINVAL" and act["name"] in ("section", "pes") and act["pid"] > LARGEST_PID:
+        elif call.reply == "EINVAL" and act["name"] in ("section", "pes") and act["pid"] > LAST_PID:
             self.stumble("large pid", client.number, node, line, act["pid"], {"call": act["name"], "pid": act["pid"]})
 
     def take_open(self, node: Node, client: Client, call: Call, line: int) -> None:
@@ -375,8 +402,8 @@ class Story:
         """An Attach or a Detach of the dvr node; what passes while it is free is counted for the taps attached then."""
         tapped = act_of(call.entry)["node"]
         if call.act == "attach":
-            node.attached[tapped] = client.number
-        elif node.attached.get(tapped) == client.number:
+            node.attached[tapped] = client.number, act_of(call.entry)["pids"]
+        elif tapped in node.attached and node.attached[tapped][0] == client.number:
             del node.attached[tapped]
         if node.capture:
             node.capture.tapped |= bool(node.attached)
@@ -426,6 +453,8 @@ class Story:
         used, node.filter = node.filter, None
         if used is None:
             return
+        if used.started and not used.gave and (used.kind == "section" or not used.is_played and not any(used.places)):
+            self.silent.append((node.number, used))
         if not used.started:
             self.stumble("never started", used.client, node, used.line)
         elif used.is_played:
@@ -456,10 +485,10 @@ class Story:
         least, most = self.within(passed, [used.pid])
         about = whole * passed // self.report.packets
         if least or about >= LEAST_PASSED:
-            facts: Facts = {"pid": used.pid, "least": least, "most": most, "about": about, "act": used.act}
+            facts: Facts = {"pid": used.pid, "least": least, "most": most, "about": about, "act": used.act, "asks": not self.stream}
             self.stumble("selects nothing", used.client, node, used.line, facts=facts)
 
-    def rows_of(self, pid: int) -> list[PidRow]:
+    def rows_of(self, pid: int) -> list[PidCount]:
         """The rows of the stream's PIDs that a filter's PID names."""
         if pid == ALL_PACKETS:
             return self.report.pids
@@ -547,7 +576,7 @@ class Story:
         if reply["error"] == "timedout" and node.capture:
             node.capture.polled = line
         if not reply["readable"] and node.capture and self.is_served:
-            node.capture.held = node.capture.answered
+            node.capture.hold_all()
         found = reply["error"] == "overflow" or reply["readable"] == 1 and reply["error"] == "none"
         self.look(node, call, line, found, not reply["readable"])
 
@@ -614,8 +643,14 @@ class Story:
 
     # ------ overflows
 
-    @staticmethod
-    def hold_data(node: Node, client: Client, call: Call) -> None:
+    def hold(self, node: Node, call: Call, least: int, most: int) -> int:
+        """Takes a read of a capture to which at least and at most so many bytes had come, and tells how many a buffer has to hold."""
+        assert node.capture is not None
+        if node.capture.waits:
+            self.waited.add(node.number)
+        return node.capture.hold(least, most, act_of(call.entry)["count"] if node.gives_all() else 1)
+
+    def hold_data(self, node: Node, client: Client, call: Call) -> None:
         """Takes what a read gives: what more came has to be held too where, had no Overflow come, the reader would be behind."""
         capture, count = node.capture, act_of(call.entry)["count"]
         assert capture is not None and node.size is not None
@@ -623,43 +658,50 @@ class Story:
         is_bytes, wanted = node.gives_all(), 0
         if is_bytes and call.length() < count:
             capture.known = after, node.passed
-        if capture.held == capture.answered:
+        if capture.held == capture.answered and not capture.lag:
             capture.held = after
         else:
             has_place = is_bytes and not (node.filter and node.filter.is_played)
-            wanted = capture.hold(after, capture.most(node.passed, node.size, not has_place), count if is_bytes else 1)
+            wanted = self.hold(node, call, after, capture.most(node.passed, node.size, not has_place))
         if capture.over and capture.over.facts["wanted"]:
             capture.over.facts["wanted"] = max(capture.over.facts["wanted"], wanted + 1)
         capture.loops = not client.is_last(call.entry.step)
 
     def hold_again(self, node: Node, client: Client, call: Call) -> None:
         """Takes a read that found nothing. Who reads until it finds nothing would have read all; a single read in a script would have given
-        as much as it asks for."""
+        as much as it asks for, without a wait."""
         capture = node.capture
-        if capture:
-            capture.known = capture.answered, node.passed
-        if capture and (self.is_served or capture.loops and call.entry.step not in client.begins):
-            capture.held = capture.answered
-        elif capture:
-            capture.hold(capture.answered, capture.answered, act_of(call.entry)["count"] if node.gives_all() else 1)
+        if capture is None:
+            return
+        capture.known = capture.answered, node.passed
+        if self.is_served or capture.held == capture.answered or capture.loops and call.entry.step not in client.begins:
+            capture.hold_all()
+        elif client.is_last(call.entry.step):
+            self.hold(node, call, capture.answered, capture.answered)
+        else:
+            capture.waits = True
 
     def take_overflow(self, node: Node, client: Client, call: Call, line: int) -> None:
         """An Overflow that a read answered."""
         reply, capture = reply_of(call.entry), node.capture
         client.lost.append((line, call, reply["span"]))
         call.lost = lost_by(node, reply)
+        if self.stream and capture and not (node.filter and node.filter.is_played):
+            capture.brought.take(self.stream.packets, capture.places)
+            if lost := capture.brought.lost(*reply["span"]):
+                self.exact.append((client.number, line, node.number, reply["span"], lost))
         if node.size is None:
             return  # no report of a program
         call.reason = str(node.size)
         is_larger, is_first = reply["need"] > node.size - 1, node.size == node.first_size
         kind = "larger" if is_larger else "first size" if is_first else "overflow"
         facts: Facts = {"item": reply["item"], "need": reply["need"], "size": node.size, "wanted": 0, "times": 0, "batch": node.batch,
-                        "served": self.is_served, "played": node.filter is not None and node.filter.is_played}  # fmt: skip
+                        "served": self.is_served, "asks": not (self.stream or node.filter and node.filter.is_played)}  # fmt: skip
         found = self.stumble(kind, client.number, node, line, facts=facts)
         found.facts["times"] += 1
         if capture:
             self.look_at_pace(node, client, call, found)
-            wanted = capture.hold(reply["span"][1], reply["span"][1], act_of(call.entry)["count"] if node.gives_all() else 1)
+            wanted = self.hold(node, call, reply["span"][1], reply["span"][1])
             found.facts["wanted"] = 0 if call.lost.kept else max(found.facts["wanted"], wanted + 1)
             capture.over, capture.loops, capture.known = found, not client.is_last(call.entry.step), (reply["span"][1], node.passed)
             capture.skip_to(reply["span"][1])

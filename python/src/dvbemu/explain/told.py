@@ -1,12 +1,12 @@
-"""A report in sentences: the stream, what each client asked, got, lost and was refused, and the hints; for tools/explain and tools/page."""
+"""A report in sentences: the stream, what each client asked, got, lost and was refused, and the hints."""
 from __future__ import annotations
 
 from typing import TYPE_CHECKING, NamedTuple
 
 from .. import reports
-from . import sentences
 from ..inputs import many
 from ..psi.fields import pid_text
+from . import sentences, streamed
 from .hints import hint_text, rule_texts
 from .sentences import asked_texts, got_text, joined, lost_text, refused_texts, timed_text, waits_text
 from .story import Story, joints
@@ -15,6 +15,7 @@ if TYPE_CHECKING:
     from typing import Callable, Iterable, ParamSpec, Sequence, Union
 
     from .clients import Call, Client
+    from .offered import Stream
     from .story import Stumble
 
     # A line as it is, or a sentence.
@@ -22,7 +23,9 @@ if TYPE_CHECKING:
     P = ParamSpec("P")
 
 SHOWN, NULL = 20, 8191
-LOOK = "`dvbemu hint REPORT STREAM` looks at the stream too"
+LOOK = "`dvbemu explain REPORT STREAM` looks at the stream too"
+NOTHING = "Nothing to tell: packets of its PID passed each filter that ran, each section filter gave something, and no read was answered Overflow."
+NO_FILTER = "Nothing to tell: no filter ran."
 
 
 class Told(NamedTuple):
@@ -56,7 +59,7 @@ class Part(NamedTuple):
         return self.of_client(stumble.client) and self.of_node(stumble.node)
 
 
-def pid_row_text(row: reports.PidRow, is_loop: bool) -> str:
+def pid_row_text(row: reports.PidCount, is_loop: bool) -> str:
     """What the counters and error bits of a PID say; the breaks may be those of a loop."""
     where = " where the loop begins again" if is_loop else ""
     told = (row.breaks, f"break{where}", f"breaks{where}"), (row.duplicates, "duplicate", "duplicates")
@@ -165,7 +168,20 @@ def hint_lines(story: Story, part: Part) -> list[Row]:
         lines += wrapped(hint_text(stumble), 2)
         for text in rule_texts(stumble):
             lines += wrapped(text, 4)
-    return lines if found else lines + wrapped(f"None: this report shows nothing that they are given for. {LOOK}.", 2)
+    more = "" if story.stream else f" {LOOK}."
+    return lines if found else lines + wrapped(f"None: this report shows nothing that they are given for.{more}", 2)
+
+
+def stream_hints(story: Story, stream: Stream, part: Part) -> list[Row]:
+    """What the stream says of filters that got nothing, and of what was lost."""
+    lines: list[Row] = []
+    for node, used in story.silent:
+        if part.of_node(node) and part.of_client(used.client):
+            head, *texts = streamed.silent_texts(node, used, stream)
+            lines += [Told(2, head), *(Told(4, text) for text in texts)]
+    times = streamed.times_of(stream.packets) if story.exact else None
+    lines += [Told(2, streamed.lost_text(*row, times)) for row in story.exact if part.of_client(row[0]) and part.of_node(row[2])]
+    return ["", "What the stream says", "", *(lines or [Told(2, NOTHING if story.ran else NO_FILTER)])]
 
 
 def check_steps(report: reports.Report, story: Story) -> None:
@@ -183,23 +199,24 @@ def check_steps(report: reports.Report, story: Story) -> None:
             raise reports.NotAReport(line, what)
 
 
-def story_of(report: reports.Report) -> Story:
+def story_of(report: reports.Report, stream: Stream | None = None) -> Story:
     """A report gone through. Raises NotAReport where its clients' commands have other steps than its entries."""
-    story = Story(report)
+    story = Story(report, stream)
     check_steps(report, story)
     return story
 
 
-def page(report: reports.Report, part: Part) -> str:
-    """The whole page, or a part of it, without the stream."""
-    story = story_of(report)
+def page(report: reports.Report, part: Part, stream: Stream | None = None) -> str:
+    """The whole page, or a part of it, without the part on the stream alone."""
+    story = story_of(report, stream)
     lines = stream_lines(report) if part == Part() else []
     shown = [client for number, client in sorted(story.clients.items()) if part.of_client(number)
              and (part.node is None or any(call.node == part.node for call in client.calls))]  # fmt: skip
     asking = [client for client in shown if client.outcomes]
     lines += [line for client in asking for line in client_lines(client, part)]
     lines += idle_lines(shown) if shown and not asking else []
-    return text_of(lines + hint_lines(story, part))
+    lines += hint_lines(story, part)
+    return text_of(lines + (stream_hints(story, stream, part) if stream else []))
 
 
 def text_of(rows: Iterable[Row]) -> str:

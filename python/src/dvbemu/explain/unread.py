@@ -12,7 +12,8 @@ from typing import TYPE_CHECKING, NamedTuple
 
 from .. import reports
 from ..psi.fields import pid_name
-from .walk import KEEP, Answered, Walk
+from ..stream.packets import ALL_PACKETS, PACKET
+from .walk import Answered, Walk
 
 if TYPE_CHECKING:
     from typing import Mapping, Sequence, Tuple
@@ -22,7 +23,7 @@ if TYPE_CHECKING:
     # PIDs in a few words, and in fewer.
     Label = Tuple[str, str]
 
-PACKET, ALL_PACKETS, MOST_NAMED = 188, 0x2000, 4
+MOST_NAMED = 4
 
 
 class Loss(NamedTuple):
@@ -128,12 +129,10 @@ class History(Walk):
     """A node's captures, its size behind each entry, and the least and the most bytes that may be unread behind each entry (None
     where nothing tells them)."""
 
-    filter: Act | None
-    capture: Capture | None
-
     def __init__(self, node: int, entries: Sequence[Entry]) -> None:
         super().__init__(node)
         self.entries = entries
+        self.capture: Capture | None = None
         self.sizes: list[int | None] = []
         self.captures: list[Capture] = []
         self.drops: list[Drop] = []
@@ -175,7 +174,7 @@ class History(Walk):
         capture = self.capture
         if capture and capture.quiet is None:
             self.note_moment(capture, entry, act)
-            is_taken = act["input"] == (self.filter or {}).get("input", "frontend")
+            is_taken = (act["input"] == "dvr") == (self.filter is not None and self.filter.is_played)
             capture.packets += act["count"] if is_taken else 0
             capture.keep(entry.place)
 
@@ -224,16 +223,13 @@ class History(Walk):
 
     def begin_capture(self, entry: Entry) -> None:
         """A capture begins: of the filter, or on the dvr node of what the taps name."""
-        kind, keeps = "dvr", False
-        if self.filter is not None:
-            keeps = bool(self.filter["flags"] & KEEP)
-            kind = self.filter["name"] if self.filter["name"] == "section" else self.filter["output"]
+        kind = self.filter.output or self.filter.kind if self.filter else "dvr"
         label = ("tapped packets", "tapped") if kind == "dvr" else pids_labels(self.pids)
         self.capture = Capture(entry.place, entry.act, kind, label)
-        self.capture.keeps = keeps
+        self.capture.keeps = self.filter is not None and self.filter.keeps
         self.captures.append(self.capture)
 
-    def change_pids(self, entry: Entry, act: Act) -> None:
+    def change_pids(self, entry: Entry) -> None:
         """Another PID, or one less; a capture takes them from here on."""
         if self.capture:
             self.capture.labels.append((entry.place, pids_labels(self.pids)))

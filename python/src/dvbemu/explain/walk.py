@@ -1,22 +1,30 @@
-"""A node's entries gone through: owner, size, filter and capture as they follow from the calls accepted so far.
-
-They are those of the nodes of the plain second program, fuzz/second.py, which are asked just these calls: nothing is worked out a second
-time here. No packet is offered to them, so they are never asked what a read or a poll gives: that stands in the report.
+"""A node's entries gone through: owner, size, filter, PIDs and capture as they follow from the calls that were accepted, by the rules of
+docs/BEHAVIOUR.md, 'Calls' and 'The dvr node'. What a read or a poll gives stands in the report, and isn't worked out here.
 """
 from __future__ import annotations
 
 from typing import TYPE_CHECKING
 
-from ..oracle.judge import act_of as call_of
-from ..reports import DVR, moment
-from .plain import second
+from ..reports import DVR
+from .refusals import IMMEDIATE, KEEP, ONESHOT, refusal
 
 if TYPE_CHECKING:
     from ..reports import Act, Entry, Reply
 
-CRC, ONESHOT, IMMEDIATE, KEEP = 1, 2, 4, 256
-# The flags that a set call takes, by their bits.
-FLAGS = {CRC: "DMX_CHECK_CRC", ONESHOT: "DMX_ONESHOT", IMMEDIATE: "DMX_IMMEDIATE_START", KEEP: "KEEP"}
+# The size of the buffer that Open gives, of a demux node and of the dvr node.
+FIRST_SIZE, FIRST_DVR_SIZE = 8192, 1925120
+
+
+class Filter:
+    """A filter of a demux node: its set call, whose it is, what of the call counts for what it gives, and the PIDs that it ever had."""
+
+    def __init__(self, entry: Entry, act: Act) -> None:
+        self.entry, self.act, self.client = entry, act, int(entry.who[1])
+        self.kind, self.pid, self.output = act["name"], act["pid"], act.get("output", "")
+        self.is_played = act.get("input") == "dvr"
+        self.once = self.kind == "section" and bool(act["flags"] & ONESHOT)
+        self.keeps = bool(act["flags"] & KEEP)
+        self.ever = {self.pid}
 
 
 class Answered:
@@ -35,80 +43,81 @@ class Answered:
 
 
 class Walk:
-    """A node behind some entries. What a filter and a capture are, and what happens where one begins or ends, is said by the
-    classes below this one; filter and capture are None where there is none. `due` is the moment from which the capture's timeout is over,
-    where nothing was selected before; None where it has none."""
-
-    filter: object
-    capture: object
+    """A node behind some entries. What happens where a filter or a capture begins or ends is said by the classes below this one; `runs` says
+    whether a filter is started and not stopped, and `due` is the moment from which the capture's timeout is over, where nothing was
+    selected before; None where it has none."""
 
     def __init__(self, number: int) -> None:
-        self.number, self.node = number, second.Dvr() if number == DVR else second.Demux()
-        self.filter, self.capture = None, None
+        self.number = number
+        self.owner: int | None = None
+        self.size: int | None = None
         self.first_size: int | None = None
-        self.timeout = 0
+        self.filter: Filter | None = None
+        self.pids: set[int] = set()
+        self.has_capture, self.runs = False, False
         self.due: int | None = None
-
-    @property
-    def owner(self) -> int | None:
-        """The client that the node belongs to, or None."""
-        return self.node.owner
-
-    @property
-    def size(self) -> int | None:
-        """The buffer's size; None of a node that is free."""
-        return None if self.node.owner is None else self.node.size
-
-    @property
-    def pids(self) -> set[int]:
-        """The PIDs of the filter."""
-        return self.node.pids
-
-    @property
-    def runs(self) -> bool:
-        """Whether the filter is started and not stopped."""
-        return self.number != DVR and self.node.capture is not None and not self.node.capture.stopped
 
     def accept(self, entry: Entry, act: Act, reply: Reply) -> None:
         """Takes a call of a client that was answered Done."""
-        name, before, was_set = act["name"], self.node.capture, self.filter is not None
-        if not self.node.call(int(entry.who[1]), call_of(entry), moment(entry) or 0).startswith("done"):
+        name, client = act["name"], int(entry.who[1])
+        if self.owner is not None if name == "open" else refusal(self, client, act):
             return  # no report of a program
-        if name == "open":
-            self.first_size = self.node.size
-        if before is not None and self.node.capture is not before:
+        is_resized = name == "size" and act["size"] != self.size
+        ends = self.has_capture and (is_resized or name in ("close", "section", "pes", "start"))
+        begins = name == "start" or self.number == DVR and (name == "open" or is_resized)
+        begins = begins or name in ("section", "pes") and bool(act["flags"] & IMMEDIATE)
+        self.has_capture = begins or self.has_capture and not ends
+        self.runs = self.number != DVR and self.has_capture and (begins or self.runs and name != "stop")
+        self.change(client, act)
+        if ends:
             self.end_capture(entry, reply)
-        if name in ("open", "close", "section", "pes") and was_set:
+        if name in ("close", "section", "pes") and self.filter is not None:
             self.end_filter()
+            self.filter = None
         if name in ("section", "pes"):
-            self.timeout = act.get("timeout", 0)
-            self.set_filter(entry, act)
-        if name in ("add", "remove"):
-            self.change_pids(entry, act)
-        if name == "stop":
+            self.filter = self.filter_of(entry, act)
+        elif name in ("add", "remove") and self.filter:
+            self.filter.ever |= self.pids
+            self.change_pids(entry)
+        elif name == "stop":
             self.stop(entry)
-        if self.node.capture is not before and self.node.capture is not None:
-            self.due = act["at"] + self.timeout if self.timeout else None
+        if begins:
+            timeout = self.filter.act.get("timeout", 0) if self.filter else 0
+            self.due = act["at"] + timeout if timeout else None
             self.begin_capture(entry)
+
+    def change(self, client: int, act: Act) -> None:
+        """What an accepted call changes of owner, size and PIDs."""
+        name = act["name"]
+        if name == "open":
+            self.owner, self.size = client, FIRST_DVR_SIZE if self.number == DVR else FIRST_SIZE
+            self.first_size, self.pids = self.size, set()
+        elif name == "close":
+            self.owner, self.size = None, None
+        elif name == "size":
+            self.size = act["size"]
+        elif name in ("section", "pes"):
+            self.pids = {act["pid"]}
+        elif name == "add":
+            self.pids = self.pids | {act["pid"]}
+        elif name == "remove":
+            self.pids = self.pids - {act["pid"]}
+
+    def filter_of(self, entry: Entry, act: Act) -> Filter:
+        """The filter of a set call."""
+        return Filter(entry, act)
 
     def begin_capture(self, entry: Entry) -> None:
         """A capture begins with this entry."""
-        raise NotImplementedError
 
     def end_capture(self, entry: Entry, reply: Reply) -> None:
-        """The capture, where there is one, ends with this entry."""
-        self.capture = None
-
-    def set_filter(self, entry: Entry, act: Act) -> None:
-        """A set call is accepted."""
-        self.filter = act
-
-    def change_pids(self, entry: Entry, act: Act) -> None:
-        """An AddPid or RemovePid is accepted."""
+        """The capture ends with this entry."""
 
     def end_filter(self) -> None:
-        """The filter, where there is one, is set no longer."""
-        self.filter = None
+        """The filter is set no longer."""
+
+    def change_pids(self, entry: Entry) -> None:
+        """The filter has another PID, or one less."""
 
     def stop(self, entry: Entry) -> None:
         """A Stop is accepted."""

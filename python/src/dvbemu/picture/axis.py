@@ -1,4 +1,4 @@
-"""The axis that all lanes of tools/picture share: a column for each batch of the feeder, and between two batches columns for the
+"""The axis that all lanes of a picture share: a column for each batch of the feeder, and between two batches columns for the
 calls, in the order of each node and of each client.
 
 A call stands behind the batches that had passed its node. So in a report of `run`, where a batch passes one node after another,

@@ -1,10 +1,12 @@
-"""The lanes of tools/picture: a node each, on the axis that all share."""
+"""The lanes of a picture: a node each, on the axis that all share."""
 from __future__ import annotations
 
+from collections import Counter
 from typing import TYPE_CHECKING, NamedTuple
+
 from .. import reports
 from ..explain import unread
-from .marks import ROW, rows_of, words_of
+from .marks import ROW, error_of, name_of, rows_of, words_of
 from .svg import (
     BLACK, GREEN, GREY, LEAST_WIDTH, LEFT, PALE, PURPLE, RED, RIGHT, SKY, SMALL, Labels, counted, heading, line, path, rect, side, text,
     width_of,
@@ -54,7 +56,7 @@ class Lane:
     def is_quiet(self) -> bool:
         """Whether there is nothing but opens, closes, sizes and refusals."""
         calls = (entry for entry in self.entries if entry.who != "feed" and entry.reply.startswith("done "))
-        return not self.history.captures and all(entry.act.partition(" ")[0] in QUIET_CALLS for entry in calls)
+        return not self.history.captures and all(name_of(entry) in QUIET_CALLS for entry in calls)
 
     def left(self, place: int) -> float:
         """The left edge of an entry's column, or the axis' right end behind the last."""
@@ -141,13 +143,7 @@ class Lane:
 
     def unknown(self) -> list[str]:
         """Where nothing tells the unread bytes."""
-        runs: list[list[int]] = []
-        for place, level in enumerate(self.history.high):
-            if level is None:
-                if runs and runs[-1][1] == place:
-                    runs[-1][1] = place + 1
-                else:
-                    runs.append([place, place + 1])
+        runs = [run for run in runs_of([level is None for level in self.history.high]) if run[2]]
         found = []
         for _, group in self.axis.gather(runs, lambda run: self.columns[run[0]]):
             x, to = self.left(group[0][0]), self.left(group[-1][1])
@@ -270,10 +266,7 @@ class Quiet:
 
     def draw(self) -> list[str]:
         """The nodes' names, what was called, and where it was refused."""
-        counts: dict[str, int] = {}
-        for _, entry in self.calls:
-            name = entry.act.partition(" ")[0] if entry.reply.startswith("done ") else entry.reply.partition(" ")[0]
-            counts[name] = counts.get(name, 0) + 1
+        counts = Counter(name_of(entry) if entry.reply.startswith("done ") else error_of(entry) for _, entry in self.calls)
         told = ", ".join(f"{count} {name}" for name, count in counts.items())
         title = counted(len(self.lanes), "node") if len(self.lanes) > 1 else f"node {self.name}"
         rule = line(8, self.y + 2, self.axis.right, self.y + 2, f'stroke="{PALE}"')

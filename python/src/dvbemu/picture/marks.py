@@ -1,7 +1,8 @@
-"""The marks of tools/picture, the rows that they stand in, and the legend."""
+"""The marks of a picture, the rows that they stand in, and the legend."""
 from __future__ import annotations
 
 import textwrap
+from collections import Counter
 from typing import TYPE_CHECKING
 
 from .. import reports
@@ -20,6 +21,7 @@ if TYPE_CHECKING:
     T = TypeVar("T")
     Placed = Tuple[int, Entry]
     Mark = Callable[[float, float], List[str]]
+    Point = Tuple[float, float]
     # The fill, the edge and the ink of a count.
     Colours = Tuple[str, str, str]
 
@@ -50,64 +52,36 @@ def entry_words(entry: Entry) -> str:
 # ------ marks
 
 
-def data_mark(x: float, y: float) -> list[str]:
-    """A filled dot."""
-    return [circle(x, y, 4, f'fill="{BLUE}"')]
+def dot(radius: float, look: str) -> Mark:
+    """A mark that is a dot."""
+    return lambda x, y: [circle(x, y, radius, look)]
 
 
-def again_mark(x: float, y: float) -> list[str]:
-    """A hollow dot."""
-    return [circle(x, y, 3.5, f'fill="{WHITE}" stroke="{BLUE}" stroke-width="1.5"')]
+def box(half_width: float, half_height: float, look: str) -> Mark:
+    """A mark that is a box, so far to each side."""
+    return lambda x, y: [rect(x - half_width, y - half_height, 2 * half_width, 2 * half_height, look)]
 
 
-def overflow_mark(x: float, y: float) -> list[str]:
-    """A diamond."""
-    return [path([("M", x, y - 6), ("L", x + 6, y), ("L", x, y + 6), ("L", x - 6, y), ("Z",)], f'fill="{RED}"')]
+def polygon(points: Sequence[Point], look: str) -> Mark:
+    """A mark that is a polygon, whose corners are told from its middle."""
+    return lambda x, y: [path([*steps_of(points, x, y), ("Z",)], look)]
 
 
-def timeout_mark(x: float, y: float) -> list[str]:
-    """An hourglass."""
-    steps: list[Step] = [("M", x - 5, y - 5), ("L", x + 5, y - 5), ("L", x - 5, y + 5), ("L", x + 5, y + 5), ("Z",)]
-    return [path(steps, f'fill="{PURPLE}" stroke="{BLACK}" stroke-width="0.7"')]
+def cross(half: float, look: str) -> Mark:
+    """A mark that is a cross, so far to each side."""
+    strokes = [(-half, -half), (half, half)], [(-half, half), (half, -half)]
+    return lambda x, y: [path([step for stroke in strokes for step in steps_of(stroke, x, y)], look)]
 
 
-def drop_mark(x: float, y: float) -> list[str]:
-    """A triangle that points down."""
-    steps: list[Step] = [("M", x - 5, y - 4), ("L", x + 5, y - 4), ("L", x, y + 5), ("Z",)]
-    return [path(steps, f'fill="{ORANGE}" stroke="{BLACK}" stroke-width="0.7"')]
-
-
-def refused_mark(x: float, y: float) -> list[str]:
-    """A cross."""
-    look = f'stroke="{BLACK}" stroke-width="2" fill="none"'
-    return [path([("M", x - 4, y - 4), ("L", x + 4, y + 4), ("M", x - 4, y + 4), ("L", x + 4, y - 4)], look)]
-
-
-def ready_mark(x: float, y: float) -> list[str]:
-    """A filled square."""
-    return [rect(x - 3.5, y - 3.5, 7, 7, f'fill="{GREEN}"')]
-
-
-def not_ready_mark(x: float, y: float) -> list[str]:
-    """A hollow square."""
-    return [rect(x - 3, y - 3, 6, 6, f'fill="{WHITE}" stroke="{GREEN}" stroke-width="1.5"')]
-
-
-def played_mark(x: float, y: float) -> list[str]:
-    """A triangle that points to the right."""
-    steps: list[Step] = [("M", x - 4, y - 5), ("L", x + 5, y), ("L", x - 4, y + 5), ("Z",)]
-    return [path(steps, f'fill="{YELLOW}" stroke="{BLACK}" stroke-width="0.7"')]
+def steps_of(points: Iterable[Point], x: float, y: float) -> list[Step]:
+    """The steps of a path through points that are told from a place."""
+    return [("L" if number else "M", x + right, y + down) for number, (right, down) in enumerate(points)]
 
 
 def pill(x: float, y: float, words: str, fill: str, stroke: str, ink: str) -> list[str]:
     """A rounded box with a few characters."""
     look = f'rx="4" fill="{fill}" stroke="{stroke}"'
     return [rect(x - 11, y - 7, 22, 14, look), text(x, y + 3.3, words, SMALL, f'{MIDDLE} fill="{ink}"')]
-
-
-def call_mark(x: float, y: float) -> list[str]:
-    """A rounded box."""
-    return [rect(x - 5, y - 5, 10, 10, f'rx="3" fill="{PALE}" stroke="{GREY}"')]
 
 
 # ------ rows
@@ -188,7 +162,7 @@ class UprightRow(Row):
         found, wide = [side(y + 20, self.name)], axis.cell_width() - 1.5
         for cell, things in axis.gather(self.entries, lambda thing: thing[0]):
             x, entries = axis.cell_middle(cell), [entry for _, entry in things]
-            names = counts_of(map(name_of, entries))
+            names = Counter(map(name_of, entries))
             found.append(rect(x - wide / 2, y + 1, wide, 43, f'rx="3" {CALL_LOOK}', words_of(entries, entry_words)))
             places = [x] if len(names) == 1 else [x - 5.5, x + 5.5]
             for at, (name, count) in zip(places, names.items()):
@@ -197,26 +171,20 @@ class UprightRow(Row):
         return found
 
 
-def counts_of(names: Iterable[str]) -> dict[str, int]:
-    """How often each name comes, in the order of the first of each."""
-    found: dict[str, int] = {}
-    for name in names:
-        found[name] = found.get(name, 0) + 1
-    return found
-
-
 CALLS = ("open", "close", "section", "pes", "add", "remove", "start", "stop", "size", "attach", "detach")
 CALL_LOOK, REFUSED_LOOK = f'fill="{PALE}" stroke="{GREY}"', f'fill="{WHITE}" stroke="{BLACK}" stroke-width="1.2"'
+EDGE = f'stroke="{BLACK}" stroke-width="0.7"'
+# How each kind of entry is drawn, the colours of a count of them, and what the legend says.
 MARKS: dict[str, tuple[Mark, Colours, str]] = {
-    "data": (data_mark, (BLUE, BLUE, WHITE), "read: data"),
-    "again": (again_mark, (WHITE, BLUE, BLACK), "read: again"),
-    "overflow": (overflow_mark, (RED, RED, WHITE), "read: overflow"),
-    "timed out": (timeout_mark, (PURPLE, BLACK, BLACK), "read: timed out"),
-    "readable": (ready_mark, (GREEN, GREEN, WHITE), "poll: readable"),
-    "not readable": (not_ready_mark, (WHITE, GREEN, BLACK), "poll: not readable"),
-    "refused": (refused_mark, (WHITE, BLACK, BLACK), "refused or busy"),
-    "dropped": (drop_mark, (ORANGE, BLACK, BLACK), "call that drops unread bytes"),
-    "played": (played_mark, (YELLOW, BLACK, BLACK), "packets that a client has written pass"),
+    "data": (dot(4, f'fill="{BLUE}"'), (BLUE, BLUE, WHITE), "read: data"),
+    "again": (dot(3.5, f'fill="{WHITE}" stroke="{BLUE}" stroke-width="1.5"'), (WHITE, BLUE, BLACK), "read: again"),
+    "overflow": (polygon([(0, -6), (6, 0), (0, 6), (-6, 0)], f'fill="{RED}"'), (RED, RED, WHITE), "read: overflow"),
+    "timed out": (polygon([(-5, -5), (5, -5), (-5, 5), (5, 5)], f'fill="{PURPLE}" {EDGE}'), (PURPLE, BLACK, BLACK), "read: timed out"),
+    "readable": (box(3.5, 3.5, f'fill="{GREEN}"'), (GREEN, GREEN, WHITE), "poll: readable"),
+    "not readable": (box(3, 3, f'fill="{WHITE}" stroke="{GREEN}" stroke-width="1.5"'), (WHITE, GREEN, BLACK), "poll: not readable"),
+    "refused": (cross(4, f'stroke="{BLACK}" stroke-width="2" fill="none"'), (WHITE, BLACK, BLACK), "refused or busy"),
+    "dropped": (polygon([(-5, -4), (5, -4), (0, 5)], f'fill="{ORANGE}" {EDGE}'), (ORANGE, BLACK, BLACK), "call that drops unread bytes"),
+    "played": (polygon([(-4, -5), (5, 0), (-4, 5)], f'fill="{YELLOW}" {EDGE}'), (YELLOW, BLACK, BLACK), "packets that a client has written pass"),
 }
 
 
@@ -266,7 +234,7 @@ def rows_of(placed: Iterable[Placed], axis: Axis) -> list[Row]:
         return [*rows, UprightRow(calls)]
     if not has_room:
         by_name = [(name, [thing for thing in calls if name_of(thing[1]) == name]) for name in CALLS]
-        return rows + [MarkRow(name, things, call_mark, (PALE, GREY, BLACK)) for name, things in by_name if things]
+        return rows + [MarkRow(name, things, box(5, 5, f'rx="3" {CALL_LOOK}'), (PALE, GREY, BLACK)) for name, things in by_name if things]
     rows = [WordRow("refused", row.entries, error_of, REFUSED_LOOK) if row.name == "refused" else row for row in rows]
     return rows + ([WordRow("calls", calls, name_of, CALL_LOOK)] if calls else [])
 

@@ -1,6 +1,6 @@
 """A report as one page of HTML, which asks for nothing else: the hints and sentences in front, the picture, and beside it the commands.
 
-The picture is that of tools/picture, drawn once; sheet.js cuts it into strips that fit the window, and ties its marks to the commands.
+The picture is that of `dvbemu picture`, drawn once; sheet.js cuts it into strips that fit the window, and ties its marks to the commands.
 """
 from __future__ import annotations
 

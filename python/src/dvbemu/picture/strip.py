@@ -1,4 +1,4 @@
-"""The upper part of tools/picture: the stream, the axis with batches and moments, and the clients' commands."""
+"""The upper part of a picture: the stream, the axis with batches and moments, and the clients' commands."""
 from __future__ import annotations
 
 from typing import TYPE_CHECKING, NamedTuple

@@ -1,4 +1,4 @@
-"""Writes shapes and words as the text of an SVG, for tools/picture."""
+"""Writes shapes and words as the text of an SVG."""
 from __future__ import annotations
 
 from xml.sax.saxutils import escape

@@ -1,1 +1,1 @@
-"""Tables of MPEG and DVB: fields, descriptors and texts."""
+"""What sections say, in words: tables, descriptors, texts, and the fields that filters ask."""

@@ -2,13 +2,16 @@
 they say."""
 from __future__ import annotations
 
-from typing import TYPE_CHECKING, NamedTuple
+from typing import TYPE_CHECKING
 
+from ..stream.tables import Short, number
 from .fields import pid_text
 from .letters import text_of
 
 if TYPE_CHECKING:
     from typing import Callable, Container, Iterable
+
+    from ..stream.tables import Descriptor
 
 NAMES = {
     0x02: "video_stream", 0x03: "audio_stream", 0x04: "hierarchy", 0x05: "registration", 0x06: "data_stream_alignment",
@@ -36,36 +39,6 @@ SERVICES = {
 }  # fmt: skip
 # What a stream of stream_type 0x06 is, by its descriptors.
 PRIVATE = {0x56: "teletext", 0x59: "subtitles", 0x6A: "AC-3 audio", 0x7A: "enhanced AC-3 audio", 0x7B: "DTS audio", 0x7C: "AAC audio"}
-
-
-class Descriptor(NamedTuple):
-    """A descriptor: its tag and the bytes behind its length."""
-
-    tag: int
-    data: bytes
-
-
-class Short(Exception):
-    """A table or a descriptor that ends before what it has to have."""
-
-
-def split(data: bytes) -> list[Descriptor]:
-    """The descriptors that these bytes are, which have to be whole."""
-    found, place = [], 0
-    while place < len(data):
-        after = place + 2 + data[place + 1] if place + 1 < len(data) else len(data) + 1
-        if after > len(data):
-            raise Short
-        found.append(Descriptor(data[place], data[place + 2 : after]))
-        place = after
-    return found
-
-
-def number(data: bytes, first: int, after: int) -> int:
-    """The number that some bytes are, which have to be there."""
-    if after > len(data):
-        raise Short
-    return int.from_bytes(data[first:after], "big")
 
 
 def decimal(data: bytes, first: int, after: int) -> int | None:

@@ -9,8 +9,9 @@ import threading
 import time
 from typing import TYPE_CHECKING
 
+from ..stream.packets import PACKET
 from .channels import LOCKED, NOTHING
-from .recording import PACKET, PAUSE, Player, Unplayable
+from .recording import PAUSE, Player, Unplayable
 
 if TYPE_CHECKING:
     from typing import IO, BinaryIO, Callable, Sequence

@@ -6,21 +6,16 @@ import select
 import stat
 from typing import TYPE_CHECKING
 
-from .. import clock
+from ..stream.pace import Pace
+from ..stream.packets import FORMS, PACKET, SYNC, form_of, pcr_of
 
 if TYPE_CHECKING:
     from typing import Iterator
 
-PACKET, SYNC = clock.PACKET, clock.SYNC
-# The bytes of a packet with what lies in front of it and behind it: as it is, with a time in front (Blu-ray, .m2ts), with 16 bytes
-# behind (of a Reed-Solomon code).
-FORMS = {188: 0, 192: 4, 204: 0}
-# How many packets show a form, in how many bytes; how many bytes are read at once, and in how many a clock has to begin.
-SHOWN, LOOKED_AT, BLOCK, CLOCK_WITHIN = 5, 64 << 10, 1 << 18, 16 << 20
+# In how many bytes a form is looked for, how many are read at once, and in how many a clock has to begin.
+LOOKED_AT, BLOCK, CLOCK_WITHIN = 64 << 10, 1 << 18, 16 << 20
 # The seconds that a pipe is waited for at once, and those by which it may come late before its clock waits for it.
 PAUSE, LATE = 0.004, 0.5
-# Behind so many packets without a PCR of the PID that had one, the next PCR of any PID is taken.
-SILENT = 100_000
 # Which flags of a packet say that an adaptation field may be there.
 HAS_FIELD = bytes(1 if flags & 0x20 else 0 for flags in range(256))
 
@@ -29,31 +24,15 @@ class Unplayable(Exception):
     """A file that can't be played, and why."""
 
 
-def form_of(data: bytes) -> tuple[int, int] | None:
-    """How packets lie in these bytes: how many bytes each takes, and where the first begins; None where there are none."""
-    found = []
-    for size, ahead in FORMS.items():
-        for at in range(ahead, min(size + ahead, len(data))):
-            syncs = data[at::size]
-            count = min(len(syncs), SHOWN)
-            if syncs[:count].count(SYNC) == count and (count == SHOWN or len(data) < SHOWN * size):
-                found.append((at - ahead, size))
-                break
-    if not found:
-        return None
-    at, size = min(found)
-    return size, at
-
-
-def pcrs_of(block: bytes, phase: int) -> Iterator[tuple[int, int, int, bool]]:
-    """Each PCR in a block whose packets begin at this phase: its place, its PID, its clock and whether that begins anew."""
+def pcrs_of(block: bytes, phase: int) -> Iterator[tuple[int, bytes, int]]:
+    """The packets with a PCR in a block whose packets begin at this phase: the place of each, the packet, and its PCR."""
     flags = block[phase + 3::PACKET].translate(HAS_FIELD)
     number = flags.find(1)
     while number >= 0:
         at = phase + PACKET * number
         packet = block[at:at + PACKET]
-        if packet[0] == SYNC and (ticks := clock.pcr_of(packet)) is not None:
-            yield at, clock.pid_of(packet), ticks, clock.has_new_clock(packet)
+        if packet[0] == SYNC and (pcr := pcr_of(packet)) is not None:
+            yield at, packet, pcr
         number = flags.find(1, number + 1)
 
 
@@ -140,64 +119,56 @@ class Recording:
         return b"".join(packets), data[at:]
 
     def runs(self, within: int | None = None) -> Iterator[tuple[bytes, float]]:
-        """Runs of packets, each with the seconds that it takes: from one PCR to the next, or as the last ones where the clock makes a
-        leap or begins anew. A stream without a clock in so many bytes can't be played."""
+        """Runs of packets, each with the seconds that it takes. A stream without a clock in so many bytes can't be played."""
         begin = self.form[1] if self.form else 0
         if self.rate:
             for block in self.blocks(begin):
                 yield block, len(block) / PACKET / self.rate
             return
-        pace = Pace()
+        runs = Runs()
         for block in self.blocks(begin):
             if self.is_pipe and not block:
                 yield b"", 0.0
-            yield from pace.runs(block)
-            if within and pace.pace is None and pace.count > within:
+            yield from runs.take(block)
+            if within and runs.pace.seconds is None and runs.count > within:
                 break
-        if pace.pace is None:
+        if runs.pace.seconds is None:
             raise Unplayable(f"{self.path} has no program clock{' in its first 16 MiB' if within else ''}: "
                              "give --packets N, or --rate N in bits a second")  # fmt: skip
-        if pace.held:
-            yield pace.held, len(pace.held) / PACKET * pace.pace
+        yield from runs.given()
 
 
-class Pace:
-    """The seconds that a packet takes, PCR by PCR."""
+class Runs:
+    """Runs of packets, from one PCR to the next, which wait until the pace is known."""
 
     def __init__(self) -> None:
-        self.held, self.count, self.silent, self.last = b"", 0, 0, 0
-        self.pid: int | None = None
-        self.pace: float | None = None
+        self.pace, self.held, self.count = Pace(), b"", 0
+        # (the bytes since the last PCR)
+        self.behind = 0
 
-    def runs(self, block: bytes) -> Iterator[tuple[bytes, float]]:
-        """The runs that end in a block."""
-        phase, begun = max(self.phase_of(block), 0), 0
-        for at, pid, ticks, is_new in pcrs_of(block, phase):
-            if self.pid not in (None, pid) and self.silent + (at - begun) // PACKET < SILENT:
-                continue
-            run = self.held + block[begun:at]
-            is_first = self.pid != pid
-            if not is_first and run:
-                self.note(ticks, is_new, len(run) // PACKET)
-            self.pid, self.last, begun, self.silent = pid, ticks, at, 0
-            self.held = b"" if self.pace else run
-            if self.pace and run:
-                yield run, len(run) / PACKET * self.pace
+    def take(self, block: bytes) -> Iterator[tuple[bytes, float]]:
+        """The runs that end in a block, each with the seconds that it takes."""
+        begun = 0
+        for at, packet, pcr in pcrs_of(block, max(self.phase_of(block), 0)):
+            if self.pace.takes(packet, pcr, self.behind + at - begun):
+                self.held += block[begun:at]
+                begun, self.behind = at, 0
+                yield from self.given()
         self.held += block[begun:]
-        self.silent += (len(block) - begun) // PACKET
+        self.behind += len(block) - begun
         self.count += len(block)
+
+    def given(self) -> Iterator[tuple[bytes, float]]:
+        """What is held, where its pace is known."""
+        if self.held and self.pace.seconds is not None:
+            yield self.held, len(self.held) * self.pace.seconds
+            self.held = b""
 
     @staticmethod
     def phase_of(block: bytes) -> int:
         """Where the first packet of a block begins: at its front, but where bytes lie between that are none."""
         form = (PACKET, 0) if block[::PACKET].count(SYNC) > len(block) // PACKET * 0.9 else form_of(block)
         return form[1] if form and form[0] == PACKET else 0
-
-    def note(self, ticks: int, is_new: bool, packets: int) -> None:
-        """The clock goes on behind so many packets."""
-        passed = (ticks - self.last) % clock.WRAP
-        if not is_new and 0 < passed <= clock.LONGEST:
-            self.pace = passed / clock.TICKS / packets
 
 
 class Player:

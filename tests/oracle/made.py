@@ -1,4 +1,4 @@
-#!/usr/bin/env python3
+#!/usr/bin/env -S sh -c 'exec "${0%/*}/../python" "$0" "$@"'
 """A plain second generator: the session of a number, by the rules of docs/MADE.md and docs/BEHAVIOUR.md alone.
 
     made.py NUMBER              writes the session of the number
@@ -8,7 +8,7 @@ It shares no code with dvbemu and isn't proved. The generator's multiplier is PC
 """
 import sys
 
-from dvbemu.oracle import second
+from oracle import second
 
 SCRIPT = """c0 open n0
 c0 size n0 16777216

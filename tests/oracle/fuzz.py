@@ -1,7 +1,7 @@
-#!/usr/bin/env python3
+#!/usr/bin/env -S sh -c 'exec "${0%/*}/../python" "$0" "$@"'
 """Compares dvbemu with a plain second program, on sessions that are made from numbers.
 
-    fuzz [--count N] [--first SEED] [--program PATH]
+    fuzz.py [--count N] [--first SEED] [--program PATH]
 
 Session number SEED has a script of random commands of up to eight clients (all calls, wrong arguments, slots, waiting reads; in
 every other session writes to the dvr device, of all sizes and also by clients that don't own it) and a random stream (garbage,
@@ -12,7 +12,7 @@ judge.py. Both reports, and one of them with a change (changes.py), are then che
 same line where the text is no report or its head is another, and the judge as is known of the report; where a program has no such
 command, the judge alone is tried. First it looks whether these rules stand as they did when that program was last held against them
 (rules.py). The last line is `N passed, M failed`; a session that differs, and the input of a `check` that does, are kept in the folder
-fuzz/found.
+tests/found.
 """
 import argparse
 import os
@@ -21,16 +21,8 @@ import re
 import subprocess
 import sys
 
-HERE = os.path.dirname(os.path.realpath(__file__))
-sys.path.insert(1, os.path.join(HERE, "..", "tools", "lib"))
-sys.path.insert(1, os.path.join(os.path.dirname(os.path.realpath(__file__)), "..", "python", "src"))
-sys.dont_write_bytecode = True
-
-import changes
-from dvbemu.oracle import judge
-import rules
-from dvbemu.oracle import second
-from checks import PROGRAM, Tally, asked_of, see_built
+from checks import PROGRAM, ROOT, Tally, asked_of, see_built
+from oracle import changes, judge, rules, second
 
 # The line of `check` where a report is wrong, and the kinds of which the judge has to tell the same line: of the others it may tell
 # another first, as it goes through all of a report.
@@ -309,8 +301,9 @@ def checks_differ(program, made, packet, seed, reports):
 
 def keep(name, text):
     """Keeps what differs for a reader."""
-    os.makedirs(os.path.join(HERE, "found"), exist_ok=True)
-    with open(os.path.join(HERE, "found", name), "wb") as file:
+    folder = os.path.join(ROOT, "tests", "found")
+    os.makedirs(folder, exist_ok=True)
+    with open(os.path.join(folder, name), "wb") as file:
         file.write(text)
 
 

@@ -1,10 +1,10 @@
-#!/usr/bin/env python3
+#!/usr/bin/env -S sh -c 'exec "${0%/*}/../python" "$0" "$@"'
 """Whether the second program was written from the rules as they stand.
 
     rules.py             looks whether each section of the rules is named, with its checksum
     rules.py --accept    writes the checksums anew
 
-Above the code for a section of docs/BEHAVIOUR.md or docs/MADE.md, the files of this folder have a line `# RULES: CHECKSUM HEADING`. The
+Above the code for a section of docs/BEHAVIOUR.md or docs/MADE.md, the files of the oracle have a line `# RULES: CHECKSUM HEADING`. The
 checksum is that of the section's text without the lines that say where a rule stands, however the text is wrapped. Where a section
 has changed, read it, follow it in the code under that line, and then accept it. `fuzz` looks too. The last line is `N passed, M
 failed`.
@@ -14,14 +14,10 @@ import os
 import re
 import sys
 
-HERE = os.path.dirname(os.path.realpath(__file__))
-sys.path.insert(1, os.path.join(HERE, "..", "tools", "lib"))
-sys.dont_write_bytecode = True
-
 from checks import ROOT, Tally
 
 DOCUMENTS = "BEHAVIOUR.md", "MADE.md"
-PROGRAMS = "python/src/dvbemu/oracle/second.py", "python/src/dvbemu/oracle/judge.py", "fuzz/made.py", "fuzz/fuzz"
+PROGRAMS = "python/src/dvbemu/oracle/second.py", "python/src/dvbemu/oracle/judge.py", "tests/oracle/made.py", "tests/oracle/fuzz.py"
 LINE = re.compile(r"^( *# RULES: )([0-9a-f]{8}) (.+)$", re.M)
 # The lines under a rule that say where it stands, with the line above them that names it, and those that go on with one of them.
 PLACES = re.compile(r"(?:^[^\n]*:\n)?(?:^- (?:Defined|Done by|Shown by|Must fail): .*\n(?:^  .*\n)*)+", re.M)
@@ -55,7 +51,7 @@ def look_up(tally):
                 tally.count(False, f"{program}: the rules have no section '{heading}'")
             else:
                 same = wanted[heading] == checksum
-                tally.count(same, f"'{heading}' has changed: read it, follow it in {program}, then fuzz/rules.py --accept")
+                tally.count(same, f"'{heading}' has changed: read it, follow it in {program}, then tests/oracle/rules.py --accept")
     for heading in wanted:
         tally.count(heading in named, f"the section '{heading}' of the rules is named in none of these programs")
 

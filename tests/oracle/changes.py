@@ -5,13 +5,8 @@ entries change places. Of some changes it is known by the rules what they make o
 the judge has to say it.
 """
 import io
-import os
 import random
 import re
-import sys
-
-sys.path.insert(1, os.path.join(os.path.dirname(os.path.realpath(__file__)), "..", "tools", "lib"))
-sys.path.insert(1, os.path.join(os.path.dirname(os.path.realpath(__file__)), "..", "python", "src"))
 
 from dvbemu import reports
 from dvbemu.oracle.judge import MOST_PACKETS, node_text, outcome_text
