@@ -21,7 +21,7 @@ pytestmark = pytest.mark.filterwarnings("error")
 
 PYTHON = ROOT / "python" / "src"
 # The modules that programs import.
-TYPED = "__init__", "adapter", "calls", "program", "pytest_plugin", "report", "script"
+TYPED = "__init__", "adapter", "abi", "program", "pytest_plugin", "report", "script"
 TUNER = str(ROOT / "serve" / "tuner.py")
 STREAM = str(EXAMPLES / "programs" / "scan.ts")
 # The services of two stations, each at its frequency.

@@ -78,7 +78,7 @@ SESSIONS = sorted(EXAMPLES.glob("*/*.session"))
 @pytest.mark.parametrize("named, target", NODES.items())
 @pytest.mark.parametrize("line, number, argument", NAMED)
 def test_names(line, number, argument, named, target):
-    assert naming.plain_line(f"c0 {line.format(named)}") == f"c0 {calls.command_of(target, number, argument)}"
+    assert naming.plain_line(f"c0 {line.format(named)}") == calls.line_of(target, number, argument)
 
 
 @pytest.mark.parametrize("line, wanted", LINES)

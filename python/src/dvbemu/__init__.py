@@ -26,7 +26,7 @@ __version__ = "0.4"
 
 if TYPE_CHECKING:
     from .adapter import Adapter, NoAdapter, serve
-    from .calls import (
+    from .abi import (
         DMX_CHECK_CRC,
         DMX_IMMEDIATE_START,
         DMX_IN_DVR,
@@ -67,7 +67,7 @@ if TYPE_CHECKING:
 # The module of each public name: it is loaded when the name is asked for, so that a command loads what it needs alone.
 _MODULES = {
     "adapter": "Adapter NoAdapter serve",
-    "calls": "DMX_CHECK_CRC DMX_IMMEDIATE_START DMX_IN_DVR DMX_IN_FRONTEND DMX_ONESHOT DMX_OUT_DECODER DMX_OUT_TAP "
+    "abi": "DMX_CHECK_CRC DMX_IMMEDIATE_START DMX_IN_DVR DMX_IN_FRONTEND DMX_ONESHOT DMX_OUT_DECODER DMX_OUT_TAP "
         "DMX_OUT_TS_TAP DMX_OUT_TSDEMUX_TAP KEEP Flag Input Output PesType",
     "program": "Failed ScriptFault Verdict check run steps",
     "report": "Again Busy Call Data Done Entry Node NotAReport Outcome Overflow Passed PidCount Ready Refused Reply Report "

@@ -9,32 +9,34 @@ from __future__ import annotations
 import re
 from typing import TYPE_CHECKING, NamedTuple
 
+from . import abi
+from .psi import fields
 from .reports import filter_words
 
 if TYPE_CHECKING:
-    from typing import Callable, Mapping, Sequence
-
-    from .reports import Act
+    from typing import Any, Callable, Mapping, Sequence
 
 MARK = "\ufeff"
-FLAGS = {"CHECK_CRC": 1, "ONESHOT": 2, "IMMEDIATE_START": 4, "KEEP": 256}
-INPUTS = {"frontend": "frontend", "dvr": "dvr", "in_frontend": "frontend", "in_dvr": "dvr"}
-OUTPUTS = {name: name.removeprefix("out_") for name in ("decoder", "tap", "ts_tap", "tsdemux_tap", "out_decoder", "out_tap", "out_ts_tap",
-                                                         "out_tsdemux_tap")}  # fmt: skip
-TYPES = {f"{name}{unit}": 5 * unit + place for unit in range(4) for place, name in enumerate(("AUDIO", "VIDEO", "TELETEXT", "SUBTITLE", "PCR"))}
-TYPES |= {name[:-1]: number for name, number in TYPES.items() if name.endswith("0")} | {"OTHER": 20}
+FLAGS = {name.removeprefix("DMX_"): flag.value for name, flag in abi.Flag.__members__.items()}
+INPUTS = {prefix + one.value: one.value for prefix in ("", "in_") for one in abi.Input}
+OUTPUTS = {prefix + one.value: one.value for prefix in ("", "out_") for one in abi.Output}
+TYPES = {one.name.removeprefix("DMX_PES_"): one.value for one in abi.PesType}
+TYPES |= {name[:-1]: number for name, number in TYPES.items() if name.endswith("0")}
 # The fields of a section: at which bytes of the filter they stand, and their bits there, the first byte first.
-FIELDS: dict[str, tuple[tuple[int, int], ...]] = {"table_id": ((0, 0xFF),), "version_number": ((3, 0x3E),), "current_next_indicator": ((3, 0x01),), "section_number": ((4, 0xFF),),
-          "last_section_number": ((5, 0xFF),)}  # fmt: skip
+FIELDS = {
+    field.name: tuple((byte - 2 if byte else 0, field.bits >> 8 * below & 0xFF) for below, byte in enumerate(reversed(field.places)))[::-1]
+    for field in (fields.TABLE_ID, *fields.LONG)
+    if " " not in field.name
+}
 FIELDS |= dict.fromkeys(("table_id_extension", "transport_stream_id", "program_number", "service_id", "network_id", "bouquet_id"),
-                        ((1, 0xFF), (2, 0xFF)))  # fmt: skip
-MOST = 4294967295
+                        FIELDS.pop("table_id_extension"))  # fmt: skip
+MOST, SLOTS = 2**32 - 1, 32
+LARGEST_READ, LARGEST_WRITE = 65536, 12032
 # What stands behind the target of each command.
 COMMANDS = {"open": (), "close": (), "start": (), "stop": (), "poll": (), "section": ("PID", "TIMEOUT", "FLAGS", "BYTE"),
             "pes": ("PID", "INPUT", "OUTPUT", "TYPE", "FLAGS"), "add": ("PID",), "remove": ("PID",), "size": ("N",), "read": ("COUNT",),
             "readw": ("COUNT",), "drain": ("COUNT",), "ioctl": ("REQ", "HEX"), "write": ("HEX",)}  # fmt: skip
-LIMITS = {"PID": 65535, "COUNT": 65536}
-HEXADECIMAL = "0123456789abcdef"
+LIMITS = {"PID": 65535, "COUNT": LARGEST_READ}
 
 
 class Fault(Exception):
@@ -167,9 +169,9 @@ def plain_hex(word: str) -> str:
     return word[2:].lower() if word[:2] in ("0x", "0X") else word.lower()
 
 
-def command_text(who: str, target: str, act: Act) -> str:
-    """The line of a command that makes this call: it has the words of the report in the same order, but for the moment."""
-    words = [str(value) for name, value in act.items() if name not in ("name", "at", "bytes")]
+def command_text(who: str, target: str, act: Mapping[str, Any]) -> str:
+    """The line of a command, by the call that it makes: a report has its words in the same order, with the moment."""
+    words = [str(value) for place, value in act.items() if place not in ("name", "at", "bytes")]
     return " ".join([who, act["name"], target, *words, *filter_words(act.get("bytes", {}).items())])
 
 

@@ -6,7 +6,7 @@ from functools import lru_cache
 from typing import TYPE_CHECKING
 
 from . import reports
-from .reports import ACTS, FORMAT, HEAD, PID, REPLIES, STC, span_text, written
+from .reports import ACTS, FORMAT, HEAD, PID, REPLIES, STC, word_of, written
 
 if TYPE_CHECKING:
     from typing import Any, Callable, Iterable, Iterator, Mapping
@@ -106,7 +106,7 @@ WRITE: dict[str, Callable[[Mapping[str, Any]], str]] = {
     "stream": lambda found: f"{found['format']}\n{written(HEAD, found)}",
     "pid": lambda found: written(PID, found, "pid"),
     "client": lambda found: f"client {found['client'].removeprefix('c')}",
-    "command": lambda found: f"line {found['line']} steps {span_text(found['steps'])} {outcome_words(found)}",
+    "command": lambda found: f"line {found['line']} steps {word_of('span', found['steps'])} {outcome_words(found)}",
     "node": lambda found: f"node {found['node'].removeprefix('n')}",
     "entry": lambda found: f"{found['place']} {found['who']} {found['step']} {act_words(found['act'])} = {reply_words(found['reply'])}",
     "end": lambda found: "fault read" if found["read_failed"] else "end",

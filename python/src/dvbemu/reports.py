@@ -11,6 +11,8 @@ from collections.abc import Sequence
 from functools import lru_cache
 from typing import TYPE_CHECKING, NamedTuple, TypeVar, cast
 
+from . import abi
+
 if TYPE_CHECKING:
     from typing import Any, BinaryIO, Callable, Dict, Iterable, Iterator, List, Mapping, TextIO, Tuple, TypedDict, Union
 
@@ -98,9 +100,6 @@ class PidCount(NamedTuple):
     breaks: int
     duplicates: int
     errors: int
-
-
-PidRow = PidCount  # (as explain names it)
 
 
 class Outcome(NamedTuple):
@@ -214,22 +213,12 @@ def span(word: str) -> tuple[int, int]:
     return int(first), int(after)
 
 
-def span_text(ends: Sequence[int]) -> str:
-    """A span as it is written."""
-    return f"{ends[0]}..{ends[1]}"
-
-
 def pids(word: str) -> list[int]:
     """The PIDs of a list `P,P,P`."""
     listed = [] if word == "-" else [number(part, BITS_16) for part in word.split(",")]
     if listed != sorted(set(listed)) or len(listed) > MOST_PIDS:
         raise Wrong(f"PIDs in ascending order, at most {MOST_PIDS}")
     return listed
-
-
-def pids_text(listed: str | list[int]) -> str:
-    """A list of PIDs as it is written; of what isn't one the word."""
-    return (",".join(map(str, listed)) or "-") if isinstance(listed, list) else str(listed)
 
 
 def tap(word: str) -> str | list[int]:
@@ -239,11 +228,6 @@ def tap(word: str) -> str | list[int]:
     if not word.startswith("attach:"):
         raise Wrong("a tap `keep`, `detach` or `attach:PIDS`")
     return pids(word[7:])
-
-
-def tap_text(told: str | list[int]) -> str:
-    """The same as it is written."""
-    return f"attach:{pids_text(told)}" if isinstance(told, list) else str(told)
 
 
 def one_of(*names: str) -> Callable[[str], str]:
@@ -272,62 +256,39 @@ def is_hexadecimal(text: str) -> bool:
 # ------ the forms
 
 
-class Kind(NamedTuple):
-    """What stands at a place of a line: what reads its word, and what writes it."""
-
-    read: Callable[[str], object]
-    write: Callable[[Any], str] = str
-
-
-# Places that have a form of their own, or fewer bits; all others are numbers.
-NUMBER, SPAN = Kind(number), Kind(span, span_text)
-KINDS: dict[str, Kind] = {
-    **dict.fromkeys(("node", "rest", "timeout", "flags", "type", "size", "count", "base"), Kind(at_most(BITS_32))),
-    **dict.fromkeys(("drop", "span"), SPAN),
-    **dict.fromkeys(("ended", "readable"), Kind(at_most(1))),
-    "pid": Kind(at_most(BITS_16)),
-    "input": Kind(one_of("frontend", "dvr")),
-    "output": Kind(one_of("decoder", "tap", "ts_tap", "tsdemux_tap")),
-    "error": Kind(one_of("none", "overflow", "timedout")),
-    "owner": Kind(client_name),
-    "pids": Kind(pids, pids_text),
-    "tap": Kind(tap, tap_text),
+# What reads a place that has a form of its own, or fewer bits; all others are numbers.
+READERS: dict[str, Callable[[str], object]] = {
+    **dict.fromkeys(("node", "rest", "timeout", "flags", "type", "size", "count", "base"), at_most(BITS_32)),
+    **dict.fromkeys(("ended", "readable"), at_most(1)),
+    **dict.fromkeys(("drop", "span"), span),
+    "pid": at_most(BITS_16),
+    "input": one_of(*(one.value for one in abi.Input)),
+    "output": one_of(*(one.value for one in abi.Output)),
+    "error": one_of("none", "overflow", "timedout"),
+    "owner": client_name,
+    "pids": pids,
+    "tap": tap,
 }
-# What stands behind the first word; a place with `=` is written with its name, the others without.
+
+
+def forms_of(*lines: str) -> dict[str, tuple[str, ...]]:
+    """By its first word what stands behind it; a place with `=` is written with its name, the others without."""
+    return {name: tuple(places) for name, *places in map(str.split, lines)}
+
+
 HEAD = ("packets=", "skipped=", "rest=")
 PID = ("pid", "packets=", "breaks=", "duplicates=", "errors=")
 STC = ("base=", "value=")
-ACTS: dict[str, tuple[str, ...]] = {
-    "open": (),
-    "close": (),
-    "stop": (),
-    "end": (),
-    "section": ("pid=", "timeout=", "flags=", "at="),
-    "pes": ("pid=", "input=", "output=", "type=", "flags=", "at="),
-    "add": ("pid",),
-    "remove": ("pid",),
-    "start": ("at=",),
-    "size": ("size",),
-    "read": ("count", "at="),
-    "poll": ("at=",),
-    "pass": ("input=", "first=", "count=", "at="),
-    "attach": ("node=", "pids="),
-    "detach": ("node=",),
-}
-REPLIES: dict[str, tuple[str, ...]] = {
-    "done": ("drop=", "tap="),
-    "busy": ("owner=",),
-    "EBADF": (),
-    "EBUSY": (),
-    "EINVAL": (),
-    "ENOSPC": (),
-    "again": ("ended=",),
-    "overflow": ("span", "item=", "need=", "room="),
-    "timedout": ("started=", "now=", "timeout="),
-    "ready": ("readable=", "error=", "at=", "ended="),
-    "passed": (),
-}
 REFUSALS = ("EBADF", "EBUSY", "EINVAL", "ENOSPC")
+ACTS = forms_of(
+    "open", "close", "stop", "end", "section pid= timeout= flags= at=", "pes pid= input= output= type= flags= at=", "add pid", "remove pid",
+    "start at=", "size size", "read count at=", "poll at=", "pass input= first= count= at=", "attach node= pids=", "detach node=",
+)  # fmt: skip
+REPLIES = forms_of(
+    "done drop= tap=", "busy owner=", *REFUSALS, "again ended=", "overflow span item= need= room=", "timedout started= now= timeout=",
+    "ready readable= error= at= ended=", "passed",
+)  # fmt: skip
+# The replies that a call may have.
 ANSWERS: dict[str, tuple[str, ...]] = {
     "open": ("done", "busy"),
     "read": ("data", "again", "overflow", "timedout", *REFUSALS),
@@ -341,17 +302,24 @@ OTHER_ANSWERS = ("done", *REFUSALS)
 
 
 class Place(NamedTuple):
-    """A place of a form: what stands before its word, its name, and its kind."""
+    """A place of a form: what stands before its word, its name, and what reads its word."""
 
     before: str
     name: str
-    kind: Kind
+    read: Callable[[str], object]
 
 
 @lru_cache(None)
 def places_of(form: tuple[str, ...]) -> list[Place]:
     """The places of a form."""
-    return [Place(word if word.endswith("=") else "", name, KINDS.get(name, NUMBER)) for word in form for name in [word.rstrip("=")]]
+    return [Place(word if word.endswith("=") else "", name, READERS.get(name, number)) for word in form for name in [word.rstrip("=")]]
+
+
+def word_of(place: str, value: Any) -> str:
+    """What stands at a place, as it is written."""
+    if isinstance(value, list) and place in ("pids", "tap"):
+        return ("attach:" if place == "tap" else "") + (",".join(map(str, value)) or "-")
+    return f"{value[0]}..{value[1]}" if READERS.get(place) is span else str(value)
 
 
 def form_text(form: Sequence[str], name: str = "") -> str:
@@ -360,20 +328,20 @@ def form_text(form: Sequence[str], name: str = "") -> str:
 
 
 def read_form(form: tuple[str, ...], words: Sequence[str], name: str = "") -> dict[str, Any]:
-    """What stands at each place, by the place's name; of which type it is, its kind says."""
+    """What stands at each place, by the place's name; of which type it is, its reader says."""
     if len(words) != len(form):
         raise Wrong(f"`{form_text(form, name)}`")
     found = {}
-    for word, (before, place, kind) in zip(words, places_of(form)):
+    for word, (before, place, read_word) in zip(words, places_of(form)):
         if not word.startswith(before):
             raise Wrong(f"`{form_text(form, name)}`")
-        found[place] = kind.read(word[len(before) :])
+        found[place] = read_word(word[len(before) :])
     return found
 
 
 def written(form: tuple[str, ...], found: Mapping[str, Any], name: str = "") -> str:
     """What stands at each place behind the first word, as it is written."""
-    return " ".join([name, *(before + kind.write(found[place]) for before, place, kind in places_of(form))]).strip()
+    return " ".join([name, *(before + word_of(place, found[place]) for before, place, _ in places_of(form))]).strip()
 
 
 def filter_bytes(words: Sequence[str]) -> FilterBytes:
@@ -407,7 +375,7 @@ def read_act(text: str) -> Act:
     if name not in ACTS:
         raise Wrong("an act: " + ", ".join(ACTS))
     is_section = name == "section"
-    # (that the kinds of ACTS give what Act says isn't seen by the types)
+    # (that the readers of ACTS give what Act says isn't seen by the types)
     act = cast("Act", {"name": name, **read_form(ACTS[name], words[:4] if is_section else words, name)})
     if is_section:
         act["bytes"] = filter_bytes(words[4:])
@@ -440,7 +408,7 @@ def read_other_reply(text: str) -> Reply:
     name, *words = text.split(" ")
     if name not in REPLIES:
         raise Wrong("a reply: data, " + ", ".join(REPLIES))
-    # (that the kinds of REPLIES give what Reply says isn't seen by the types)
+    # (that the readers of REPLIES give what Reply says isn't seen by the types)
     return cast("Reply", {"name": name, **read_form(REPLIES[name], words, name)})
 
 
@@ -523,9 +491,15 @@ class Lines:
             raise NotAReport(self.line, "a line feed at the end of the line", kind=instead(line[:BEGINNING]) if self.line == 1 else "")
         self.text = line[:-1] if line else None
 
-    def behind(self, beginning: str) -> str | None:
-        """What stands in the line in hand behind this beginning, or None where it has another."""
-        return self.text[len(beginning) :] if self.text is not None and self.text.startswith(beginning) else None
+    def begins(self, beginning: str) -> bool:
+        """Whether the line in hand begins so."""
+        return self.text is not None and self.text.startswith(beginning)
+
+    def while_they(self, begin: str) -> Iterator[str]:
+        """The lines from the one in hand on that begin so; each is in hand until the next is asked for."""
+        while self.text is not None and self.text.startswith(begin):
+            yield self.text
+            self.go_on()
 
     def wrong(self, what: str) -> NotAReport:
         """The exception for the line in hand."""
@@ -546,7 +520,7 @@ class Lines:
 
 def head_of(lines: Lines) -> tuple[int, int, int]:
     """The numbers of the stream's cutting."""
-    if lines.behind("dvbemu ") is not None and lines.text != FORMAT:
+    if lines.begins("dvbemu ") and lines.text != FORMAT:
         raise AnotherFormat(lines.line, f"`{FORMAT}`", shown(lines.text))
     if lines.text != FORMAT:
         raise NotAReport(lines.line, f"`{FORMAT}`", shown(lines.text), instead(lines.beginning()))
@@ -561,47 +535,38 @@ def head_of(lines: Lines) -> tuple[int, int, int]:
 def pid_counts(lines: Lines) -> list[PidCount]:
     """The rows of the PIDs."""
     rows: list[PidCount] = []
-    last = -1
-    while (told := lines.behind("pid ")) is not None:
-        row = PidCount(**read_form(PID, told.split(" "), "pid"))
+    for text in lines.while_they("pid "):
+        row, last = PidCount(**read_form(PID, text.split(" ")[1:], "pid")), rows[-1].pid if rows else -1
         lines.want(last < row.pid <= LARGEST_PID, f"a PID above {last}, at most {LARGEST_PID}")
         lines.want(row.packets, "a PID that has a packet")
-        last = row.pid
         rows.append(row)
-        lines.go_on()
     return rows
 
 
-def check_kind(words: Sequence[str]) -> None:
-    """Raises where no command ends so: by one word, or by a system time counter."""
-    if words[0] == "stc":
-        read_form(STC, words[1:], "stc")
+def check_outcome(text: str) -> None:
+    """Raises where a line doesn't tell what became of a command, which ends by one word, or by a system time counter."""
+    _, line, *words = text.split(" ")
+    if len(words) < 3 or words[0] != "steps":
+        raise Wrong("`line L steps A..B OUTCOME`")
+    span(words[1])
+    number(line, BITS_32)
+    if words[2] == "stc":
+        read_form(STC, words[3:], "stc")
     else:
-        one_of("done", "EMFILE", "unbound", "nostc", "stc base=.. value=..")(" ".join(words))
-
-
-def outcomes_of(lines: Lines) -> Rows[Outcome]:
-    """The outcomes of one client's commands."""
-    found = Rows(Outcome.of)
-    while lines.text is not None and lines.text.startswith("line "):
-        words = lines.text.split(" ")
-        lines.want(len(words) > 4 and words[2] == "steps", "`line L steps A..B OUTCOME`")
-        span(words[3])
-        number(words[1], BITS_32)
-        check_kind(words[4:])
-        found.append(lines.text)
-        lines.go_on()
-    return found
+        one_of("done", "EMFILE", "unbound", "nostc", "stc base=.. value=..")(" ".join(words[2:]))
 
 
 def clients_of(lines: Lines) -> list[Rows[Outcome]]:
-    """The outcomes of each client, from client 0 on."""
+    """What became of the commands of each client, from client 0 on."""
     found: list[Rows[Outcome]] = []
-    while lines.behind("client ") is not None:
+    while lines.begins("client "):
         right = len(found) < CLIENTS and lines.text == f"client {len(found)}"
         lines.want(right, f"`client {len(found)}`" if len(found) < CLIENTS else "a node or the end, behind client 7")
         lines.go_on()
-        found.append(outcomes_of(lines))
+        found.append(Rows(Outcome.of))
+        for text in lines.while_they("line "):
+            check_outcome(text)
+            found[-1].append(text)
     return found
 
 
@@ -662,7 +627,8 @@ def entries_of(lines: Lines) -> Rows[Entry]:
 def nodes_of(lines: Lines) -> dict[int, Sequence[Entry]]:
     """The entries of each printed node, by its number."""
     found: dict[int, Sequence[Entry]] = {}
-    while (name := lines.behind("node ")) is not None:
+    while lines.text is not None and lines.begins("node "):
+        name = lines.text[5:]
         node = DVR if name == "dvr" else number(name, DVR - 1)
         lines.want(not found or node > max(found), f"a node behind {node_name(max(found, default=0))}")
         lines.go_on()
@@ -704,37 +670,20 @@ def text_of(file: BinaryIO) -> TextIO:
 # ------ the writer
 
 
-def head_lines(report: Report) -> Iterator[str]:
-    """The lines of a report on its stream, as all lines here with their line feeds."""
-    yield f"{FORMAT}\n{written(HEAD, report._asdict())}\n"
+def write(
+    report: Report, clients: Iterable[Iterable[Outcome]] | None = None, nodes: Iterable[tuple[int, Iterable[Entry]]] | None = None,
+) -> Iterator[str]:  # fmt: skip
+    """The text of a report, line by line; in the place of its clients and nodes others may stand, which are made as they are written."""
+    yield f"{FORMAT}\n"
+    yield f"{written(HEAD, report._asdict())}\n"
     for row in report.pids:
-        yield written(PID, row._asdict(), "pid") + "\n"
-
-
-def client_lines(client: int, outcomes: Iterable[Outcome]) -> Iterator[str]:
-    """The lines of a client."""
-    yield f"client {client}\n"
-    for outcome in outcomes:
-        yield f"{outcome.text()}\n"
-
-
-def node_lines(node: int, entries: Iterable[Entry]) -> Iterator[str]:
-    """The lines of a node."""
-    yield f"node {node_text(node)}\n"
-    for entry in entries:
-        yield f"{entry.text()}\n"
-
-
-def last_line(report: Report) -> str:
-    """The last line of a report."""
-    return "fault read\n" if report.read_fault else "end\n"
-
-
-def write(report: Report) -> Iterator[str]:
-    """The text of a report, line by line."""
-    yield from head_lines(report)
-    for client, outcomes in enumerate(report.clients):
-        yield from client_lines(client, outcomes)
-    for node, entries in report.nodes.items():
-        yield from node_lines(node, entries)
-    yield last_line(report)
+        yield f"{written(PID, row._asdict(), 'pid')}\n"
+    for client, outcomes in enumerate(report.clients if clients is None else clients):
+        yield f"client {client}\n"
+        for outcome in outcomes:
+            yield f"{outcome.text()}\n"
+    for node, entries in report.nodes.items() if nodes is None else nodes:
+        yield f"node {node_text(node)}\n"
+        for entry in entries:
+            yield f"{entry.text()}\n"
+    yield "fault read\n" if report.read_fault else "end\n"

@@ -6,12 +6,11 @@ import operator
 import reprlib
 
 from . import naming
-from .calls import DMX_CHECK_CRC, DMX_IMMEDIATE_START, DMX_IN_FRONTEND, DMX_OUT_TSDEMUX_TAP, Flag, Input, Output, PesType
+from .abi import DMX_CHECK_CRC, DMX_IMMEDIATE_START, DMX_IN_FRONTEND, DMX_OUT_TSDEMUX_TAP, GET_STC, Flag, Input, Output, PesType
+from .naming import LARGEST_READ, LARGEST_WRITE, MOST
+from .reports import CLIENTS, filter_words
 
-CLIENTS, PLACES = 8, 16
-# The number of the request DMX_GET_STC, and the bytes of its structure behind the counter's number.
-GET_STC, REST = 0xC0106F32, bytes(12)
-MOST = 2**32 - 1
+PLACES = 16
 
 
 class Script:
@@ -125,16 +124,15 @@ class Device:
 
     def get_stc(self, number: int = 0) -> None:
         """DMX_GET_STC: its answer is the outcome of this line."""
-        told = _within(number, 0, MOST, "a counter").to_bytes(4, "little") + REST
-        self._call("ioctl", f"{GET_STC:08x}", told.hex())
+        self._call("ioctl", f"{GET_STC.number:08x}", GET_STC.layout.pack(_within(number, 0, MOST, "a counter")).hex())
 
     def read(self, count: int, waits: bool = False) -> None:
         """read() of at most so many bytes, with O_NONBLOCK; or one that waits until there is something to tell."""
-        self._call("readw" if waits else "read", _within(count, 0, 65536, "count"))
+        self._call("readw" if waits else "read", _within(count, 0, LARGEST_READ, "count"))
 
     def drain(self, count: int) -> None:
         """Reads of at most so many bytes until the stream has ended and nothing is left."""
-        self._call("drain", _within(count, 0, 65536, "count"))
+        self._call("drain", _within(count, 0, LARGEST_READ, "count"))
 
     def poll(self) -> None:
         """poll()."""
@@ -143,8 +141,8 @@ class Device:
     def write(self, data: bytes) -> None:
         """write() to the dvr device, of 1 to 12,032 bytes."""
         _see_bytes(data, "data")
-        if not 1 <= len(data) <= 12032 or self.target != "dvr":
-            raise ValueError("1 to 12,032 bytes are written, to the dvr device alone")
+        if not 1 <= len(data) <= LARGEST_WRITE or self.target != "dvr":
+            raise ValueError(f"1 to {LARGEST_WRITE:,} bytes are written, to the dvr device alone")
         self._call("write", data.hex())
 
 
@@ -209,4 +207,4 @@ def _filter_words(filter: bytes, mask: bytes, mode: bytes, fields: list[str]) ->
             raise ValueError(f"{fault.word}: expected {fault.expected}") from None
         return words
     whole = zip(*(part.ljust(PLACES, b"\0") for part in (filter, mask, mode)))
-    return [f"{place}={one:02x}/{two:02x}/{three:02x}" for place, (one, two, three) in enumerate(whole) if one or two or three]
+    return filter_words((place, three) for place, three in enumerate(whole) if any(three))

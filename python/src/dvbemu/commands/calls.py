@@ -17,61 +17,46 @@ import struct
 import sys
 from typing import TYPE_CHECKING
 
+from .. import abi
 from .. import tool
 from ..inputs import many
+from ..naming import LARGEST_READ, LARGEST_WRITE, SLOTS, command_text
 from ..traced import Traced, bytes_at, path_of, waits
 
 if TYPE_CHECKING:
-    from typing import Callable, Sequence, TextIO
+    from typing import Sequence, TextIO
 
 READ, WRITE, OPEN, CLOSE, POLL, IOCTL, SELECT, DUP, DUP2, CLONE, FCNTL = 0, 1, 2, 3, 7, 16, 23, 32, 33, 56, 72
 OPENAT, PSELECT, PPOLL, DUP3, CLONE3, CLOSE_RANGE, OPENAT2 = 257, 270, 271, 292, 435, 436, 437
 CLONE_FILES, CLOSE_RANGE_CLOEXEC = 0x400, 4
 DUPLICATES = 0, 1030  # F_DUPFD, F_DUPFD_CLOEXEC
-INPUTS, OUTPUTS = ("frontend", "dvr"), ("decoder", "tap", "ts_tap", "tsdemux_tap")
-SLOTS, LARGEST_READ, LARGEST_WRITE = 32, 65536, 12032
-
-
-def section(target: str, pid: int, filters: bytes, masks: bytes, modes: bytes, timeout: int, flags: int) -> str:
-    """The command of a section filter, with the places that aren't 0."""
-    places = [f"{i}={f:02x}/{m:02x}/{d:02x}" for i, (f, m, d) in enumerate(zip(filters, masks, modes)) if f or m or d]
-    return " ".join(["section", target, str(pid), str(timeout), str(flags), *places])
-
-
-def pes(target: str, pid: int, source: int, output: int, kind: int, flags: int) -> str | None:
-    """The command of a PES filter; None where input or output has no name."""
-    if source >= len(INPUTS) or output >= len(OUTPUTS):
-        return None
-    return f"pes {target} {pid} {INPUTS[source]} {OUTPUTS[output]} {kind} {flags}"
-
-
-# The requests with a structure: its form, and the command. The others are below.
-REQUESTS: dict[int, tuple[str, Callable[..., str | None]]] = {
-    0x403C6F2B: ("<H16s16s16s2xII", section),
-    0x40146F2C: ("<H2x4I", pes),
-    0x40026F33: ("<H", lambda target, pid: f"add {target} {pid}"),
-    0x40026F34: ("<H", lambda target, pid: f"remove {target} {pid}"),
-    0xC0106F32: ("<4s12x", lambda target, counter: f"ioctl {target} c0106f32 {counter.hex()}{'00' * 12}"),
-}
+INPUTS, OUTPUTS = [one.value for one in abi.Input], [one.value for one in abi.Output]
 
 
 def argument_of(thread: int, number: int, word: int) -> bytes:
     """The bytes that a request has as its argument, read from the stopped program's memory; the size of a buffer is the word itself."""
-    if number == 0x6F2D:
+    if number == abi.SET_BUFFER_SIZE.number:
         return (word & 0xFFFFFFFF).to_bytes(4, "little")
-    return bytes_at(thread, word, struct.calcsize(REQUESTS[number][0])) if number in REQUESTS else b""
+    size = abi.REQUESTS[number].layout.size if number in abi.REQUESTS else 0
+    return bytes_at(thread, word, size) if size else b""
 
 
-def command_of(target: str, number: int, argument: bytes) -> str | None:
-    """The plain command of a request with this argument; None where there is none."""
-    if number == 0x6F2D:
-        return f"size {target} {int.from_bytes(argument, 'little')}"
-    if number in (0x6F29, 0x6F2A):
-        return f"{'start' if number == 0x6F29 else 'stop'} {target}"
-    if number not in REQUESTS:
+def line_of(target: str, number: int, argument: bytes) -> str | None:
+    """The plain line of a request with this argument; None where no command spells it."""
+    request = abi.REQUESTS.get(number)
+    if request is None or len(argument) != request.layout.size:
         return None
-    form, command = REQUESTS[number]
-    return command(target, *struct.unpack(form, argument)) if len(argument) == struct.calcsize(form) else None
+    found = request.values(argument)
+    if request is abi.GET_STC:
+        return f"c0 ioctl {target} {number:08x} {request.layout.pack(*found.values()).hex()}"
+    if request is abi.SET_FILTER:
+        rows = zip(found.pop("filter"), found.pop("mask"), found.pop("mode"))
+        found["bytes"] = {place: row for place, row in enumerate(rows) if any(row)}
+    if request is abi.SET_PES_FILTER:
+        if found["input"] >= len(INPUTS) or found["output"] >= len(OUTPUTS):
+            return None
+        found["input"], found["output"] = INPUTS[found["input"]], OUTPUTS[found["output"]]
+    return command_text("c0", target, {"name": request.command, **found})
 
 
 class Handle:
@@ -155,11 +140,11 @@ class Script:
 
     def requested(self, target: str, number: int, argument: bytes) -> None:
         """A request: its number and its bytes, or the plain command."""
-        command, spelled = command_of(target, number, argument), f"ioctl {target} {number:08x}"
-        if command is None:
-            self.line(f"# c0 {spelled}: no command of a script")
+        line, spelled = line_of(target, number, argument), f"c0 ioctl {target} {number:08x}"
+        if line is None:
+            self.line(f"# {spelled}: no command of a script")
         else:
-            self.line(f"c0 {command}" if self.plain else f"c0 {spelled} {argument.hex() or '-'}")
+            self.line(line if self.plain else f"{spelled} {argument.hex() or '-'}")
 
     def enters(self, thread: int, call: int, *words: int) -> None:
         """A system call begins."""

@@ -13,6 +13,7 @@ from __future__ import annotations
 
 import glob
 import heapq
+import itertools
 import os
 import re
 import stat
@@ -158,33 +159,27 @@ class Folder:
 
     def history(self, node: int) -> Iterator[Entry]:
         """The entries of a node: each call at its place, and the feeder's at all others."""
-        own = heapq.merge(*((call.entry for call in calls_in(path) if call.node == node) for path in self.files.values()))
-        passes, place = enumerate(passes_in(self.batches, self.stream.packets)), 0
-        for entry in own:
-            while place < entry.place:
-                step, act = next(passes, (0, ""))
-                if not act:
-                    raise Torn(f"node {reports.node_text(node)}: no file has the call at place {place}")
-                yield Entry(place, "feed", step, act, "passed")
-                place += 1
-            if place != entry.place:
-                raise Torn(f"node {reports.node_text(node)}: two calls at place {entry.place}")
+        self.node = node
+        own = iter(heapq.merge(*((call.entry for call in calls_in(path) if call.node == node) for path in self.files.values())))
+        passes, call = enumerate(passes_in(self.batches, self.stream.packets)), next(own, None)
+        for place in itertools.count():
+            if call and call.place < place:
+                raise Torn(f"node {reports.node_text(node)}: two calls at place {call.place}")
+            if call and call.place == place:
+                entry, call = call, next(own, None)
+            elif passed := next(passes, None):
+                entry = Entry(place, "feed", *passed, "passed")
+            elif call:
+                raise Torn(f"node {reports.node_text(node)}: no file has the call at place {place}")
+            else:
+                break
+            self.written += 1
             yield entry
-            place += 1
-        for place, (step, act) in enumerate(passes, place):
-            yield Entry(place, "feed", step, act, "passed")
 
     def report(self) -> Iterator[str]:
         """The lines of the report."""
-        yield from reports.head_lines(self.stream)
-        for client in range(self.clients):
-            yield from reports.client_lines(client, self.outcomes(client))
-        for node in sorted(self.called):
-            self.node = node
-            for line in reports.node_lines(node, self.history(node)):
-                self.written += 1
-                yield line
-        yield reports.last_line(self.stream)
+        nodes = ((node, self.history(node)) for node in sorted(self.called))
+        return reports.write(self.stream, map(self.outcomes, range(self.clients)), nodes)
 
 
 def command() -> tool.Command:

@@ -19,7 +19,7 @@ from .walk import Walk
 if TYPE_CHECKING:
     from typing import Collection, Hashable, Optional, Tuple, TypedDict
 
-    from ..reports import Act, Entry, PidRow, Reply, Report
+    from ..reports import Act, Entry, PidCount, Reply, Report
     from .offered import Lost, Stream
 
     class Facts(TypedDict, total=False):
@@ -488,7 +488,7 @@ class Story:
             facts: Facts = {"pid": used.pid, "least": least, "most": most, "about": about, "act": used.act, "asks": not self.stream}
             self.stumble("selects nothing", used.client, node, used.line, facts=facts)
 
-    def rows_of(self, pid: int) -> list[PidRow]:
+    def rows_of(self, pid: int) -> list[PidCount]:
         """The rows of the stream's PIDs that a filter's PID names."""
         if pid == ALL_PACKETS:
             return self.report.pids

@@ -8,6 +8,7 @@ from __future__ import annotations
 from collections import Counter
 from typing import TYPE_CHECKING
 
+from .. import naming
 from ..inputs import many
 from ..psi.fields import is_pes_head, places_text, stream_text
 from ..reports import node_name
@@ -58,8 +59,8 @@ def no_section_text(packets: Sequence[bytes]) -> str:
 
 def command_text(node: int, used: Filter, like: Like) -> str:
     """A section filter like one that was used, as a line of a script."""
-    shown = "".join(f" {place}={value:02x}/{mask:02x}/{mode:02x}" for place, (value, mask, mode) in sorted(like.bytes.items()) if mask)
-    return f"c{used.client} section {node_name(node)} {used.pid} {used.act['timeout']} {like.flags}{shown}"
+    shown = {place: three for place, three in sorted(like.bytes.items()) if three[1]}
+    return naming.command_text(f"c{used.client}", node_name(node), {**used.act, "flags": like.flags, "bytes": shown})
 
 
 def moved_text(node: int, used: Filter, place: int, like: Like) -> str:

@@ -59,7 +59,7 @@ class Part(NamedTuple):
         return self.of_client(stumble.client) and self.of_node(stumble.node)
 
 
-def pid_row_text(row: reports.PidRow, is_loop: bool) -> str:
+def pid_row_text(row: reports.PidCount, is_loop: bool) -> str:
     """What the counters and error bits of a PID say; the breaks may be those of a loop."""
     where = " where the loop begins again" if is_loop else ""
     told = (row.breaks, f"break{where}", f"breaks{where}"), (row.duplicates, "duplicate", "duplicates")

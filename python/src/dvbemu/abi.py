@@ -1,5 +1,13 @@
-"""What linux/dvb/dmx.h calls the arguments of a demux device, and how a script writes them."""
+"""What linux/dvb/dmx.h has for a demux device: the arguments of its calls, as a script writes them too, and its requests with the layout of
+their structures."""
+from __future__ import annotations
+
 import enum
+import struct
+from typing import TYPE_CHECKING, NamedTuple
+
+if TYPE_CHECKING:
+    from typing import Any
 
 
 class Flag(enum.IntFlag):
@@ -64,3 +72,32 @@ DMX_OUT_DECODER = Output.DMX_OUT_DECODER
 DMX_OUT_TAP = Output.DMX_OUT_TAP
 DMX_OUT_TS_TAP = Output.DMX_OUT_TS_TAP
 DMX_OUT_TSDEMUX_TAP = Output.DMX_OUT_TSDEMUX_TAP
+
+
+class Request(NamedTuple):
+    """A request: the command of a script that makes it, its number, and the layout of its structure with the names of the fields."""
+
+    command: str
+    number: int
+    layout: struct.Struct
+    fields: tuple[str, ...]
+
+    def values(self, argument: bytes) -> dict[str, Any]:
+        """What the structure's fields have."""
+        return dict(zip(self.fields, self.layout.unpack(argument)))
+
+
+def _request(command: str, number: int, layout: str = "", *fields: str) -> Request:
+    return Request(command, number, struct.Struct(f"<{layout}"), fields)
+
+
+START = _request("start", 0x6F29)
+STOP = _request("stop", 0x6F2A)
+SET_FILTER = _request("section", 0x403C6F2B, "H16s16s16s2xII", "pid", "filter", "mask", "mode", "timeout", "flags")
+SET_PES_FILTER = _request("pes", 0x40146F2C, "H2x4I", "pid", "input", "output", "type", "flags")
+# (the size is the argument itself, and no structure)
+SET_BUFFER_SIZE = _request("size", 0x6F2D, "I", "size")
+GET_STC = _request("ioctl", 0xC0106F32, "I12x", "num")
+ADD_PID = _request("add", 0x40026F33, "H", "pid")
+REMOVE_PID = _request("remove", 0x40026F34, "H", "pid")
+REQUESTS = {one.number: one for one in (START, STOP, SET_FILTER, SET_PES_FILTER, SET_BUFFER_SIZE, GET_STC, ADD_PID, REMOVE_PID)}
