@@ -4,6 +4,7 @@ import os
 import resource
 import socket
 import subprocess
+import tempfile
 import threading
 import tty
 
@@ -14,9 +15,12 @@ BUILT = os.path.join(ROOT, "crates", "dvbemu", "out", "dvbemu")
 # The most bytes of a read and of a write, and what stands behind as many in a message that is read.
 PIECE = 65536
 BEHIND = b"#" * 100
-# So many reads of PIECE bytes have room for 312 MiB together, and find a section of eight bytes each; and the address space for that.
-READS, SPACE = 5000, 128 << 20
+# So many reads of PIECE bytes have room for 312 MiB together, and find a section of eight bytes each; and the memory that they may take.
+READS, MEMORY = 5000, 128 << 20
 SECTION = bytes.fromhex("4270050000000000")
+# All that a program allocates is written to, so that it takes memory: by the C library, or by the sanitizer, which keeps little of what
+# is given back.
+FILLED = {"MALLOC_PERTURB_": "165", "ASAN_OPTIONS": f"max_malloc_fill_size={PIECE}:quarantine_size_mb=1"}
 # The seconds in which each run must end where an allocation is refused or a call fails: it takes some milliseconds.
 ENDS = 60
 tally = Tally()
@@ -117,14 +121,28 @@ def small_memory(words, session):
     expect(f"{words}: 4 MB", ran_within(4 << 20, words, session), 7, "dvbemu: out of memory", b"")
 
 
+def ran_filled(words, session):
+    """A run in which all memory that is allocated is taken, and the most that it took, in bytes."""
+    with tempfile.TemporaryFile() as given, tempfile.TemporaryFile() as told:
+        given.write(session)
+        given.seek(0)
+        with subprocess.Popen([BUILT, *words], stdin=given, stdout=told, stderr=subprocess.PIPE, env={**os.environ, **FILLED}) as child:
+            line = child.stderr.read()
+            _, status, used = os.wait4(child.pid, 0)
+            child.returncode = os.waitstatus_to_exitcode(status)
+        told.seek(0)
+        return subprocess.CompletedProcess(words, child.returncode, told.read(), line), used.ru_maxrss << 10
+
+
 def room_is_given_back(words):
     """Of a read the bytes that it gave are kept, and not the room that it had for them."""
     packets = (b"\x47\x41\x00" + bytes([0x10 | number % 16, 0]) + SECTION + 175 * b"\xff" for number in range(READS))
     script = b"c0 open n0\nc0 size n0 65536\nc0 section n0 256 0 4\nfeed %d\n%sstream\n" % (READS, READS * b"c0 read n0 65536\n")
-    kept = ran_within(SPACE, words, script + b"".join(packets))
-    expect(f"{words}: many reads of little", kept, 0, "")
-    told = kept.stdout.count(b" = data " + SECTION.hex().encode() + b"\n")
+    child, most = ran_filled(words, script + b"".join(packets))
+    expect(f"{words}: many reads of little", child, 0, "")
+    told = child.stdout.count(b" = data " + SECTION.hex().encode() + b"\n")
     tally.count(told == READS, f"{words}: {told} of {READS} reads of a section")
+    tally.count(most <= MEMORY, f"{words}: many reads of little take {most >> 20} MiB")
 
 
 def over_terminal(words, given):
