@@ -7,19 +7,15 @@ from typing import TYPE_CHECKING
 
 from ..inputs import LINE, many
 from ..psi.fields import pid_text
-from ..stream.packets import cut, pid_of
+from ..stream.packets import FORMS, PACKET, SYNC, cut, form_of, pid_of
 
 if TYPE_CHECKING:
-    from typing import Iterable, Iterator, Mapping, Tuple
+    from typing import Iterable, Mapping, Tuple
 
     from ..reports import Report
 
     # The head of a report: packets, skipped and rest.
     Head = Tuple[int, int, int]
-
-# How many bytes a packet of a recording takes up, and how many of these stand in front of it (a time stamp of .m2ts); and how many packets
-# show that.
-FORMS, SHOWN, SYNC = ((188, 0), (204, 0), (192, 4)), 5, b"\x47"
 
 
 class NotPlayed(Exception):
@@ -55,30 +51,21 @@ def of_session(stream: bytes, head: Head, counts: Mapping[int, int]) -> list[byt
     raise NotPlayed(f"no session of this report: {difference(counted(packets), len(packets), head[0], counts)}")
 
 
-def cuts_of(recording: bytes) -> Iterator[list[bytes]]:
-    """The packets of a recording, for each number of bytes that they seem to take up."""
-    for size, ahead in FORMS:
-        for at in range(ahead, size + ahead):
-            syncs = recording[at : at + SHOWN * size : size]
-            if syncs and syncs == SYNC * len(syncs):
-                yield cut(recording[at:], size)[0]
-                break
-
-
 def is_recording(given: bytes) -> bool:
     """Whether a file seems to be a recording, and no session."""
-    return given[:1] == SYNC or given[4 : 5 + 192 : 192] == SYNC * 2
+    return given[:1] == bytes([SYNC]) or given[4 : 5 + 192 : 192] == bytes([SYNC] * 2)
 
 
 def of_recording(recording: bytes, head: Head, counts: Mapping[int, int]) -> list[bytes]:
     """The packets that were played of a recording: it is repeated where it is shorter, and cut where it is longer."""
-    told = "it has no packet"
-    for packets in filter(None, cuts_of(recording)):
-        mine = played_counts(packets, head[0])
-        if mine == counts:
-            return (packets * (head[0] // len(packets) + 1))[: head[0]]
-        told = difference(mine, head[0], sum(counts.values()), counts)
-    raise NotPlayed(f"no recording of this report: {told}")
+    size, at = form_of(recording) or (PACKET, 0)
+    packets = cut(recording[at + FORMS[size] :], size).packets
+    if not packets:
+        raise NotPlayed("no recording of this report: it has no packet")
+    mine = played_counts(packets, head[0])
+    if mine != counts:
+        raise NotPlayed(f"no recording of this report: {difference(mine, head[0], sum(counts.values()), counts)}")
+    return (packets * (head[0] // len(packets) + 1))[: head[0]]
 
 
 def played_counts(packets: list[bytes], number: int) -> Counter[int]:
