@@ -52,36 +52,27 @@ static int open_led(const char *place, int flags, mode_t mode)
 	return (int)told(may_open(place, flags) ? device_open(adapter, kind, flags) : -EACCES);
 }
 
-static int open_at(int there, const char *path, int flags, mode_t mode)
+static int open_at(int there, const char *path, int flags, va_list list)
 {
 	char into[PATH];
+	mode_t mode = flags & (O_CREAT | __O_TMPFILE) ? va_arg(list, mode_t) : 0;
+	init();
 	if ((flags & O_NOFOLLOW ? led : leads)(there, path, into))
 		return open_led(into, flags, mode);
 	return there == AT_FDCWD ? NEXT(open)(path, flags, mode) : NEXT(openat)(there, path, flags, mode);
 }
 
-static mode_t mode_in(int flags, va_list list) { return flags & (O_CREAT | __O_TMPFILE) ? va_arg(list, mode_t) : 0; }
-
-EXPORT int open(const char *path, int flags, ...)
-{
-	va_list list;
-	va_start(list, flags);
-	mode_t mode = mode_in(flags, list);
-	va_end(list);
-	init();
-	return open_at(AT_FDCWD, path, flags, mode);
-}
-
-EXPORT int openat(int there, const char *path, int flags, ...)
-{
-	va_list list;
-	va_start(list, flags);
-	mode_t mode = mode_in(flags, list);
-	va_end(list);
-	init();
-	return open_at(there, path, flags, mode);
-}
-
+#define OPENS(call, there, ...)                                                                                         \
+	EXPORT int call(__VA_ARGS__, int flags, ...)                                                                    \
+	{                                                                                                               \
+		va_list list;                                                                                           \
+		va_start(list, flags);                                                                                  \
+		int fd = open_at(there, path, flags, list);                                                             \
+		va_end(list);                                                                                           \
+		return fd;                                                                                              \
+	}
+OPENS(open, AT_FDCWD, const char *path)
+OPENS(openat, there, int there, const char *path)
 SAME(open64, open)
 SAME(openat64, openat)
 SAME(__open_2, open)
@@ -150,19 +141,15 @@ static int doubled(int fd, int wanted, int result)
 	return result;
 }
 
-EXPORT int dup2(int fd, int wanted)
-{
-	init();
-	int error = is_own(fd) ? -EBADF : give_way(wanted);
-	return error ? (int)told(error) : doubled(fd, wanted, NEXT(dup2)(fd, wanted));
-}
-
-EXPORT int dup3(int fd, int wanted, int flags)
-{
-	init();
-	int error = is_own(fd) ? -EBADF : give_way(wanted);
-	return error ? (int)told(error) : doubled(fd, wanted, NEXT(dup3)(fd, wanted, flags));
-}
+#define DOUBLES(call, params, ...)                                                                                      \
+	EXPORT int call params                                                                                          \
+	{                                                                                                               \
+		init();                                                                                                 \
+		int error = is_own(fd) ? -EBADF : give_way(wanted);                                                     \
+		return error ? (int)told(error) : doubled(fd, wanted, NEXT(call)(__VA_ARGS__));                         \
+	}
+DOUBLES(dup2, (int fd, int wanted), fd, wanted)
+DOUBLES(dup3, (int fd, int wanted, int flags), fd, wanted, flags)
 
 /* ------ reads, and what a device has no answer to */
 

@@ -309,8 +309,6 @@ static int sit_down(struct line *line, const char *tell)
 
 static int put(struct line *line, const void *bytes, size_t count)
 {
-	if (is_cut(line))
-		return -1;
 	for (const char *from = bytes; count;) {
 		long n = syscall(SYS_write, line->ask, from, count);
 		if (n < 0 && errno == EINTR)
