@@ -21,10 +21,12 @@ In texts `|` parts pieces, `0*368` is 368 times `0`, `\\0a` is that byte; `|` in
 By threads replies aren't compared. Beside this, each report of `steps` and `run` that ends with Ok is given to `check`, which has to say
 yes, and tests/oracle/second.py has to come to the same status, report and answer; a report of `run` is judged by tests/oracle/judge.py.
 """
+import io
 import re
 import subprocess
 from typing import NamedTuple
 
+from dvbemu import reports
 from oracle import judge, second
 from checks import asked_of
 
@@ -180,12 +182,12 @@ def second_status(words, given, ran):
 
 def replies_wrong(session, report):
     """The replies that differ in a report of `steps`: the line, what is wanted, and what stands there."""
-    steps = {int(line): (int(first), int(end)) for line, first, end in re.findall(r"^line (\d+) steps (\d+)\.\.(\d+) ", report, re.M)}
-    replies = {(who, int(step)): reply for who, step, reply in re.findall(r"^\d+ (c\d) (\d+) .*? = (.*)$", report, re.M)}
+    steps = {outcome.line: range(outcome.first, outcome.after) for outcomes in report.clients for outcome in outcomes}
+    replies = {(entry.who, entry.step): entry.reply for entries in report.nodes.values() for entry in entries}
     for number, line, who, rows in session.rows:
         counted = [re.fullmatch(r"(?:(\d+) of )?(.*)", row) for row in rows]
         wanted = [bytes_of_text(row[2]).decode() for row in counted for _ in range(int(row[1] or 1))]
-        found = [replies.get((who, step)) for step in range(*steps.get(line, (0, 0)))]
+        found = [replies.get((who, step)) for step in steps.get(line, ())]
         if wanted != found:
             yield number, wanted, found
 
@@ -219,7 +221,10 @@ def run_wrong(program, session, words):
         if again != ran.status:
             yield first, f"the second program: {again}", ran.status
         if words.startswith("steps") and session.rows:
-            yield from replies_wrong(session, ran.output.decode())
+            try:
+                yield from replies_wrong(session, reports.read(io.StringIO(ran.output.decode())))
+            except reports.NotAReport as fault:
+                yield first, "a report", fault
         if ran.status == "ok" and (said := ask(program, words, ran.output, given)) != "ok":
             yield first, "check: ok", said
 

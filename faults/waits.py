@@ -1,10 +1,10 @@
 """A client of `run` that waits: it is woken when something comes, and takes next to no time until then."""
 import os
-import re
 import statistics
 import subprocess
 import time
 
+from dvbemu import Data, Report
 from ends import BUILT, ENDS, tally
 
 # How many packets come, each so many seconds behind the one before. A rest lasts a second where nobody ends it, so half of the reads
@@ -19,8 +19,6 @@ WAITS = {
     "a demux node": b"c0 open n1\nc0 pes n1 256 frontend tsdemux_tap 20 4\nc0 readw n1 188\nstream\n",
     "the dvr node": b"c0 open dvr\nc0 readw dvr 188\nstream\n",
 }
-PASSED = re.compile(r"^\d+ feed \d+ pass .* at=(\d+) = passed$", re.M)
-GIVEN = re.compile(r"^\d+ c0 \d+ read 188 at=(\d+) = data ", re.M)
 
 
 def run_slowly(session, packets, pause, behind):
@@ -39,13 +37,15 @@ def run_slowly(session, packets, pause, behind):
             child.kill()
             report = child.communicate()[0]
     after = os.times()
-    return report.decode(), after.children_user + after.children_system - before.children_user - before.children_system
+    return report, after.children_user + after.children_system - before.children_user - before.children_system
 
 
 def is_woken():
     """Each packet is read soon behind its pass: of these times the middle one counts, as a loaded machine makes some of them long."""
     report, _ = run_slowly(READS, PACKETS, PAUSE, 0)
-    passed, given = (list(map(int, pattern.findall(report))) for pattern in (PASSED, GIVEN))
+    entries = Report.parse(report).node("n1").entries
+    passed = [entry.call.arguments["at"] for entry in entries if entry.call.name == "pass"]
+    given = [entry.call.arguments["at"] for entry in entries if isinstance(entry.reply, Data)]
     are_all = len(passed) == len(given) == COUNT
     tally.count(are_all, f"a client that waits: {len(passed)} packets passed, {len(given)} were read\n{report[-300:]}")
     late = statistics.median(read - pass_ for pass_, read in zip(passed, given)) if given else ENDS * 1000
@@ -56,7 +56,7 @@ def rests():
     """While nothing comes a client that waits does nothing."""
     for node, session in WAITS.items():
         report, used = run_slowly(session, [], 0, IDLE)
-        tally.count(report.endswith("\nend\n"), f"a client that waits for {node} comes to no end: {report}")
+        tally.count(report.endswith(b"\nend\n"), f"a client that waits for {node} comes to no end: {report}")
         tally.count(used < MOST, f"a client that waits for {node} takes {used:.2f} s of {IDLE} s")
 
 

@@ -1,4 +1,4 @@
-#!/usr/bin/env python3
+#!/usr/bin/env -S sh -c 'exec "${0%/*}/../tests/python" "$0" "$@"'
 """A program that asks a server badly, past the preload: bad.py KIND.
 
     many    each request that is none, with its answer; the last line is `N answered`
@@ -22,12 +22,13 @@ import sys
 import threading
 import time
 
+from dvbemu import abi
+
 REQUEST, REPLY = struct.Struct("<IIII60s"), struct.Struct("<IIIIQ")
 OPEN, CLOSE, IOCTL, READ, POLL, LEAVE = 1, 3, 4, 5, 6, 7
-# DMX_START, DMX_ADD_PID and DMX_SET_FILTER; their arguments have 0, 2 and 60 bytes.
-START, ADD, SECTION = 0x6F29, 0x40026F33, 0x403C6F2B
-# The others: DMX_STOP, DMX_SET_PES_FILTER, DMX_SET_BUFFER_SIZE, DMX_REMOVE_PID, DMX_GET_STC, with how many bytes these have.
-NUMBERS = {START: 0, ADD: 2, SECTION: 60, 0x6F2A: 0, 0x40146F2C: 20, 0x6F2D: 4, 0x40026F34: 2, 0xC0106F32: 16}
+# Requests whose arguments have 0, 2 and 60 bytes; and of all how many they have.
+START, ADD, SECTION = abi.START.number, abi.ADD_PID.number, abi.SET_FILTER.number
+NUMBERS = {number: request.layout.size for number, request in abi.REQUESTS.items()}
 MOST = 0xFFFFFFFF
 EBADF, EINVAL, ENOTTY = errno.EBADF, errno.EINVAL, errno.ENOTTY
 # Verb, node, number and length of a request, and the error that answers it. Node 0 is the program's, node 1 nobody's.

@@ -1,4 +1,4 @@
-#!/usr/bin/env python3
+#!/usr/bin/env -S sh -c 'exec "${0%/*}/../tests/python" "$0" "$@"'
 """A Python program for serve/check that finds an adapter by its paths, and waits for a PAT by each means that Python has. It writes a
 line for each that has found one."""
 import asyncio
@@ -7,19 +7,19 @@ import os
 import pathlib
 import select
 import selectors
-import struct
 import threading
 
-ADAPTER = "/dev/dvb/adapter0"
-DMX_SET_FILTER, IMMEDIATE_START, SECONDS = 0x403C6F2B, 4, 10
+from dvbemu.abi import DMX_IMMEDIATE_START, SET_FILTER
+
+ADAPTER, SECONDS = "/dev/dvb/adapter0", 10
 # A filter on table_id 0 of PID 0.
-PAT = struct.pack("=H16s16s16sxxII", 0, bytes(16), b"\xff" + bytes(15), bytes(16), 0, IMMEDIATE_START)
+PAT = SET_FILTER.layout.pack(0, bytes(16), b"\xff" + bytes(15), bytes(16), 0, DMX_IMMEDIATE_START)
 
 
 def table():
     """A demux that doesn't wait, with a filter on the PAT."""
     demux = os.open(f"{ADAPTER}/demux0", os.O_RDWR | os.O_NONBLOCK)
-    fcntl.ioctl(demux, DMX_SET_FILTER, PAT)
+    fcntl.ioctl(demux, SET_FILTER.number, PAT)
     return demux
 
 
@@ -59,7 +59,7 @@ def by_selectors():
 
 def by_file():
     with open(f"{ADAPTER}/demux0", "r+b", buffering=0) as demux:
-        fcntl.ioctl(demux, DMX_SET_FILTER, PAT)
+        fcntl.ioctl(demux, SET_FILTER.number, PAT)
         print("file" if demux.read(4096)[0] == 0 else "file: no PAT", flush=True)
 
 

@@ -5,6 +5,7 @@ import subprocess
 import time
 
 from checks import EXAMPLES, Tally, asked_of, bytes_of
+from dvbemu import Report
 from oracle import judge, second
 
 HERE = os.path.dirname(os.path.realpath(__file__))
@@ -124,14 +125,11 @@ class Room:
         fault = self.fault() if os.path.exists(self.report) else "there is none"
         self.want(not fault, f"the report of {what}", fault)
 
-    def calls_told(self, name="[a-z]+"):
+    def calls_told(self, name):
         """How many calls of this name the report tells."""
-        with open(self.report, encoding="ascii") as file:
-            return len(re.findall(rf"^\d+ c\d+ \d+ {name} ", file.read(), re.M))
+        return sum(len(node.replies(name)) for node in Report.load(self.report).nodes)
 
     def dvr_told(self):
         """The bytes that reads of the dvr node gave, and how often they were told that some were lost."""
-        with open(self.report, encoding="ascii") as file:
-            dvr = file.read().partition("\nnode dvr\n")[2]
-        data = re.findall(r"^\d+ c\d+ \d+ read .* = data ([0-9a-f]+)$", dvr, re.M)
-        return bytes.fromhex("".join(data)), len(re.findall(r"^\d+ c\d+ .* = overflow", dvr, re.M))
+        dvr = Report.load(self.report).node("dvr")
+        return dvr.data(), len(dvr.losses())

@@ -1,5 +1,5 @@
-"""The table of requests against the header of Linux: numbers, lengths and places of fields in crates/dmx_abi, and the structures in the
-tests of crates/tests_low, are what requests.c prints, compiled over linux/dvb/dmx.h.
+"""The tables of requests against the header of Linux: numbers, lengths and places of fields in crates/dmx_abi and in dvbemu.abi, and the
+structures in the tests of crates/tests_low, are what requests.c prints, compiled over linux/dvb/dmx.h.
 
 DMX_SET_BUFFER_SIZE has no structure, so its four bytes are in no comparison.
 """
@@ -8,6 +8,7 @@ import subprocess
 
 import pytest
 from conftest import ROOT
+from dvbemu import abi
 
 ROWS = re.compile(r"^Spells number argument (.*?)(?=^Spells|^--|\Z)", re.M | re.S)
 
@@ -59,3 +60,14 @@ def test_line_is_in_the_header(header, line):
 def test_line_of_the_header(header, place):
     assert len(header) == len(LINES)
     assert header[place] in LINES
+
+
+@pytest.mark.parametrize("name", ["START", "STOP", "SET_FILTER", "SET_PES_FILTER", "SET_BUFFER_SIZE", "GET_STC", "ADD_PID", "REMOVE_PID"])
+def test_request_of_the_package(header, name):
+    request = getattr(abi, name)
+    argument = bytes(range(request.layout.size))
+    assert f"number {name} 0x{request.number:08x}" in header and abi.REQUESTS[request.number] is request
+    assert [line for line in header if line.startswith(f"length {name} ")] in ([], [f"length {name} {len(argument)}"])
+    for _, _, word, place, count in (line.split() for line in header if line.startswith(f"field {name} ")):
+        part = argument[int(place) : int(place) + int(count)]
+        assert request.values(argument)[word.removeprefix("pes_")] in (part, int.from_bytes(part, "little"))
