@@ -16,6 +16,7 @@ A file has sessions, one behind the other. Empty lines, and lines that begin wit
     hint TEXT                the second line of standard error
     at L N, + LINE, answer STATUS   the first run's report with the `+` lines in place of N lines from line L on, and what `check` says to
                              it, `ok` for yes; without `at` it is the report as it stands
+    expected TEXT            what the second line of that `check` tells behind `expected`; with no TEXT there is no such line
 
 In texts `|` parts pieces, `0*368` is 368 times `0`, `\\0a` is that byte; `|` in front of a line says that it is none of the words above.
 By threads replies aren't compared. Beside this, each report of `steps` and `run` that ends with Ok is given to `check`, which has to say
@@ -32,7 +33,7 @@ from checks import asked_of
 
 BATCHES = "steps --batch 1", "steps --batch 3", "steps --batch 64"
 # The lines that expect something.
-WANTED = "wants", "hint", "has", ">", ">-", "answer"
+WANTED = "wants", "hint", "has", ">", ">-", "answer", "expected"
 # The exit status of each line on standard error, by its first word.
 STATUSES = {"ok": 0, "report": 0, "usage": 2, "script": 3, "too": 4, "read": 5, "write": 6, "out": 7}
 
@@ -114,7 +115,7 @@ def read_session(title, lines):
             continue
         if word == "run":
             session.runs.append(rest)
-        elif word in ("at", "+", "answer"):
+        elif word in ("at", "+", "answer", "expected"):
             session.changes.append((number, word, rest))
         elif word in WANTED:
             session.wanted.append((number, word, rest))
@@ -163,7 +164,7 @@ def options(words):
 
 def ask(program, words, report, given):
     """What `check` says to a report, asked for packets as in a run."""
-    return run(program, "check --packet 204" if options(words)[1] == 204 else "check", asked_of(report, given)).status
+    return run(program, "check --packet 204" if options(words)[1] == 204 else "check", asked_of(report, given))
 
 
 def second_status(words, given, ran):
@@ -225,7 +226,7 @@ def run_wrong(program, session, words):
                 yield from replies_wrong(session, reports.read(io.StringIO(ran.output.decode())))
             except reports.NotAReport as fault:
                 yield first, "a report", fault
-        if ran.status == "ok" and (said := ask(program, words, ran.output, given)) != "ok":
+        if ran.status == "ok" and (said := ask(program, words, ran.output, given).status) != "ok":
             yield first, "check: ok", said
 
 
@@ -233,19 +234,25 @@ def answers_wrong(program, session, words):
     """The answers of `check` to changed reports that differ, and those of the judge."""
     given = bytes(session.input)
     lines = run(program, words, given).output.split(b"\n")[:-1] if session.changes else []
-    changed, taken = [], 0
+    changed, taken, said, judged = [], 0, None, None
     for number, word, text in session.changes:
         if word == "at":
             at, left_out = map(int, text.split())
             changed, taken = changed + lines[taken : at - 1], at - 1 + left_out
         elif word == "+":
             changed.append(text.encode())
+        elif word == "expected":
+            wanted = f"expected {text}" if text else ""
+            # (the judge has no forms of lines, and may tell another line first)
+            others = judged[2].decode().split("\n")
+            if said.hint != wanted or others[0] == f"dvbemu: {said.status}" and others[1] not in ("", wanted):
+                yield number, text, (said.hint, others)
         else:
             report = b"".join(line + b"\n" for line in changed + lines[taken:])
             said = ask(program, words, report, given)
-            judged = judge.answer(asked_of(report, given), options(words)[1])[1]
-            if said != text or judged != (b"yes\n" if text == "ok" else b"no\n"):
-                yield number, text, (said, judged)
+            judged = judge.answer(asked_of(report, given), options(words)[1])
+            if said.status != text or judged[1] != (b"yes\n" if text == "ok" else b"no\n"):
+                yield number, text, (said.status, judged[1])
             changed, taken = [], 0
 
 

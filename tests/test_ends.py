@@ -22,7 +22,7 @@ ROOT_LINE, UNOPENED = re.compile("dvbemu serve: started by root: .*\n"), re.comp
 LINES = {
     "steps": "steps session", "run": "run session", "check": "check report session", "make": "make 7", "selftest": "selftest 7",
     "serve": "serve --help", "explain": "explain report", "picture": "picture report", "page": "page report", "json": "json report",
-    "why": "why report session", "bytes": "bytes report", "session": "session served recording",
+    "bytes": "bytes report", "session": "session served recording",
     "test": "test tests", "words": "words session", "packet": "packet 0 0 payload 00", "pace": "pace --rate 1000 stream",
     "calls": "calls true", "merge": "merge kept", "build": "build dvbemu", "--help": "--help", "--version": "--version",
 }  # fmt: skip
@@ -40,7 +40,7 @@ READS = {
     "check report -": "dvbemu: standard input", "explain": "dvbemu explain: standard input", "picture": "dvbemu picture: standard input",
     "page": "dvbemu page: standard input", "json": "dvbemu json: standard input", "json --back": "dvbemu json: standard input",
     "explain - session": "dvbemu explain: standard input", "explain report -": "dvbemu explain: standard input", "bytes": "dvbemu bytes: standard input",
-    "why - session": "dvbemu why: standard input", "why report -": "dvbemu why: standard input", "words": "dvbemu words: standard input",
+    "words": "dvbemu words: standard input",
     "session - session": "dvbemu session: standard input", "session report -": "dvbemu session: standard input",
     "pace": "dvbemu pace: standard input",
 }  # fmt: skip
@@ -166,8 +166,8 @@ def test_other_ends(shell, plain, line, ends):
 @pytest.mark.parametrize("ends, why", UNREADABLE.items())
 @pytest.mark.parametrize("line, named", READS.items())
 def test_input(shell, line, named, ends, why):
-    """Standard input that can't be read: the status 1, but for `why` as ever 2, and a line that names it."""
-    assert shell(line, ends) == (2 if line.startswith("why") else 1, b"", f"{named}: {why}\n")
+    """Standard input that can't be read: the status 1, and a line that names it."""
+    assert shell(line, ends) == (1, b"", f"{named}: {why}\n")
 
 
 @pytest.mark.parametrize("number", sorted(set(range(1, 65)) - HARMLESS))

@@ -89,22 +89,25 @@ def overflow(room):
     _, session, report = example("rules/overflow")
     other = report.replace(b"item=2", b"item=1")
     room.write({"report": other, "session": session})
-    line = "line 19: node 0, place 7: overflow 0..564 item=1 need=188 room=0; the rules give overflow 0..564 item=2 need=188 room=0\n"
-    return other, session, line
+    return other, session, "dvbemu: report line 19: reply\nexpected overflow 0..564 item=2 need=188 room=0\n"
 
 
 def test_check_of_a_wrong_report(room, overflow):
-    other, session, line = overflow
-    assert room.run("check report session") == (1, b"no\n", f"dvbemu: report: {line}")
-    assert room.run("check - session", other) == (1, b"no\n", f"dvbemu: standard input: {line}")
+    other, session, told = overflow
+    assert room.run("check report session") == (1, b"no\n", told)
+    assert room.run("check - session", other) == (1, b"no\n", told)
     asked = b"report %d\n" % len(other) + other + session
-    assert room.run("check", asked) == (0, b"no\n", "dvbemu: report line 19: reply\n")
+    assert room.run("check", asked) == (0, b"no\n", told)
 
 
 def test_check_of_no_report(room, overflow):
     room.write({"report": b""})
-    found = room.run("check report session")
-    assert found[:2] == (1, b"no\n") and found.err.startswith("dvbemu: report: line 1: ")
+    assert room.run("check report session") == (1, b"no\n", "dvbemu: report line 1: text\nexpected dvbemu 1\n")
+
+
+def test_why_is_check(room, overflow):
+    told = "dvbemu: `dvbemu check REPORT SESSION [STREAM ..]` tells what is wrong with a report now, and what was expected there\n"
+    assert room.run("why report session") == (2, b"", told)
 
 
 # ------ faults of a script: the program's own lines, and behind them what is known of it
@@ -124,13 +127,13 @@ def test_faults(room, script, line, words):
     assert found.err.endswith(f"\n  {told}\n" if told else own.err)
 
 
-@pytest.mark.parametrize("words, status", [("steps", 3), ("run", 3), ("check report", 3), ("why report", 2)])
-def test_no_stream(room, words, status):
+@pytest.mark.parametrize("words", ["steps", "run", "check report"])
+def test_no_stream(room, words):
     """A script without its line `stream`, behind which no stream is named."""
     room.write({"script": SCRIPT, "report": b"any"})
     found = room.run(f"{words} script", PACKET)
     called = f"dvbemu {words} script".replace("report", "REPORT")
-    assert found[:2] == (status, b"") and "no line is 'stream'" in found.err
+    assert found[:2] == (3, b"") and "no line is 'stream'" in found.err
     assert found.err.endswith(f"\n  for a stream from a file: {called} STREAM; for one from standard input: {called} -\n")
 
 
@@ -251,7 +254,7 @@ def test_bytes_of_an_overflow(room):
 
 # ------ a folder of tests: a right one, a wrong one, one by threads, one without a report, one that can't be run; and --update
 
-WRONG = "line 19: node 0, place 7: overflow 0..564 item=1 need=188 room=0; the rules give overflow 0..564 item=2 need=188 room=0"
+WRONG = "report line 19: reply; expected overflow 0..564 item=2 need=188 room=0"
 FAULTY = "not ok 1 - faulty\n# steps ends with the status 3: dvbemu: script line 1: command word 2 is 'strat'; expected a command: "
 REST = f"""ok 2 - right
 not ok 3 - threads

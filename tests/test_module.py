@@ -215,7 +215,7 @@ def test_check_of_a_wrong_report(script):
     text = dvbemu.steps(script, STREAM, batch=1).text
     verdict = dvbemu.check(text.replace(b"data 00b0", b"data 00b1"), script, STREAM)
     assert not verdict
-    assert "the rules give data 00b0" in verdict.reason and verdict.reason.startswith("line ")
+    assert verdict.reason.startswith("report line ") and ": reply\nexpected data 00b0" in verdict.reason
 
 
 def test_explain(script):

@@ -40,7 +40,6 @@ dvbemu --help | sed -n 's/^  \\([a-z]*\\)  .*/\\1/p' > words
 for word in $(cat words); do dvbemu $word --help > help; test -s help || echo $word: no help; done
 for word in explain picture page json; do dvbemu $word out/r > told; test -s told || echo $word: nothing; done
 dvbemu explain out/r @/share/doc/dvbemu/examples/programs/scan.ts > told || echo explain: $?
-dvbemu why out/scan.report out/scan.session > told || echo why: $?
 """
 # The pages of the manual, and a word of each.
 PAGES = {"dvbemu.1": "explain", "dvbemu-serve.1": "--packets", "dvbemu-json.1": "--back", "dvbemu-script.5": "drain", "dvbemu-report.5": "overflow"}

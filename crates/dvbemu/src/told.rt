@@ -3,7 +3,7 @@ use client_script::{FaultKind, MOST_BYTES, ScriptFault};
 use emu_io::NoWords;
 use emu_top::Status;
 use fault_hints::hint;
-use report_check::Fault;
+use report_check::{Expected, Fault};
 use std::process::ExitCode;
 use text_forms::number_between;
 
@@ -67,9 +67,19 @@ fn explain(rt: &HostRuntime, script: Option<&[u8]>, fault: ScriptFault) {
     }
 }
 
-// Tells what is wrong with a report.
+// Tells what the rules give where a report is wrong, where there is memory to say it.
+fn tell_expected(rt: &HostRuntime, expected: &Expected) {
+    if let Ok(text) = String::from_utf8_lossy(rt.alloc(), expected.text()) {
+        let _ = eprintln!(rt; "expected {text}");
+    }
+}
+
+// Tells what is wrong with a report, and what the rules give there.
 fn tell_wrong(rt: &HostRuntime, fault: Fault) {
     let _ = eprintln!(rt; "dvbemu: {fault}");
+    if let Some(expected) = &fault.expected {
+        tell_expected(rt, expected);
+    }
 }
 
 // The line of a status, and what stands behind it.

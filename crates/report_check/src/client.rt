@@ -5,9 +5,10 @@ ghost use Rattle.report_check.specs.Completed.{complete};
 ghost use Rattle.report_check.specs.Inside.Steps.{left_on};
 ghost use Rattle.report_check.specs.Inside.Parts.{told_nodes, dealt as dealt_to, IsDoneAs, AreDoneAs};
 
+use crate::expected::{Expected, expected_client, expected_outcome};
 use crate::fault::{Odd, ReportFaultKind};
 use crate::line::first_other;
-use crate::stop::odd_call;
+use crate::stop::{caller_at, odd_call};
 use crate::walk_check::is_walked;
 use client_core::ClientCore;
 use client_script::Script;
@@ -49,13 +50,19 @@ fn are_same(this: &[Outcome], other: &[Outcome]) -> bool
 }
 
 // What became of a client's commands is told otherwise than it was done.
-fn odd_outcome(client: u32, told: &[Outcome], done: &[Outcome]) -> Odd {
-    let same = first_other(told, done) as u64;
-    Odd::Client {
+fn odd_outcome(
+    alloc: Global,
+    client: u32,
+    told: &[Outcome],
+    done: &[Outcome],
+) -> Result<Odd, NoMemory> {
+    let same = first_other(told, done);
+    Ok(Odd::Client {
         client,
-        behind: same.saturating_add(1),
+        behind: (same as u64).saturating_add(1),
         kind: ReportFaultKind::Outcome,
-    }
+        expected: Some(expected_outcome(alloc, done, same)?),
+    })
 }
 
 // What is wrong where a client's entries aren't just what its commands ask for, or this isn't what became of them.
@@ -75,10 +82,10 @@ fn odd_of(
     let mut core = ClientCore::new(alloc, script, client)?;
     let mut queues = dealt(alloc, nodes)?;
     if !is_walked(&mut core, client, &mut queues) {
-        return Ok(Some(odd_call(&core, client, nodes, &queues, told)));
+        return Ok(Some(odd_call(alloc, script, &core, client, nodes, &queues, told)?));
     }
     if !are_same(told, core.outcomes()) {
-        return Ok(Some(odd_outcome(client, told, core.outcomes())));
+        return Ok(Some(odd_outcome(alloc, client, told, core.outcomes())?));
     }
     Ok(None)
 }
@@ -131,4 +138,44 @@ pub fn odd_client(
         rest = after;
     }
     Ok(None)
+}
+
+// What is said of a caller that is no client, where there are so many.
+fn no_such_client(alloc: Global, clients: u64) -> Result<Expected, NoMemory> {
+    match clients.checked_sub(1) {
+        None => Ok(Expected::of(b"no client")),
+        Some(last) => expected_client(alloc, b"no client above c", last),
+    }
+}
+
+/// What the rules give at a place of a node whose entry can't stand there: that there is no such client, or the call that is asked
+/// for there of its client. None where that client's walk stops elsewhere. Nothing is claimed of it.
+pub fn expected_of_caller(
+    alloc: Global,
+    script: &Script,
+    nodes: &[(u32, Vec<Entry>)],
+    outcomes: &[Vec<Outcome>],
+    node: u32,
+    place: u64,
+) -> Result<Option<Expected>, NoMemory>
+    requires clients { length outcomes.now < 4294967295 }
+    requires few { left_on (dealt_to (told_nodes nodes.now)) < 2 ^ 46 }
+{
+    let Some(client) = caller_at(nodes, node, place) else {
+        return Ok(None);
+    };
+    let Some(told) = outcomes.get(client as usize) else {
+        return Ok(Some(no_such_client(alloc, outcomes.len() as u64)?));
+    };
+    match odd_of(alloc, script, client, nodes, told)? {
+        Some(
+            Odd::Entry {
+                node: at,
+                place: stopped,
+                expected,
+                ..
+            },
+        ) if at == node && stopped == place => Ok(expected),
+        _ => Ok(None),
+    }
 }

@@ -1,4 +1,5 @@
 // What is wrong with a report.
+use crate::expected::Expected;
 use thiserror::Error;
 
 /// What is wrong in a line of a report. Its text is its name, as the program tells it on standard error.
@@ -30,12 +31,13 @@ pub enum ReportFaultKind {
     Outcome,
 }
 
-/// What is wrong with a report. The line is counted from 1.
+/// What is wrong with a report. The line is counted from 1. What the rules give there is left out where nothing can be named.
 #[derive(Clone, Copy, Debug, PartialEq, Eq, Drop, Error)]
 #[error("report line {line}: {kind}")]
 pub struct Fault {
     pub line: u64,
     pub kind: ReportFaultKind,
+    pub expected: Option<Expected>,
 }
 
 /// Where a node or a client isn't as it should be.
@@ -47,6 +49,7 @@ pub enum Odd {
         node: u32,
         place: u64,
         kind: ReportFaultKind,
+        expected: Option<Expected>,
     },
     /// In what is told of a client of this number, so many lines behind its own.
     #[error("client {client}, line {behind}: {kind}")]
@@ -54,6 +57,7 @@ pub enum Odd {
         client: u32,
         behind: u64,
         kind: ReportFaultKind,
+        expected: Option<Expected>,
     },
 }
 

@@ -4,5 +4,5 @@ mod replay;
 mod same;
 
 pub use calls::call_told;
-pub use replay::{agrees, is_played};
+pub use replay::{first_other_reply, other_reply};
 pub use same::is_same_reply;

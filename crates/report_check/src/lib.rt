@@ -10,18 +10,21 @@
 //! what became of each command. `queues_in` are a client's entries on each node; `IsRest`: in some order they are what it calls.
 //!
 //! What is proved: `check` answers true, and `first_fault` None, exactly where the report is right, for this head and some run of
-//! the script over these packets, in batches of at most 64 and at any moments. `is_played` answers true exactly where a told
-//! history is legal by the machine's rules and no reply is want of memory, `is_walked` exactly where a client has done what its
+//! the script over these packets, in batches of at most 64 and at any moments. `first_other_reply` answers None exactly where a
+//! told history is legal by the machine's rules and no reply is want of memory, `is_walked` exactly where a client has done what its
 //! commands ask. A report is that of a run exactly where it is right (`right_are_of_runs`). Where memory is refused, all say so.
 //!
-//! What is only tested, by `examples/rows`: which line and kind `first_fault` tells, and that reports worked out by hand are
-//! right. The time is linear in the report, the packets that its nodes are passed and the bytes of writes; memory holds what was
-//! read, and the packets that clients play. How a report is checked is this project's own.
+//! What is only tested, by `examples/rows`: which line and kind `first_fault` tells and what it expects there (`Expected`), and that
+//! reports worked out by hand are right. The time is linear in the report, the packets that its nodes are passed and the bytes of
+//! writes; memory holds what was read, and the packets that clients play. How a report is checked is this project's own.
 #![tactic(auto)]
 
 mod client;
+mod expected;
 mod fault;
+mod fed;
 mod feeder;
+mod forms;
 mod head;
 pub mod history_check;
 mod line;
@@ -34,5 +37,6 @@ mod stop;
 mod text;
 pub mod walk_check;
 
+pub use expected::Expected;
 pub use fault::{Fault, ReportFaultKind};
 pub use report::{check, first_fault};

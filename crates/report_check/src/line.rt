@@ -13,6 +13,20 @@ pub fn first_other<T: PartialEq>(these: &[T], those: &[T]) -> usize {
     both
 }
 
+/// A line of a text, counted from 1, without its line feed.
+pub fn line_in(text: &[u8], line: u64) -> Option<&[u8]> {
+    let mut left = line;
+    let mut rest = text;
+    'lines: while let Some(end) = rest.iter().position(|byte| *byte == b'\n') {
+        if left <= 1 {
+            return Some(&rest[..end]);
+        }
+        left -= 1;
+        rest = &rest[end + 1..];
+    }
+    None
+}
+
 // How many lines tell these clients.
 fn lines_of(outcomes: &[Vec<Outcome>]) -> u64 {
     let mut lines: u64 = 0;

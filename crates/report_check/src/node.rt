@@ -67,6 +67,7 @@ fn odd_at(node: &(u32, Vec<Entry>), place: u64, kind: ReportFaultKind) -> Odd {
         node: node.0,
         place,
         kind,
+        expected: None,
     }
 }
 

@@ -4,10 +4,11 @@ ghost use Rattle.report_check.specs.Imports.{DEMUX_NODES as nodes_of_demux, told
 ghost use Rattle.report_check.specs.Playing.{AreFewPackets, brought_from};
 ghost use Rattle.report_check.specs.Inside.Parts.{told_nodes, are_sound, IsPlayed};
 
+use crate::expected::expected_reply;
 use crate::fault::{Odd, ReportFaultKind};
-use crate::history_check::is_played;
-use dmx_calls::Entry;
+use crate::history_check::first_other_reply;
 use dmx_calls::limits::DEMUX_NODES;
+use dmx_calls::{Entry, Reply};
 use dvr_core::DvrCore;
 use machine::steps::Steps;
 use node_core::NodeCore;
@@ -16,7 +17,14 @@ use std::marker::Brand;
 use std::sync::ledger::{Blank, Ledger};
 use ts_packet::Packet;
 
-// The place of the first reply of a demux node that isn't the one that the entries before it give.
+// A node's reply at a place of its entries, where another one is told.
+#[derive(Drop)]
+struct OtherReply {
+    place: u64,
+    reply: Reply,
+}
+
+// The first reply of a demux node that isn't the told one.
 fn odd_of_demux<L: Ledger>(
     alloc: Global,
     node: u32,
@@ -24,7 +32,7 @@ fn odd_of_demux<L: Ledger>(
     packets: &[Packet],
     played: &[Vec<Packet>],
     steps: &mut Steps<L>,
-) -> Result<Option<u64>, NoMemory>
+) -> Result<Option<OtherReply>, NoMemory>
     requires node { node < nodes_of_demux }
     requires sound { (clients : ℕ) × (are_sound clients (length packets.now) (map (λ ps. length ps) (map (λ p. p.items) played.now)) (map told_entry entries.now) ≡ true) }
     requires stream { AreFewPackets packets.now }
@@ -34,10 +42,13 @@ fn odd_of_demux<L: Ledger>(
         (λ _. IsPlayed (brought_from packets.now (map (λ p. p.items) played.now)) (record { node = node; entries = map told_entry entries.now }) → ⊥)) }
 {
     let mut core = NodeCore::new(alloc, node);
-    if is_played(alloc, &mut core, packets, played, entries, steps)? {
-        return Ok(None);
+    match first_other_reply(alloc, &mut core, packets, played, entries, steps)? {
+        None => Ok(None),
+        Some(reply) => Ok(Some(OtherReply {
+            place: core.entries().saturating_sub(1),
+            reply,
+        })),
     }
-    Ok(Some(core.entries().saturating_sub(1)))
 }
 
 // The same of the dvr node.
@@ -47,7 +58,7 @@ fn odd_of_dvr<L: Ledger>(
     packets: &[Packet],
     played: &[Vec<Packet>],
     steps: &mut Steps<L>,
-) -> Result<Option<u64>, NoMemory>
+) -> Result<Option<OtherReply>, NoMemory>
     requires sound { (clients : ℕ) × (are_sound clients (length packets.now) (map (λ ps. length ps) (map (λ p. p.items) played.now)) (map told_entry entries.now) ≡ true) }
     requires stream { AreFewPackets packets.now }
     requires played { All AreFewPackets (map (λ p. p.items) played.now) }
@@ -56,13 +67,16 @@ fn odd_of_dvr<L: Ledger>(
         (λ _. IsPlayed (brought_from packets.now (map (λ p. p.items) played.now)) (record { node = nodes_of_demux; entries = map told_entry entries.now }) → ⊥)) }
 {
     let mut core = DvrCore::new(alloc);
-    if is_played(alloc, &mut core, packets, played, entries, steps)? {
-        return Ok(None);
+    match first_other_reply(alloc, &mut core, packets, played, entries, steps)? {
+        None => Ok(None),
+        Some(reply) => Ok(Some(OtherReply {
+            place: core.entries().saturating_sub(1),
+            reply,
+        })),
     }
-    Ok(Some(core.entries().saturating_sub(1)))
 }
 
-// The place of the first reply of a node that isn't the one that the entries before it give, with the ledger of the steps.
+// The first reply of a node that isn't the told one, with the ledger of the steps.
 fn odd_with<L: Ledger>(
     alloc: Global,
     node: u32,
@@ -70,7 +84,7 @@ fn odd_with<L: Ledger>(
     packets: &[Packet],
     played: &[Vec<Packet>],
     blank: Blank,
-) -> Result<Option<u64>, NoMemory>
+) -> Result<Option<OtherReply>, NoMemory>
     requires node { node ≤ nodes_of_demux }
     requires sound { (clients : ℕ) × (are_sound clients (length packets.now) (map (λ ps. length ps) (map (λ p. p.items) played.now)) (map told_entry entries.now) ≡ true) }
     requires stream { AreFewPackets packets.now }
@@ -88,14 +102,14 @@ fn odd_with<L: Ledger>(
     }
 }
 
-// The place of the first reply of a node that isn't the one that the entries before it give.
+// The first reply of a node that isn't the told one.
 fn odd_reply(
     alloc: Global,
     node: u32,
     entries: &[Entry],
     packets: &[Packet],
     played: &[Vec<Packet>],
-) -> Result<Option<u64>, NoMemory>
+) -> Result<Option<OtherReply>, NoMemory>
     requires node { node ≤ nodes_of_demux }
     requires sound { (clients : ℕ) × (are_sound clients (length packets.now) (map (λ ps. length ps) (map (λ p. p.items) played.now)) (map told_entry entries.now) ≡ true) }
     requires stream { AreFewPackets packets.now }
@@ -105,6 +119,18 @@ fn odd_reply(
         (λ _. IsPlayed (brought_from packets.now (map (λ p. p.items) played.now)) (record { node = node; entries = map told_entry entries.now }) → ⊥)) }
 {
     odd_with::<Brand>(alloc, node, entries, packets, played, Blank::new(1))
+}
+
+// A reply of a node that isn't the told one.
+fn odd_at(alloc: Global, node: &(u32, Vec<Entry>), other: OtherReply) -> Result<Odd, NoMemory> {
+    let OtherReply { place, reply } = other;
+    let expected = expected_reply(alloc, node.1.get(place as usize), reply)?;
+    Ok(Odd::Entry {
+        node: node.0,
+        place,
+        kind: ReportFaultKind::Reply,
+        expected: Some(expected),
+    })
 }
 
 /// The first reply on the nodes that isn't the one that the entries before it give.
@@ -123,12 +149,8 @@ pub fn odd_play(
 {
     let mut rest = nodes;
     'nodes: while let [node, after @ ..] = rest {
-        if let Some(place) = odd_reply(alloc, node.0, &node.1, packets, played)? {
-            return Ok(Some(Odd::Entry {
-                node: node.0,
-                place,
-                kind: ReportFaultKind::Reply,
-            }));
+        if let Some(other) = odd_reply(alloc, node.0, &node.1, packets, played)? {
+            return Ok(Some(odd_at(alloc, node, other)?));
         }
         rest = after;
     }

@@ -5,20 +5,69 @@ ghost use Rattle.report_check.specs.Completed.{completed};
 ghost use Rattle.report_check.specs.Right.{IsRunOf, IsRightReport};
 ghost use Rattle.report_check.specs.Inside.Parts.{HasPassed};
 
-use crate::client::odd_client;
+use crate::client::{expected_of_caller, odd_client};
+use crate::expected::{Expected, expected_client};
 use crate::fault::{Fault, Odd, ReportFaultKind};
-use crate::head::{is_same_head, line_of_head};
+use crate::fed::expected_feed;
+use crate::head::{fault_of_head, is_same_head};
 use crate::line::{line_of_client, line_of_entry};
 use crate::node::odd_node;
 use crate::play::odd_play;
 use crate::played::all_played;
 use crate::stop::first_of_both;
-use crate::text::line_of_text;
+use crate::text::fault_of_text;
 use client_script::Script;
 use report_read::{ReadReport, read_report};
 use std::alloc::{AllocError as NoMemory, Global};
 use ts_packet::Packet;
 use ts_watch::Head;
+
+// What is wrong where so many clients are told and the script has another number of them.
+fn odd_clients(alloc: Global, told: usize, clients: u32) -> Result<Odd, NoMemory> {
+    let expected = if told < clients as usize {
+        expected_client(alloc, b"client ", told as u64)?
+    } else {
+        Expected::of(b"no further client")
+    };
+    Ok(Odd::Client {
+        client: clients,
+        behind: 0,
+        kind: ReportFaultKind::Outcome,
+        expected: Some(expected),
+    })
+}
+
+// What is wrong on a node, with what the rules give there.
+fn explained(
+    alloc: Global,
+    told: &ReadReport,
+    script: &Script,
+    packets: u64,
+    odd: Odd,
+) -> Result<Odd, NoMemory>
+    requires clients { length told.now.outcomes.items < 4294967295 }
+    requires few { length (text_of (told_of told.now)) < 2 ^ 46 }
+{
+    let Odd::Entry {
+        node,
+        place,
+        kind,
+        ..
+    } = odd
+    else {
+        return Ok(odd);
+    };
+    let expected = match kind {
+        ReportFaultKind::Feeder => expected_feed(alloc, &told.nodes, node, place, packets)?,
+        _ => expected_of_caller(alloc, script, &told.nodes, &told.outcomes, node, place)?,
+    };
+    Ok(Odd::Entry {
+        node,
+        place,
+        kind,
+        expected,
+    })
+}
 
 // What is wrong with what a report tells, if anything is.
 fn odd_part(
@@ -35,17 +84,13 @@ fn odd_part(
 {
     let clients = script.clients();
     if told.outcomes.len() != clients as usize {
-        let kind = ReportFaultKind::Outcome;
-        return Ok(Some(Odd::Client {
-            client: clients,
-            behind: 0,
-            kind,
-        }));
+        return Ok(Some(odd_clients(alloc, told.outcomes.len(), clients)?));
     }
     let all = all_played(alloc, script)?;
     let played = all.as_slice();
     if let Some(odd) = odd_node(&told.nodes, clients, packets.len() as u64, played) {
-        return Ok(Some(odd));
+        let explained = explained(alloc, told, script, packets.len() as u64, odd)?;
+        return Ok(Some(explained));
     }
     let call = odd_client(alloc, script, &told.nodes, &told.outcomes)?;
     let reply = odd_play(alloc, &told.nodes, packets, played)?;
@@ -55,19 +100,29 @@ fn odd_part(
     }
 }
 
-fn fault_at(line: u64, kind: ReportFaultKind) -> Fault {
-    Fault { line, kind }
-}
-
 // The line of a fault.
 fn fault_of(told: &ReadReport, odd: Odd) -> Fault {
     match odd {
-        Odd::Entry { node, place, kind } => fault_at(line_of_entry(told, node, place), kind),
+        Odd::Entry {
+            node,
+            place,
+            kind,
+            expected,
+        } => Fault {
+            line: line_of_entry(told, node, place),
+            kind,
+            expected,
+        },
         Odd::Client {
             client,
             behind,
             kind,
-        } => fault_at(line_of_client(told, client, behind), kind),
+            expected,
+        } => Fault {
+            line: line_of_client(told, client, behind),
+            kind,
+            expected,
+        },
     }
 }
 
@@ -92,11 +147,12 @@ pub fn first_fault(
         (λ _. IsRightReport script.now packets.now (told_head head.now) bytes.now → ⊥)) }
 {
     let Some(told) = read_report(alloc, bytes)? else {
-        let line = line_of_text(alloc, bytes)?;
-        return Ok(Some(fault_at(line, ReportFaultKind::Text)));
+        let fault = fault_of_text(alloc, bytes)?;
+        return Ok(Some(fault));
     };
     if !is_same_head(&told.head, head) {
-        return Ok(Some(fault_at(line_of_head(&told, head), ReportFaultKind::Head)));
+        let fault = fault_of_head(alloc, &told, head)?;
+        return Ok(Some(fault));
     }
     // Each line is in the ranges of the grammar and each write is short, so each call of a run can be made again.
     let _lines = script.lines();

@@ -1,7 +1,19 @@
 // Where a client's walk stopped that isn't through, and what is told of it. Nothing is claimed of it.
+ghost use Rattle.report_check.specs.Imports.{IsRequestOf};
+
+use crate::expected::{Expected, add_call, expected_client};
 use crate::fault::{Odd, ReportFaultKind};
+use crate::walk_check::asked;
 use client_core::{ClientCore, Event};
+use client_script::{Line, Script};
 use dmx_calls::{Entry, Outcome};
+use std::alloc::{AllocError as NoMemory, Global};
+use text_forms::{write_decimal, write_node};
+
+// What the report tells of a call's moment where it is 0, and where it may be any.
+const AT_0: &[u8] = b" at=0";
+
+const AT_ANY: &[u8] = b" at=..";
 
 fn is_of(entry: &Entry, client: u32) -> bool {
     entry.who.checked_sub(1) == Some(client)
@@ -13,21 +25,24 @@ fn first_of(entries: &[Entry], client: u32) -> Option<&Entry> {
 }
 
 // The first of these entries of a client that is left on a node.
-fn left_over(client: u32, queues: &[&[Entry]]) -> Odd {
+fn left_over(alloc: Global, client: u32, queues: &[&[Entry]]) -> Result<Odd, NoMemory> {
     'nodes: for entries in queues {
         if let Some(entry) = first_of(entries, client) {
-            return Odd::Entry {
+            let expected = expected_client(alloc, b"no further call of c", client as u64)?;
+            return Ok(Odd::Entry {
                 node: entry.node,
                 place: entry.place,
                 kind: ReportFaultKind::Left,
-            };
+                expected: Some(expected),
+            });
         }
     }
-    Odd::Client {
+    Ok(Odd::Client {
         client,
         behind: 0,
         kind: ReportFaultKind::Call,
-    }
+        expected: None,
+    })
 }
 
 // The entries told of a node.
@@ -75,42 +90,119 @@ fn odd_event(
     behind: u64,
     nodes: &[(u32, Vec<Entry>)],
     queues: &[&[Entry]],
+    expected: Expected,
 ) -> Odd {
     let kind = ReportFaultKind::Call;
+    let expected = Some(expected);
     let entries = told_on(nodes, event.node);
     match before_left(entries, left_of(queues, event.node)) {
         [.., entry] if taken_of(client, nodes, queues) > event.step => Odd::Entry {
             node: entry.node,
             place: entry.place,
             kind,
+            expected,
         },
         _ => Odd::Client {
             client,
             behind,
             kind,
+            expected,
         },
     }
+}
+
+// The line of a client's command behind so many others.
+fn line_of_command(script: &Script, client: u32, through: usize) -> u32 {
+    let mut left = through;
+    'lines: for each in script.lines() {
+        match each {
+            Line::Command {
+                line,
+                client: of,
+                ..
+            } if *of == client => {
+                if left == 0 {
+                    return *line;
+                }
+                left -= 1;
+            }
+            _ => {}
+        }
+    }
+    0
+}
+
+// Puts a call that was made at the moment 0 behind these bytes, as one of any moment.
+fn add_at_any(out: &mut Vec<u8>, call: &[u8]) -> Result<(), NoMemory> {
+    'places: for place in 0..call.len() {
+        let (before, behind) = call.split_at(place);
+        if let Some(after) = behind.strip_prefix(AT_0) {
+            out.extend_from_slice(before)?;
+            out.extend_from_slice(AT_ANY)?;
+            return out.extend_from_slice(after);
+        }
+    }
+    out.extend_from_slice(call)
+}
+
+// The call that is asked for by a command of a client, and the command's line.
+fn expected_call(
+    alloc: Global,
+    core: &ClientCore,
+    event: &Event,
+    client: u32,
+    line: u32,
+) -> Result<Expected, NoMemory>
+    requires played { IsRequestOf core.now.plays event.now.want }
+{
+    let mut call = Vec::new(alloc);
+    let who = client.saturating_add(1);
+    add_call(
+        alloc,
+        &mut call,
+        who,
+        event.step,
+        asked(core, &event.want, 0),
+    )?;
+    let mut text = Vec::new(alloc);
+    add_at_any(&mut text, &call)?;
+    text.extend_from_slice(b" on node ")?;
+    write_node(&mut text, event.node)?;
+    text.extend_from_slice(b", by line ")?;
+    write_decimal(&mut text, line as u64)?;
+    text.extend_from_slice(b" of the script")?;
+    Ok(Expected::of(&text))
 }
 
 /// Where the walk of a client stopped: at an entry that isn't the call that is asked for, at one that is left, or, where the call
 /// isn't told, at what is told of its command.
 pub fn odd_call(
+    alloc: Global,
+    script: &Script,
     core: &ClientCore,
     client: u32,
     nodes: &[(u32, Vec<Entry>)],
     queues: &[&[Entry]],
     told: &[Outcome],
-) -> Odd {
+) -> Result<Odd, NoMemory> {
     let Some(event) = core.next() else {
-        return left_over(client, queues);
+        return left_over(alloc, client, queues);
     };
     let through = core.outcomes().len();
+    let line = line_of_command(script, client, through);
+    let expected = expected_call(alloc, core, &event, client, line)?;
     let behind = if through < told.len() {
         through as u64 + 1
     } else {
         0
     };
-    odd_event(&event, client, behind, nodes, queues)
+    Ok(odd_event(&event, client, behind, nodes, queues, expected))
+}
+
+/// The client whose call stands at this place of a node.
+pub fn caller_at(nodes: &[(u32, Vec<Entry>)], node: u32, place: u64) -> Option<u32> {
+    let entry = told_on(nodes, node).get(place as usize)?;
+    entry.who.checked_sub(1)
 }
 
 // The entry at which this stands.

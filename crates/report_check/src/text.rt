@@ -1,4 +1,7 @@
-// The line at which a text stops being a report. Nothing is claimed of it.
+// The line at which a text stops being a report, and what may stand there. Nothing is claimed of it.
+use crate::expected::Expected;
+use crate::fault::{Fault, ReportFaultKind};
+use crate::forms::adds_part;
 use report_read::{read_line, read_report};
 use std::alloc::{AllocError as NoMemory, Global};
 use text_forms::write_decimal;
@@ -14,6 +17,17 @@ const END: &[u8] = b"end\n";
 
 const READ_FAULT: &[u8] = b"fault read\n";
 
+// The forms of lines, and what may stand behind clients and nodes.
+const ROW: &[u8] =
+    b"pid P packets=N breaks=N duplicates=N errors=N, with ascending P up to 8191 and packets above 0";
+
+const COMMAND: &[u8] =
+    b"line L steps A..B OUTCOME: done, EMFILE, unbound, nostc or stc base=N value=N";
+
+const NODE: &[u8] = b"node N, with ascending N up to 31, or dvr behind them";
+
+const LAST: &[u8] = b", node .., end or fault read";
+
 // What the line before tells.
 #[derive(Clone, Copy, Debug, PartialEq, Eq, Drop)]
 enum TextPart {
@@ -26,7 +40,7 @@ enum TextPart {
 }
 
 // Lines that begin a report, as far as the next one asks for it.
-#[derive(Drop)]
+#[derive(Clone, Copy, Drop)]
 struct FirstLines<'a> {
     part: TextPart,
     // The line of the last PID, or of the last node.
@@ -133,19 +147,79 @@ impl<'a> FirstLines<'a> {
             _ => self.takes_entry(alloc, line),
         }
     }
+
+    // Puts what may stand in the line behind these, which is another one, behind these bytes.
+    fn add_next(&self, alloc: Global, out: &mut Vec<u8>, line: &[u8]) -> Result<(), NoMemory> {
+        match self.part {
+            TextPart::Nothing => out.extend_from_slice(b"dvbemu 1"),
+            TextPart::First => out.extend_from_slice(b"packets=N skipped=N rest=N"),
+            TextPart::End => out.extend_from_slice(b"nothing behind the last line"),
+            TextPart::Node => self.add_next_on_node(alloc, out, line),
+            _ if line.starts_with(b"node ") => out.extend_from_slice(NODE),
+            TextPart::Stream if line.starts_with(b"pid ") => out.extend_from_slice(ROW),
+            TextPart::Clients if line.starts_with(b"line ") => out.extend_from_slice(COMMAND),
+            TextPart::Stream => out.extend_from_slice(
+                b"pid .., client 0, node .., end or fault read",
+            ),
+            TextPart::Clients => {
+                out.extend_from_slice(b"line .., client ")?;
+                write_decimal(out, self.clients)?;
+                out.extend_from_slice(LAST)
+            }
+        }
+    }
+
+    // The same on a node: an entry, and where a client has called the node also the next node or the end.
+    fn add_next_on_node(
+        &self,
+        alloc: Global,
+        out: &mut Vec<u8>,
+        line: &[u8],
+    ) -> Result<(), NoMemory> {
+        if self.called && line.starts_with(b"node ") {
+            return out.extend_from_slice(NODE);
+        }
+        if adds_part(alloc, out, self.entries, line)? {
+            return Ok(());
+        }
+        write_decimal(out, self.entries)?;
+        out.extend_from_slice(b" WHO STEP ACT = REPLY")?;
+        match line {
+            [b'0'..=b'9', ..] => Ok(()),
+            _ if self.called => out.extend_from_slice(LAST),
+            _ => Ok(()),
+        }
+    }
 }
 
-/// The line at which a text stops being a report: the first with which no report begins, or the one in which the text ends.
-pub fn line_of_text(alloc: Global, text: &[u8]) -> Result<u64, NoMemory> {
+/// What is wrong with a text that is no report: the first line with which no report begins, or the one in which the text ends.
+pub fn fault_of_text(alloc: Global, text: &[u8]) -> Result<Fault, NoMemory> {
     let mut front = FirstLines::new();
     let mut line: u64 = 1;
     let mut rest = text;
+    let mut next = Vec::new(alloc);
     'lines: while let Some(end) = rest.iter().position(|byte| *byte == b'\n') {
+        let before = front;
         if !front.takes(alloc, &rest[..end + 1])? {
-            return Ok(line);
+            before.add_next(alloc, &mut next, &rest[..end])?;
+            return Ok(fault_at(line, &next));
         }
         line = line.saturating_add(1);
         rest = &rest[end + 1..];
     }
-    Ok(line)
+    if rest.is_empty() || front.part == TextPart::End {
+        front.add_next(alloc, &mut next, rest)?;
+    } else {
+        next.extend_from_slice(b"a line feed at the end of the line")?;
+    }
+    Ok(fault_at(line, &next))
+}
+
+// What is wrong in a line, where this may stand there.
+fn fault_at(line: u64, next: &[u8]) -> Fault {
+    Fault {
+        line,
+        kind: ReportFaultKind::Text,
+        expected: Some(Expected::of(next)),
+    }
 }

@@ -5,6 +5,7 @@ mod walk;
 
 ghost use Rattle.report_check.specs.WalkLaws.{WalkedIsDone, DoneIsWalked, WalksAreOne};
 
+pub(crate) use event::asked;
 pub use event::is_event;
 pub use walk::is_walked;
 

@@ -39,7 +39,6 @@ TOOLS = {
     "picture": "draws a report",
     "page": "writes a report as a page for a browser",
     "json": "writes a report as JSON Lines, and back",
-    "why": "what is wrong with a report: the line, what stands there, what the rules give",
     "bytes": "the bytes that were read from a node, as a file",
     "session": "makes a session of a report of `serve`, for `steps`",
     "test": "runs a folder of sessions, and compares their reports",
@@ -51,7 +50,10 @@ TOOLS = {
     "build": "proves and builds the program, or the server of `serve`, ahead of their first use",
 }
 # Words that there were, and where what they did is now.
-MOVED = {"hint": "`hint` is a part of `explain`: dvbemu explain REPORT SESSION"}
+MOVED = {
+    "hint": "`hint` is a part of `explain`: dvbemu explain REPORT SESSION",
+    "why": "`dvbemu check REPORT SESSION [STREAM ..]` tells what is wrong with a report now, and what was expected there",
+}
 STATUSES = "0; 1 where {}a file can't be read; 2 for wrong words; 3 where the script has a fault; 5 to 7 where reading, writing or " \
     "memory failed (docs/BEHAVIOUR.md, 'Statuses'); 128 and the number of a signal that has ended the program"
 READS = "{}a script, or a session that has its stream, and streams behind it; a script without its line `stream` gets it " \
@@ -79,7 +81,7 @@ def command(word: str) -> tool.Command:
     if word in ("steps", "run"):
         told = {"reads": READS.format("") + ALONE, "writes": "the report", "status": STATUSES.format(""), "example": f"dvbemu {word} my.script my.ts > my.report"}
     elif word == "check":
-        told = {"reads": READS.format("a report; and ") + ASKED, "writes": "yes or no; what is wrong is told on standard error",
+        told = {"reads": READS.format("a report; and ") + ASKED, "writes": "yes or no; what is wrong and what was expected is told on standard error",
                 "status": STATUSES.format("the answer is no or "), "example": "dvbemu check my.report my.script my.ts"}  # fmt: skip
     words = tool.Command(word, usage, f"{what[0].upper()}{what[1:]}.", teller="dvbemu", **told)
     if word in ("steps", "run", "selftest"):
@@ -194,19 +196,10 @@ def check_files(words: tool.Command, given: Namespace) -> int:
     progress.end()
     sys.stdout.buffer.write(run.output)
     sys.stdout.flush()
-    if status or run.output != b"no\n":
-        sys.stderr.buffer.write(run.told)
-        sys.stderr.flush()
-        tell_more(status, run, head, session, "check")
-        return ended(status)
+    sys.stderr.buffer.write(run.told)
+    sys.stderr.flush()
     tell_more(status, run, head, session, "check")
-    from . import reasons  # pylint: disable=import-outside-toplevel
-    work.begin(reasons.LOOKS)
-    progress.show(words.teller, work.text)
-    wrong = reasons.wrong(behind, text, given.packet or 188, run.told, work)
-    progress.end()
-    print(f"dvbemu: {report.name}: {wrong}", file=sys.stderr)
-    return 1
+    return 1 if run.output == b"no\n" and not status else ended(status)
 
 
 def direct(words: tool.Command, given: Namespace, word: str) -> NoReturn:

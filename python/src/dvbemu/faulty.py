@@ -15,13 +15,12 @@ if TYPE_CHECKING:
 
 PACKET = "a packet begins with G, 0x47: is the line `stream` missing in front of it?"
 REPORT = b"dvbemu 1\n"
-WITH_REPORT = "check", "why"
 LINE = re.compile(rb"(c[0-7] [a-z]+ \w+|(feed|tick) \d+)[^\n]*(?=\n)")
 
 
 def usage(word: str, names: Iterable[str]) -> str:
-    """How a word is called with these files behind its script; `check` and `why` have the report in front."""
-    return " ".join(["dvbemu", word, *(["REPORT"] if word in WITH_REPORT else []), "SCRIPT", *names])
+    """How a word is called with these files behind its script; `check` has the report in front."""
+    return " ".join(["dvbemu", word, *(["REPORT"] if word == "check" else []), "SCRIPT", *names])
 
 
 def words_of(names: Sequence[str], plain: str) -> str:
@@ -34,7 +33,7 @@ def of_file(script: bytes, names: Sequence[str], word: str) -> str:
     """What is told of a file that is no script."""
     if script.startswith(b"G"):
         return f"{names[0]}: a script comes first, and then the streams: {usage(word, names[:1])}"
-    if script.startswith(REPORT) and word in WITH_REPORT:
+    if script.startswith(REPORT) and word == "check":
         return f"{names[0]}: this is a report, which comes first: " + " ".join(["dvbemu", word, names[0], "SCRIPT", *names[1:]])
     if script.startswith(REPORT):
         return f"{names[0]}: this is a report, and no script: `dvbemu explain {names[0]}` tells it"

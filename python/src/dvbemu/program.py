@@ -32,7 +32,7 @@ class ScriptFault(Failed):
 
 @dataclass(frozen=True)
 class Verdict:
-    """Whether a report is right, and the reason where it isn't: the line, what stands there and what the rules give."""
+    """Whether a report is right, and the reason where it isn't: the line, the kind of what is wrong, and what was expected there."""
 
     is_right: bool
     reason: str
@@ -68,7 +68,7 @@ def check(report: Union[Report, bytes], script: Source, *streams: Stream, packet
         ran = _ran(["check", "--packet", str(packet), name, "-"], _session(script, streams), (file.fileno(),))
     if ran.stdout not in (b"yes\n", b"no\n"):
         raise _fault(ran)
-    return Verdict(ran.stdout == b"yes\n", ran.stderr.decode(errors="replace").strip().removeprefix(f"dvbemu: {name}: "))
+    return Verdict(ran.stdout == b"yes\n", ran.stderr.decode(errors="replace").strip().removeprefix("dvbemu: "))
 
 
 def told_by(words: Sequence[str], given: bytes) -> str:

@@ -60,7 +60,7 @@ fn passed(batch: Option<&Arc<Batch>>, now: u64) -> Act
 
 // What is asked for by this client, made at this moment.
 #[tactic(auto, using(crate::proofs::Asked::written_rules))]
-fn asked(core: &ClientCore, request: &ClientRequest, now: u64) -> Act
+pub(crate) fn asked(core: &ClientCore, request: &ClientRequest, now: u64) -> Act
     requires played { IsRequestOf core.now.plays request.now }
     ensures { result ≡ act_of (call_of core.now.plays request.now now) }
 {

@@ -17,10 +17,10 @@ MOST_PACKETS, MOST_BYTES = 64, 4294967295
 # What can be wrong with a report. Of what is wrong in one line the first of these is told.
 KINDS = "text", "head", "place", "feeder", "call", "left", "reply", "outcome"
 NOTHING_MORE = "nothing more of the feeder"
-# What a demux node and the dvr node are played again by; tools/lib/quick.py has others that answer alike.
+# What a demux node and the dvr node are played again by.
 NODES = second.Demux, second.Dvr
-# A reply of more letters than this is told by its first byte that is wrong, and so many bytes from it on.
-LONG, SHOWN = 100, 8
+# Data of more bytes than this is told by its first byte that is wrong, and so many bytes from it on; a text of more letters is cut.
+LONG, SHOWN, WHOLE = 48, 8, 240
 
 
 class Bad(Exception):
@@ -163,11 +163,13 @@ def wrong_feeding(node, entries, feeding, where):
 
 def wrong_copy(node, entries, first, others, where):
     """What is wrong where the feeder didn't do on a node what it did on the first one that is told."""
-    wanted = list(map(call_text, of_feeder(others)))
-    for place, entry in enumerate(of_feeder(entries)):
+    found, wanted = of_feeder(entries), list(map(call_text, of_feeder(others)))
+    for place, entry in enumerate(found):
         gives = wanted[place] if place < len(wanted) else NOTHING_MORE
         if call_text(entry) != gives:
             return where.entry("feeder", node, entry.place, call_text(entry), f"{gives}, as on {node_text(first)}")
+    if len(found) < len(wanted):
+        return where.entry("feeder", node, len(entries), NOTHING_MORE, f"{wanted[len(found)]}, as on {node_text(first)}")
     return None
 
 
@@ -175,8 +177,8 @@ def wrong_feeder(report, packets, batch, where):
     """What is wrong with the feeder's calls, node by node."""
     nodes = list(report.nodes.items())
     for node, entries in nodes:
-        yield wrong_feeding(node, entries, Feeding(len(packets), batch), where)
         yield wrong_copy(node, entries, *nodes[0], where)
+        yield wrong_feeding(node, entries, Feeding(len(packets), batch), where)
 
 
 # ------ the clients
@@ -205,22 +207,26 @@ class Walk(second.Run):
     def event(self, client, node, act):
         step = self.steps[client]
         if not self.left.get(node):
-            raise self.missing(f"c{client} {step} {second.act_text(act, '..')} on {node_text(node)}")
+            raise self.missing(self.asked(node, act))
         entry = self.left[node].popleft()
         at = reports.moment(entry)
         asked = f"c{client} {step} {second.act_text(act, '..' if at is None else at)}"
         if call_text(entry) != asked:
-            raise self.where.entry("call", node, entry.place, call_text(entry), asked)
+            raise self.where.entry("call", node, entry.place, call_text(entry), self.asked(node, act))
         self.steps[client] += 1
         return entry.reply
 
-    def missing(self, asked):
+    def asked(self, node, act):
+        """The next call for a reader, on this node, with the line of its command."""
+        line = self.lines[len(self.outcomes[self.client])][0]
+        return f"c{self.client} {self.steps[self.client]} {second.act_text(act, '..')} on {node_text(node)}, by line {line} of the script"
+
+    def missing(self, gives):
         """A call that stands nowhere. It is told at what became of its command, or at the client, or behind the clients."""
         clients, command = self.where.clients, len(self.outcomes[self.client])
         line = clients[self.client] if self.client < len(clients) else self.where.behind_clients
         if self.client < len(clients) and command < len(self.told[self.client]):
             line += 1 + command
-        gives = f"{asked}, by line {self.lines[command][0]} of the script"
         return Bad("call", line, f"client {self.client}", "no such call", gives, 1)
 
     def wrong(self):
@@ -285,11 +291,12 @@ def act_of(entry):
 
 def short(reply, other):
     """A reply for a reader; of long data the bytes from the first on that isn't in the other reply."""
-    if len(reply) <= LONG:
+    if not reply.startswith("data ") or len(reply) <= 5 + 2 * LONG:
         return reply
     digits, others = reply[5:], other[5:] if other.startswith("data ") else ""
-    first = len(os.path.commonprefix([digits, others])) // 2
-    return f"data of {len(digits) // 2} bytes, from byte {first} on {digits[2 * first : 2 * (first + SHOWN)]}.."
+    first, count = len(os.path.commonprefix([digits, others])) // 2, len(digits) // 2
+    shown = f", from byte {first} on {digits[2 * first : 2 * (first + SHOWN)]}" if first < count else ""
+    return f"data of {count} bytes{shown}{'..' * (count > first + SHOWN)}"
 
 
 def answered(node, entry, packets, played):
@@ -332,7 +339,7 @@ def wrong_parts(lines, packets, report, batch, where, nodes):
     return first_of([*found, *wrong_outcomes(report, outcomes, where)])
 
 
-# RULES: 0ee0654e A report that is checked
+# RULES: 8876ba46 A report that is checked
 def first_wrong(session, written, batch=None, packet=188, nodes=NODES, look=lambda line, last: None):
     """What is wrong first with a report of a run of a session; None where it is right. Its batches have 1 to 64 packets each, or,
     where a batch is given, all but the last have as many as that. Each packet takes up so many bytes of the stream. Raises
@@ -356,9 +363,10 @@ def judge(session, batch, written, packet=188):
 # ------ the command
 
 
-# RULES: 0ee0654e A report that is checked
+# RULES: 8876ba46 A report that is checked
 def answer(given, packet=188):
-    """What `check` gives over this input: its status, its output, and its line on standard error."""
+    """What `check` gives over this input: its status, its output, and its lines on standard error; the second one but of a text that is no
+    report, for which it has forms of its own."""
     first = re.match(rb"report (0|[1-9][0-9]*)\n", given[:40])
     if not first or int(first[1]) > MOST_BYTES:
         return 3, b"", b"dvbemu: script line 0: number\n"
@@ -371,4 +379,6 @@ def answer(given, packet=188):
         return 3, b"", f"dvbemu: script line {fault.line}: {fault.kind}\n".encode()
     if bad is None:
         return 0, b"yes\n", b""
-    return 0, b"no\n", f"dvbemu: report line {bad.line}: {bad.kind}\n".encode()
+    gives = bad.gives if len(bad.gives) <= WHOLE else f"{bad.gives[: WHOLE - 3]} .."
+    expected = "" if bad.kind == "text" else f"expected {gives}\n"
+    return 0, b"no\n", f"dvbemu: report line {bad.line}: {bad.kind}\n{expected}".encode()

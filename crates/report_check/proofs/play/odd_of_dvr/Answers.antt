@@ -3,14 +3,14 @@ use Rattle.report_check.proofs.Checking.{can_all}
 use Rattle.report_check.proofs.Playing.{dvr_plays}
 use Rattle.report_check.proofs.play.odd_of_dvr.Goals as goal
 
-pub is_played-requires-clause-callable : goal.is_played-requires-clause-callable
-is_played-requires-clause-callable g c lives within = can_all c.args.packets.now (map (λ p. p.items) c.args.played.now) c.requires.sound.0 (map told_entry c.args.entries.now) c.requires.sound.1
+pub first_other_reply-requires-clause-callable : goal.first_other_reply-requires-clause-callable
+first_other_reply-requires-clause-callable g c lives within = can_all c.args.packets.now (map (λ p. p.items) c.args.played.now) c.requires.sound.0 (map told_entry c.args.entries.now) c.requires.sound.1
 
-pub returns-then-branch : goal.returns-then-branch
-returns-then-branch g c = (
-  c.in_ok-is_played.ensures.legal c.if-branch.true (rules_at DEMUX_NODES) dvr_plays,
-  c.in_ok-is_played.ensures.found c.if-branch.true,
+pub returns-in-None : goal.returns-in-None
+returns-in-None g c = (
+  (rw c.in-None.is at c.in_ok-first_other_reply.ensures.legal) (rules_at DEMUX_NODES) dvr_plays,
+  rw c.in-None.is at c.in_ok-first_other_reply.ensures.found,
 )
 
 pub returns : goal.returns
-returns g c played = c.in_ok-is_played.ensures.other c.if-branch.false (rules_at DEMUX_NODES) dvr_plays played.0 played.1
+returns g c played = (rw c.in-Some.is at c.in_ok-first_other_reply.ensures.other) (rules_at DEMUX_NODES) dvr_plays played.0 played.1

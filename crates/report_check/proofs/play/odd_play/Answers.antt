@@ -24,13 +24,13 @@ odd_reply-requires-clause-sound c =
 
 pub returns-in-Some : goal.returns-in-Some
 returns-in-Some c all =
-    let never : IsPlayed (brought_from c.args.packets.now (map (λ p. p.items) c.args.played.now)) (record { node = c.node-item.result.0; entries = map told_entry c.deref.result.now }) → ⊥ = rw c.in-Some.is at c.in_ok-place.ensures in
+    let never : IsPlayed (brought_from c.args.packets.now (map (λ p. p.items) c.args.played.now)) (record { node = c.node-item.result.0; entries = map told_entry c.deref.result.now }) → ⊥ = rw c.in-Some.is at c.in_ok-other.ensures in
     let here : IsPlayed (brought_from c.args.packets.now (map (λ p. p.items) c.args.played.now)) (told_node c.node-item.result) = at_front told_node (IsPlayed (brought_from c.args.packets.now (map (λ p. p.items) c.args.played.now))) c.nodes.rest.now c.node-item.result _ c.in-len1-up.len_at_least c.node-item.is (c.nodes.invariant.on all) in
     never (subst (λ (es : List ToldEntry). IsPlayed (brought_from c.args.packets.now (map (λ p. p.items) c.args.played.now)) (record { node = c.node-item.result.0; entries = map told_entry es })) (sym c.deref.ensures.value) here)
 
 pub nodes-preserved : goal.nodes-preserved
 nodes-preserved c =
-    let is : IsPlayed (brought_from c.args.packets.now (map (λ p. p.items) c.args.played.now)) (record { node = c.node-item.result.0; entries = map told_entry c.deref.result.now }) = rw c.in_default-2.is at c.in_ok-place.ensures in
+    let is : IsPlayed (brought_from c.args.packets.now (map (λ p. p.items) c.args.played.now)) (record { node = c.node-item.result.0; entries = map told_entry c.deref.result.now }) = rw c.in_default-2.is at c.in_ok-other.ensures in
     let here : IsPlayed (brought_from c.args.packets.now (map (λ p. p.items) c.args.played.now)) (told_node c.node-item.result) = subst (λ (es : List ToldEntry). IsPlayed (brought_from c.args.packets.now (map (λ p. p.items) c.args.played.now)) (record { node = c.node-item.result.0; entries = map told_entry es })) c.deref.ensures.value is in
     record {
       nodes = at_behind told_node IsFew c.nodes.rest.now c.node-item.result _ c.in-len1-up.len_at_least c.node-item.is c.nodes.invariant.nodes;

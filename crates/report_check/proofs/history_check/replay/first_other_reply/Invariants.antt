@@ -1,7 +1,7 @@
 use Rattle.report_check.proofs.Imports.{◌≡◌, map, take, ◌≢◌, told_entry, NoMemory, brought_from}
 use Rattle.std.proofs.Common.{All}
 use Rattle.report_check.specs.Playing.{played}
-use Rattle.report_check.proofs.history_check.replay.is_played.Given as goal
+use Rattle.report_check.proofs.history_check.replay.first_other_reply.Given as goal
 
 abbrev pub invariant-entries : goal.invariant-entries
 invariant-entries g l = record {

@@ -2,7 +2,7 @@
 use Rattle.report_check.proofs.Imports.{rules, ◌∷◌, ◌++◌, [], List, map, take, sym, subst, ◌≢◌, All-push, response_of, told_entry, Entry, entry_of, Invocation, May, LogEntry, filled, NoMemory, IsCallable, brought_from, ◌≡◌, ◌<◌, ◌+◌, ℕ, length, drop, get_or, refl, ap, ◌∙◌, add-one, take-append-drop, drop-cons, map-append, length-map, get_or-map, take_more, All-get_or, ToldEntry, IsLegalFor, Sources, filled_act, filled_entry, Rules, may_at}
 use Rattle.std.proofs.Common.{All}
 use Rattle.report_check.specs.Playing.{played}
-use Rattle.report_check.proofs.history_check.replay.is_played.Goals as goal
+use Rattle.report_check.proofs.history_check.replay.first_other_reply.Goals as goal
 
 -- with one entry more behind the others
 pub played_more : (packets : Sources) (xs : List LogEntry) (e : LogEntry) → played packets (xs ++ e ∷ []) ≡ played packets xs ++ filled_entry packets e ∷ []
@@ -46,25 +46,25 @@ call_told-requires-clause-callable g c =
     at_told (λ e. IsCallable (brought_from c.args.stream.now (map (λ p. p.items) c.args.played.now) e.who) e.act) c.args.entries.now c.entries.entry-index c.entry-item.result
     (record { below = c.entries-test.true; is = c.entry-item.is }) c.requires.callable
 
-pub returns-then-not-branch-clause-other : goal.returns-then-not-branch-clause-other
-returns-then-not-branch-clause-other g c f rules plays legal answered =
+pub returns-in-Some-clause-other : goal.returns-in-Some-clause-other
+returns-in-Some-clause-other g c node plays legal answered =
     let at : IsAt c.args.entries.now c.entries.entry-index c.entry-item.result = record { below = c.entries-test.true; is = c.entry-item.is } in
-    let may = may_there rules (brought_from c.args.stream.now (map (λ p. p.items) c.args.played.now)) c.args.entries.now c.entries.entry-index c.entry-item.result at legal in
+    let may = may_there node (brought_from c.args.stream.now (map (λ p. p.items) c.args.played.now)) c.args.entries.now c.entries.entry-index c.entry-item.result at legal in
     let some = at_told (λ e. e.response ≢ NoMemory) c.args.entries.now c.entries.entry-index c.entry-item.result at answered in
-    c.in_ok-agrees.ensures.differs c.if-not-branch.true some rules plays (played (brought_from c.args.stream.now (map (λ p. p.items) c.args.played.now)) (map told_entry (take c.entries.entry-index c.args.entries.now))) c.entries.invariant.stands
-    (subst (λ (i : Invocation). May rules (filled (brought_from c.args.stream.now (map (λ p. p.items) c.args.played.now)) (map told_entry (take c.entries.entry-index c.args.entries.now))) c.entry-item.result.who i (response_of c.entry-item.result.reply)) (sym c.in_ok-call.ensures) may)
+    (rw c.in-Some.is at c.in_ok-reply.ensures.differs) some node plays (played (brought_from c.args.stream.now (map (λ p. p.items) c.args.played.now)) (map told_entry (take c.entries.entry-index c.args.entries.now))) c.entries.invariant.stands
+    (subst (λ (i : Invocation). May node (filled (brought_from c.args.stream.now (map (λ p. p.items) c.args.played.now)) (map told_entry (take c.entries.entry-index c.args.entries.now))) c.entry-item.result.who i (response_of c.entry-item.result.reply)) (sym c.in_ok-call.ensures) may)
 
 pub entries-preserved : goal.entries-preserved
 entries-preserved g c =
     let at : IsAt c.args.entries.now c.entries.entry-index c.entry-item.result = record { below = c.entries-test.true; is = c.entry-item.is } in
     let next = taken_next c.args.entries.now c.entries.entry-index c.entry-item.result at in
-    let more = c.in_ok-agrees.ensures.agrees c.if-not-branch.false in
+    let more = rw c.in_default.is at c.in_ok-reply.ensures.agrees in
     let made = more.1 (played (brought_from c.args.stream.now (map (λ p. p.items) c.args.played.now)) (map told_entry (take c.entries.entry-index c.args.entries.now))) c.entries.invariant.stands in
-    let stands = subst (λ (i : Invocation). g.M.Machine.stands_for c.agrees.new.core (played (brought_from c.args.stream.now (map (λ p. p.items) c.args.played.now)) (map told_entry (take c.entries.entry-index c.args.entries.now)) ++ entry_of c.entry-item.result.who i (response_of c.entry-item.result.reply) ∷ [])) c.in_ok-call.ensures made in
+    let stands = subst (λ (i : Invocation). g.M.Machine.stands_for c.other_reply.new.core (played (brought_from c.args.stream.now (map (λ p. p.items) c.args.played.now)) (map told_entry (take c.entries.entry-index c.args.entries.now)) ++ entry_of c.entry-item.result.who i (response_of c.entry-item.result.reply) ∷ [])) c.in_ok-call.ensures made in
     let all = All-push (λ e. e.response ≢ NoMemory) (map told_entry (take c.entries.entry-index c.args.entries.now)) (told_entry c.entry-item.result) c.entries.invariant.answered more.0 in
     record {
-      stands = subst (λ (xs : List LogEntry). g.M.Machine.stands_for c.agrees.new.core (played (brought_from c.args.stream.now (map (λ p. p.items) c.args.played.now)) xs)) (sym next)
-          (subst (λ (h : List Entry). g.M.Machine.stands_for c.agrees.new.core h) (sym (played_more (brought_from c.args.stream.now (map (λ p. p.items) c.args.played.now)) (map told_entry (take c.entries.entry-index c.args.entries.now)) (told_entry c.entry-item.result))) stands);
+      stands = subst (λ (xs : List LogEntry). g.M.Machine.stands_for c.other_reply.new.core (played (brought_from c.args.stream.now (map (λ p. p.items) c.args.played.now)) xs)) (sym next)
+          (subst (λ (h : List Entry). g.M.Machine.stands_for c.other_reply.new.core h) (sym (played_more (brought_from c.args.stream.now (map (λ p. p.items) c.args.played.now)) (map told_entry (take c.entries.entry-index c.args.entries.now)) (told_entry c.entry-item.result))) stands);
       answered = subst (λ (xs : List LogEntry). All (λ e. e.response ≢ NoMemory) xs) (sym next) all;
       calls = search rules;
     }

@@ -1,5 +1,5 @@
 use Rattle.std.proofs.Common.{length}
-use Rattle.report_check.proofs.text.line_of_text.Given as goal
+use Rattle.report_check.proofs.text.fault_of_text.Given as goal
 
 abbrev pub decreases-lines : goal.decreases-lines
 decreases-lines l = length l.rest
