@@ -3,7 +3,6 @@ with recordings at their frequencies and with two adapters, and its end where th
 `python3 -W error`. The lines and the values that are wanted stand here, by docs/BEHAVIOUR.md. Each function has type hints, and mypy finds
 no fault.
 """
-import ast
 import glob
 import os
 import shutil
@@ -20,8 +19,6 @@ from stations import Station
 pytestmark = pytest.mark.filterwarnings("error")
 
 PYTHON = ROOT / "python" / "src"
-# The modules that programs import.
-TYPED = "__init__", "adapter", "abi", "program", "pytest_plugin", "report", "script"
 TUNER = str(ROOT / "serve" / "tuner.py")
 STREAM = str(EXAMPLES / "programs" / "scan.ts")
 # The services of two stations, each at its frequency.
@@ -335,23 +332,8 @@ def test_killed(server, tmp_path):
 # ------ types
 
 
-def unhinted(path):
-    """The functions of a file without a type for an argument or for what they give."""
-    with open(path, encoding="utf-8") as file:
-        for found in ast.walk(ast.parse(file.read())):
-            if isinstance(found, ast.FunctionDef):
-                arguments = [one for one in [*found.args.args, *found.args.kwonlyargs] if one.arg not in ("self", "cls")]
-                if found.returns is None or any(one.annotation is None for one in arguments):
-                    yield f"{os.path.basename(path)}: {found.name}"
-
-
-@pytest.mark.parametrize("name", TYPED)
-def test_hints(name):
-    assert list(unhinted(PYTHON / "dvbemu" / f"{name}.py")) == []
-
-
 def test_mypy(tmp_path):
-    """By the settings of python/pyproject.toml, which name the parts that have types."""
+    """By the settings of python/pyproject.toml."""
     needs("mypy")
     ran = subprocess.run(["mypy", "--cache-dir", tmp_path], cwd=PYTHON.parent, capture_output=True, text=True, check=False)
     assert ran.returncode == 0, ran.stdout + ran.stderr

@@ -9,7 +9,7 @@ import random
 import re
 
 from dvbemu import reports
-from dvbemu.oracle.judge import MOST_PACKETS, node_text, outcome_text
+from .judge import MOST_PACKETS, node_text, outcome_text
 
 RIGHT, WRONG, OPEN = True, False, None
 BYTES = "0123456789abcdef=. -\n"

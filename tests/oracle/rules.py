@@ -17,7 +17,7 @@ import sys
 from checks import ROOT, Tally
 
 DOCUMENTS = "BEHAVIOUR.md", "MADE.md"
-PROGRAMS = "python/src/dvbemu/oracle/second.py", "python/src/dvbemu/oracle/judge.py", "tests/oracle/made.py", "tests/oracle/fuzz.py"
+PROGRAMS = "tests/oracle/second.py", "tests/oracle/judge.py", "tests/oracle/made.py", "tests/oracle/fuzz.py"
 LINE = re.compile(r"^( *# RULES: )([0-9a-f]{8}) (.+)$", re.M)
 # The lines under a rule that say where it stands, with the line above them that names it, and those that go on with one of them.
 PLACES = re.compile(r"(?:^[^\n]*:\n)?(?:^- (?:Defined|Done by|Shown by|Must fail): .*\n(?:^  .*\n)*)+", re.M)
