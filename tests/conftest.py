@@ -35,8 +35,6 @@ SERVER = ROOT / "crates" / "dvb_serve" / "out" / "dvb_serve"
 STARTS = {*command_line.PROVED, "serve", "calls", "test"}
 # The seconds in which a command must have ended.
 ENDS = 60
-# The Pythons of this machine, one of which may have a library that another hasn't.
-PYTHONS = sorted({sys.executable, *(os.path.join(folder, "python3") for folder in os.environ["PATH"].split(os.pathsep))})
 EMPTY = b"dvbemu 1\npackets=0 skipped=0 rest=0\nend\n"
 
 # (what a shell or nohup starts in the background passes these over, and so would all that is started here)

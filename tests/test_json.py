@@ -1,23 +1,12 @@
-"""`dvbemu json`: each report of examples/ as JSON Lines and back, byte for byte, each line against docs/report.schema.json, some lines by
-hand, and texts that make no report.
-
-The schema is read by a few lines that stand here, which know the words that it uses and no other; where the library jsonschema (Debian:
-python3-jsonschema) is there, it must find the same of the lines of one report."""
+"""`dvbemu json`: each report of examples/ as JSON Lines and back, byte for byte, each line against docs/report.schema.json by the library
+jsonschema, some lines by hand, and texts that make no report."""
 import json
-import os
-import re
-import subprocess
 
 import pytest
-from conftest import EXAMPLES, PYTHONS, ROOT
+from conftest import EXAMPLES, ROOT, examples
+from dvbemu import reports
 
 SCHEMA = json.loads((ROOT / "docs" / "report.schema.json").read_text())
-REPORTS = sorted(EXAMPLES.glob("*/*.report"))
-KNOWN = {
-    "$schema", "title", "description", "oneOf", "$defs", "$ref", "type", "properties", "required", "additionalProperties", "const", "enum",
-    "items", "minItems", "maxItems", "minimum", "maximum", "pattern",
-}  # fmt: skip
-TYPES = {"object": dict, "array": list, "string": str, "integer": int, "boolean": bool}
 # Lines of reports and the objects that they are, by docs/JSON.md.
 BY_HAND = [
     ("packets=3 skipped=0 rest=7", {"kind": "stream", "format": "dvbemu 1", "packets": 3, "skipped": 0, "rest": 7}),
@@ -74,42 +63,20 @@ UNLIKE = [
 ]  # fmt: skip
 
 
-def number_fits(schema, value):
-    """Whether a number, a text or a list is within the bounds that a schema names."""
-    size = len(value) if isinstance(value, list) else None
-    is_number = isinstance(value, int) and not isinstance(value, bool)
-    return not (
-        is_number and not schema.get("minimum", value) <= value <= schema.get("maximum", value)
-        or size is not None and not schema.get("minItems", size) <= size <= schema.get("maxItems", size)
-        or isinstance(value, str) and not re.search(schema.get("pattern", ""), value)
-    )  # fmt: skip
+@pytest.fixture(scope="module")
+def fits():
+    """Whether an object is one of the schema."""
+    library = pytest.importorskip("jsonschema", reason="no library jsonschema (Debian: python3-jsonschema)")
+    library.Draft202012Validator.check_schema(SCHEMA)
+    return library.Draft202012Validator(SCHEMA).is_valid
 
 
-def is_of(name, value):
-    """Whether a value is of a type; true and false are no numbers."""
-    return isinstance(value, TYPES[name]) and (name != "integer" or not isinstance(value, bool))
-
-
-def fits(schema, value):
-    """Whether a value is as a schema asks."""
-    unknown = set(schema) - KNOWN
-    if unknown:
-        raise AssertionError(f"the schema uses {unknown}, which nothing here knows")
-    if "$ref" in schema:
-        return fits(SCHEMA["$defs"][schema["$ref"].rpartition("/")[2]], value)
-    if "oneOf" in schema and sum(fits(one, value) for one in schema["oneOf"]) != 1:
-        return False
-    if "const" in schema and value != schema["const"] or "enum" in schema and value not in schema["enum"]:
-        return False
-    if "type" in schema and not is_of(schema["type"], value) or not number_fits(schema, value):
-        return False
-    if isinstance(value, list):
-        return all(fits(schema.get("items", {}), one) for one in value)
-    if not isinstance(value, dict):
-        return True
-    named = schema.get("properties", {})
-    closed = schema.get("additionalProperties", True) or set(value) <= set(named)
-    return closed and set(schema.get("required", ())) <= set(value) and all(fits(named.get(name, {}), one) for name, one in value.items())
+def forms_in(part):
+    """What stands behind each name of the acts or replies in the schema, in its order."""
+    for one in SCHEMA["$defs"][part]["oneOf"]:
+        name, *places = one["properties"].items()
+        for word in name[1].get("enum", [name[1].get("const")]):
+            yield word, [place for place, _ in places]
 
 
 @pytest.fixture
@@ -120,14 +87,18 @@ def lines(room):
     return out.decode().splitlines()
 
 
-@pytest.mark.parametrize("path", REPORTS, ids=[f"{path.parent.name}/{path.stem}" for path in REPORTS])
-def test_examples(room, path):
-    report = path.read_bytes()
+@pytest.mark.parametrize("name", examples(".report"))
+def test_examples(room, name):
+    path = EXAMPLES / f"{name}.report"
     told = room.call(f"json {path}").out
-    objects = [json.loads(line) for line in told.splitlines()]
-    assert objects and all(fits(SCHEMA, one) for one in objects)
-    assert len(objects) == report.count(b"\n") - 1
-    assert room.call("json --back -", told) == (0, report, "")
+    assert told.count(b"\n") == path.read_bytes().count(b"\n") - 1
+    assert room.call("json --back -", told) == (0, path.read_bytes(), "")
+
+
+@pytest.mark.parametrize("name", examples(".report"))
+def test_schema(room, fits, name):
+    told = room.call(f"json {EXAMPLES / name}.report").out.splitlines()
+    assert told and all(fits(json.loads(line)) for line in told)
 
 
 @pytest.mark.parametrize("line, wanted", BY_HAND, ids=[line for line, _ in BY_HAND])
@@ -150,21 +121,14 @@ def test_json_lines_without_back(room, lines):
     assert (status, out) == (1, b"") and "these are JSON Lines: `dvbemu json --back` writes their report" in told
 
 
+@pytest.mark.parametrize("part, forms, more", [
+    ("act", reports.ACTS, {"section": ["pid", "timeout", "flags", "at", "bytes"]}), ("reply", reports.REPLIES, {"data": ["data"]}),
+])  # fmt: skip
+def test_schema_has_the_forms(part, forms, more):
+    assert dict(forms_in(part)) == {name: [place.rstrip("=") for place in form] for name, form in forms.items()} | more
+
+
 @pytest.mark.parametrize("old, new", UNLIKE)
-def test_schema_refuses(lines, old, new):
-    assert any(old in line for line in lines)
-    assert not all(fits(SCHEMA, json.loads(line.replace(old, new))) for line in lines)
-
-
-def test_library(lines):
-    script = "import json, sys, jsonschema\nvalidator = jsonschema.Draft202012Validator(json.load(open(sys.argv[1])))\n"
-    script += "print(*(int(validator.is_valid(json.loads(line))) for line in sys.stdin))"
-    changed = [line.replace(old, new) for old, new in UNLIKE for line in lines if old in line]
-    given = "".join(line + "\n" for line in lines + changed)
-    for python in filter(os.path.exists, PYTHONS):
-        words = [python, "-c", script, ROOT / "docs" / "report.schema.json"]
-        found = subprocess.run(words, input=given, capture_output=True, text=True, check=False)
-        if found.returncode == 0:
-            assert found.stdout.split() == ["1"] * len(lines) + ["0"] * len(changed)
-            return
-    pytest.skip("no library jsonschema (Debian: python3-jsonschema)")
+def test_schema_refuses(fits, lines, old, new):
+    assert all(fits(json.loads(line)) for line in lines) and any(old in line for line in lines)
+    assert not all(fits(json.loads(line.replace(old, new))) for line in lines)

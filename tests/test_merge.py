@@ -1,10 +1,12 @@
 """`dvbemu merge` over folders that are made of reports: of served.report, and of one of two programs that was worked out by hand. Each
 becomes the same report again, byte for byte; folders with a line too few, torn or wrong are told."""
+import io
 import os
 import re
 
 import pytest
 from conftest import SERVED
+from dvbemu import reports
 
 DONE = "done drop=0..0 tap=keep"
 PASS = "{} feed {} pass input=frontend first={} count={} at={} = passed\n"
@@ -32,25 +34,16 @@ FULL = ("dvbemu 1\npackets=0 skipped=0 rest=0\nclient 0\nline 1 steps 0..32 EMFI
         + "fault read\n")  # fmt: skip
 
 
-def parts_of(report):
-    """The files that a server writes whose report this is."""
-    lines, node = report.splitlines(keepends=True), None
-    calls, batches, count = {}, {}, len(re.findall("^client ", report, re.M))
-    for line in lines:
-        entry = re.match(r"\d+ (\w+) (\d+) ", line)
-        fed = re.search(r"first=(\d+) count=(\d+) at=(\d+)", line)
-        if line.startswith("node "):
-            node = line[5:-1]
-        elif node and entry and entry[1] != "feed":
-            calls.setdefault(int(entry[1][1:]), {})[int(entry[2])] = f"{node} {line}"
-        elif node and fed:
-            batches[int(entry[2])] = " ".join(fed.groups()) + "\n"
-    head = re.match(r"dvbemu 1\npackets=.*\n(pid .*\n)*", report)[0] + lines[-1]
-    # (the lines of a server are taken from the last seat on)
-    files = {f"{count - who}.calls": "".join(calls.get(who, {}).values()) for who in range(count)}
-    for who, own in calls.items():
-        files[f"{count - who}.calls"] = "".join(own[step] for step in sorted(own))
-    return {**files, "batches": "".join(batches.values()), "head": head}
+def parts_of(text):
+    """The files that a server writes whose report this is: lines of a server are taken from the last seat on."""
+    report = reports.read(io.StringIO(text))
+    seats = {f"c{client}": f"{len(report.clients) - client}.calls" for client in range(len(report.clients))}
+    calls = sorted((entry.step, seats[entry.who], f"{reports.node_text(node)} {entry.text()}\n")
+                   for node, entries in report.nodes.items() for entry in entries if entry.who != "feed")  # fmt: skip
+    batches = re.findall(r"^\d+ feed \d+ pass input=frontend first=(\d+) count=(\d+) at=(\d+) ", text, re.M)
+    files = {name: "".join(line for _, seat, line in calls if seat == name) for name in seats.values()}
+    head = "".join(reports.write(report, (), ()))
+    return {**files, "batches": "".join(" ".join(batch) + "\n" for batch in dict.fromkeys(batches)), "head": head}
 
 
 def changed(name, old, new):

@@ -65,7 +65,7 @@ class Left:
         for name, end in planned.items():
             part = min(max((self.proved - done) / (self.seconds[name] or 1), 0), 1)
             done, time_done = done + self.seconds[name], time_done + part * (end - time_done)
-        if time_done < FIRST * whole:
+        if time_done <= FIRST * whole:
             return None
         return max((whole - time_done) / time_done * (self.last - self.begun) - (self.now() - self.last), 0) / 60
 

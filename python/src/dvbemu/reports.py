@@ -9,6 +9,7 @@ import io
 import re
 from collections.abc import Sequence
 from functools import lru_cache
+from sys import intern
 from typing import TYPE_CHECKING, NamedTuple, TypeVar, cast
 
 from . import abi
@@ -137,10 +138,10 @@ class Entry(NamedTuple):
 
     @classmethod
     def of(cls, text: str) -> Entry:
-        """The entry that a line is, which was read before."""
+        """The entry that a line is, which was read before. Callers and acts that are alike are one text."""
         place, who, step, told = text.split(" ", 3)
         act, _, reply = told.partition(" = ")
-        return cls(int(place), who, int(step), act, reply)
+        return cls(int(place), intern(who), int(step), intern(act), reply)
 
 
 class Rows(Sequence[R]):

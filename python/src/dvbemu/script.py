@@ -3,6 +3,7 @@ from __future__ import annotations
 
 import enum
 import operator
+import re
 import reprlib
 
 from . import naming
@@ -186,10 +187,10 @@ def _target(device: str) -> str:
     """A device as a script names it."""
     _see_text(device, "device")
     try:
-        target: str = naming.plain_target(device)
+        target = naming.plain_target(device)
     except naming.Fault as fault:
         raise ValueError(f"{device}: expected {fault.expected}") from None
-    if target != "dvr" and not (target[:1] in "nh" and target[1:].isdecimal() and int(target[1:]) < 32 and target[1:] == str(int(target[1:]))):
+    if not re.fullmatch("dvr|[nh]([12]?[0-9]|3[01])", target):
         raise ValueError(f"{device}: expected demux0 to demux31, h0 to h31, or dvr0")
     return target
 
@@ -202,9 +203,8 @@ def _filter_words(filter: bytes, mask: bytes, mode: bytes, fields: list[str]) ->
         raise ValueError("a filter has at most 16 bytes")
     if fields:
         try:
-            words: list[str] = naming.plain_filter(fields)
+            return naming.plain_filter(fields)
         except naming.Fault as fault:
             raise ValueError(f"{fault.word}: expected {fault.expected}") from None
-        return words
     whole = zip(*(part.ljust(PLACES, b"\0") for part in (filter, mask, mode)))
     return filter_words((place, three) for place, three in enumerate(whole) if any(three))
