@@ -345,7 +345,7 @@ def test_first_commands(as_another):
     assert [name for name in os.listdir(place) if name.startswith("dvbemu-")] == []
     place, ran = as_another(ALL)
     assert (ran.stdout, ran.stderr) == ("", "")
-    assert len(bytes_of(os.path.join(place, "words")).split()) >= 20
+    assert len(bytes_of(os.path.join(place, "words")).split()) >= 19
 
 
 @pytest.mark.alone
