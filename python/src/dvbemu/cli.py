@@ -128,7 +128,7 @@ def ended(status: int) -> int:
         return status
     if -status in (signal.SIGINT, signal.SIGPIPE):
         return standard.end_by(-status)
-    print(f"dvbemu: the program was ended by signal {-status}", file=sys.stderr)
+    print(f"dvbemu: the program {standard.how(status)}", file=sys.stderr)
     return 128 - status
 
 
