@@ -86,11 +86,13 @@ EXPORT int close(int fd)
 	init();
 	if (is_own(fd))
 		return (int)told(-EBADF);
-	int result = NEXT(close)(fd), saved = errno;
-	if (is_marked(fd)) {
+	/* (the mark goes first: as soon as the descriptor is closed another thread may open a device in its place) */
+	int was = is_marked(fd);
+	if (was)
 		unmark(fd);
+	int result = NEXT(close)(fd), saved = errno;
+	if (was)
 		sweep();
-	}
 	errno = saved;
 	return result;
 }
@@ -100,6 +102,8 @@ EXPORT int close_range(unsigned first, unsigned last, int flags)
 {
 	int saved = errno, end = marks_end();
 	init();
+	for (int fd = (int)first; fd < end && (unsigned)fd <= last && !flags; fd++)
+		unmark(fd);
 	for (unsigned from = first; from <= last;) {
 		unsigned to = from;
 		while (to < last && to < (unsigned)sysconf(_SC_OPEN_MAX) && !is_own((int)to + 1))
@@ -111,8 +115,6 @@ EXPORT int close_range(unsigned first, unsigned last, int flags)
 		if (to == last)
 			break;
 	}
-	for (int fd = (int)first; fd < end && (unsigned)fd <= last && !flags; fd++)
-		unmark(fd);
 	sweep();
 	errno = saved;
 	return 0;

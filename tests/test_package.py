@@ -324,7 +324,7 @@ def test_first_commands(as_another):
     assert [name for name in os.listdir(place) if name.startswith("dvbemu-")] == []
     place, ran = as_another(ALL)
     assert (ran.stdout, ran.stderr) == ("", "")
-    assert len(Path(place, "words").read_text().split()) >= 20
+    assert len(Path(place, "words").read_text().split()) >= 19
 
 
 @pytest.mark.alone

@@ -51,11 +51,6 @@ def ran(words: Sequence[str], given: Iterable[bytes]) -> subprocess.CompletedPro
         return subprocess.run(words, stdin=file, capture_output=True, check=False, env=environment(words[1]))
 
 
-def how(status: int) -> str:
-    """How a process has ended that has this status."""
-    return f"was ended by signal {-status}" if status < 0 else f"ends with the status {status}"
-
-
 class Run:
     """The program over what is written to it: what it tells on standard error, on standard output where that is wanted, and its status.
     A signal that ends this ends the program first: it never takes what came till then for the whole."""

@@ -23,6 +23,9 @@ if TYPE_CHECKING:
     from . import inputs
     from . import progress
 
+ABOUT = "/dev/dvb/adapter0 without a card: DVB programs, or their calls as lines, on a recording."
+ABOVE = "Proved, by the toolchain that --version names (docs/PROVED.md):"
+BELOW = "`dvbemu WORD --help` tells the rest: files, options, statuses, an example. `dvbemu --version` tells the version."
 BATCH, PACKET = "[--batch B]", "[--packet P]"
 # The words of the proved program: what stands behind each, and what it does.
 PROVED = {
@@ -64,13 +67,8 @@ ASKED = "Without a file standard input is the line `report N`, a report of N byt
 
 def whole_help() -> str:
     """The help of all words."""
-    lines = ["usage: dvbemu WORD ..", "", "/dev/dvb/adapter0 without a card: DVB programs, or their calls as lines, on a recording.", ""]
-    lines += ["Proved, by the toolchain that --version names (docs/PROVED.md):"]
-    lines += [f"  {word:9} {what}" for word, (_, what) in PROVED.items()]
-    lines += ["", "Tested:"]
-    lines += [f"  {word:9} {what}" for word, what in TOOLS.items()]
-    lines += ["", "`dvbemu WORD --help` tells the rest: files, options, statuses, an example. `dvbemu --version` tells the version."]
-    return "\n".join(lines) + "\n"
+    proved, tested = ("".join(f"  {word:9} {summary(word)}\n" for word in words) for words in ([*PROVED], [*TOOLS]))
+    return f"usage: dvbemu WORD ..\n\n{ABOUT}\n\n{ABOVE}\n{proved}\nTested:\n{tested}\n{BELOW}\n"
 
 
 def command(word: str) -> tool.Command:
@@ -129,7 +127,7 @@ def ended(status: int) -> int:
         return status
     if -status in (signal.SIGINT, signal.SIGPIPE):
         return standard.end_by(-status)
-    print(f"dvbemu: the program was ended by signal {-status}", file=sys.stderr)
+    print(f"dvbemu: the program {standard.how(status)}", file=sys.stderr)
     return 128 - status
 
 

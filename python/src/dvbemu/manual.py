@@ -16,8 +16,6 @@ if TYPE_CHECKING:
     from typing import Iterator
 
 SEE = "dvbemu-script(5), dvbemu-report(5)"
-ABOUT = "/dev/dvb/adapter0 without a card: DVB programs, or their calls as lines, on a recording."
-PROVED = "Proved, by the toolchain that \\-\\-version names:"
 # The values behind an option, by what stands for them.
 VALUES = {"NODE": [*(f"n{node}" for node in range(32)), "dvr"], "CLIENT": [f"c{client}" for client in range(8)]}
 BASH = """\
@@ -65,8 +63,8 @@ def head(name: str, what: str) -> str:
 
 def form(action: argparse.Action) -> str:
     """How an option or a file stands on the command line."""
-    value = [f"\\fI{plain(str(action.metavar))}\\fR"] if action.metavar else []
-    return " ".join([*[", ".join(f"\\fB{plain(name)}\\fR" for name in action.option_strings)][: len(action.option_strings)], *value])
+    names, value = ", ".join(f"\\fB{plain(name)}\\fR" for name in action.option_strings), str(action.metavar or "")
+    return f"{names} \\fI{plain(value)}\\fR".strip() if value else names
 
 
 def statuses(text: str) -> Iterator[str]:
@@ -94,10 +92,10 @@ def page(word: str) -> str:
 
 def overview() -> str:
     """The page of all words."""
-    words = [".PP\n" + PROVED, *map(item, cli.PROVED), ".PP\nTested:", *map(item, cli.TOOLS)]
+    words = [f".PP\n{plain(cli.ABOVE)}", *map(item, cli.PROVED), ".PP\nTested:", *map(item, cli.TOOLS)]
     return "".join([
         head("dvbemu", "/dev/dvb/adapter0 without a card, for tests"), section("SYNOPSIS", ".B dvbemu", "WORD .."),
-        section("DESCRIPTION", plain(ABOUT)), section("COMMANDS", *words),
+        section("DESCRIPTION", plain(cli.ABOUT)), section("COMMANDS", *words),
         section("OPTIONS", ".TP\n.B \\-\\-help\nthe words; behind a word its own help", ".TP\n.B \\-\\-version\nthe version, and what proved it"),
         section("EXIT STATUS", *statuses(cli.STATUSES.format(""))),
         section("EXAMPLES", plain("dvbemu serve --packets 3000 --report r my.ts -- dvbv5-scan dvbv5.conf; dvbemu explain r")),

@@ -100,6 +100,11 @@ def end_by(number: int) -> int:
     return 128 + number
 
 
+def how(status: int) -> str:
+    """How a process has ended that has this status."""
+    return f"was ended by signal {-status}" if status < 0 else f"ends with the status {status}"
+
+
 def place_of(fault: BaseException) -> str:
     """Where in the code a fault was last."""
     step, place = fault.__traceback__, "an unknown place"

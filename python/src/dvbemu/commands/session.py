@@ -12,6 +12,7 @@ writes, in place of the session, the report with the line numbers of that script
 from __future__ import annotations
 
 import sys
+from collections import deque
 from typing import TYPE_CHECKING, NamedTuple
 
 from ..explain import played
@@ -73,10 +74,10 @@ class Order:
         self.queues = {f"c{number}": self.commands_of(f"c{number}", outcomes) for number, outcomes in enumerate(report.clients) if outcomes}
         self.done, self.fed, self.early, self.overtaking = dict.fromkeys(self.nodes, 0), 0, 0, 0
 
-    def commands_of(self, who: str, outcomes: Iterable[Outcome]) -> list[Command]:
+    def commands_of(self, who: str, outcomes: Iterable[Outcome]) -> deque[Command]:
         """The commands of a client."""
-        steps = [[(who, step) for step in range(outcome.first, outcome.after)] for outcome in outcomes]
-        return [Command(*self.calls[calls[0]], calls) for calls in steps]
+        steps = ([(who, step) for step in range(outcome.first, outcome.after)] for outcome in outcomes)
+        return deque(Command(*self.calls[calls[0]], calls) for calls in steps)
 
     def node_of(self, call: Key) -> int:
         """The node of a call."""
@@ -153,7 +154,7 @@ class Order:
                 self.feed()
                 yield self.passes[self.fed - 1]
             else:
-                yield self.queues[ready].pop(0)
+                yield self.queues[ready].popleft()
 
 
 def script_of(order: Order) -> tuple[list[str], dict[str, list[int]]]:

@@ -110,7 +110,7 @@ def tests_of(words: tool.Command, given: Namespace) -> list[Test]:
 def ended(word: str, status: int, told: bytes) -> str:
     """How the program has ended, and what it told."""
     lines = told.decode(errors="replace").strip().split("\n")
-    return ": ".join(filter(None, [f"{word} {child.how(status)}", " ".join(map(str.strip, lines[:2]))]))
+    return ": ".join(filter(None, [f"{word} {standard.how(status)}", " ".join(map(str.strip, lines[:2]))]))
 
 
 def written_by(program: str, test: Test, session: bytes) -> bytes:
