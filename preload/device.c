@@ -363,7 +363,8 @@ static void changed(int fd, struct at at, uint32_t number, const void *argument)
 void devices_found(struct line *line, const struct request *asked, const struct reply *told)
 {
 	int is_done = !told->code, is_open = is_done && (asked->verb == OPEN_DEMUX || asked->verb == OPEN_DVR);
-	for (struct device *device = line->table->devices; device < &line->table->devices[MOST_DEVICES]; device++) {
+	for (int i = 0; i < MOST_DEVICES; i++) {
+		struct device *device = &line->table->devices[i];
 		int is_node = device->kind == DEMUX || device->kind == DVR;
 		if (is_node && device->node == NO_NODE) {
 			device->node = device->kind == DVR ? DVR_NODE : told->value;
@@ -375,6 +376,7 @@ void devices_found(struct line *line, const struct request *asked, const struct 
 		}
 		device->state = UNKNOWN;
 		device->tokens += 2;
+		wake_readers((struct at){ line, i });
 	}
 }
 

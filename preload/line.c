@@ -20,7 +20,7 @@
 
 #include "preload.h"
 
-enum { NAME = 64, SEAT_MS = 5000, SCRATCH = 512, MOST_TRIES = 8 };
+enum { NAME = 64, SEAT_MS = 5000, SCRATCH = 512, MOST_TRIES = 8, SLEEP_NS = 100000000 };
 
 /* a reply that hasn't come, and one to a request of no node, which no device makes */
 static const uint32_t untold = UINT32_MAX;
@@ -120,6 +120,20 @@ static int is_cut(const struct line *line)
 	return line->ask >= 0 && (!is_object(line->ask, line->table->ask_ino) || !is_object(line->tell, line->table->tell_ino));
 }
 
+/* Locks what several processes have. One that is killed as it wakes another leaves that asleep, where a third has the lock by then. */
+static int lock_shared(pthread_mutex_t *one)
+{
+	int error = pthread_mutex_trylock(one);
+	while (error == EBUSY || error == ETIMEDOUT) {
+		struct timespec until;
+		clock_gettime(CLOCK_REALTIME, &until);
+		until.tv_sec += (until.tv_nsec + SLEEP_NS) / 1000000000;
+		until.tv_nsec = (until.tv_nsec + SLEEP_NS) % 1000000000;
+		error = pthread_mutex_timedlock(one, &until);
+	}
+	return error;
+}
+
 /*
  * What this process has, its lines and the descriptors of its devices, or a line. Where a process was killed in a line, the next one that
  * can does what that one has left.
@@ -128,11 +142,15 @@ void take(struct pause *pause)
 {
 	struct line *line = pause->line;
 	hold_back(pause);
-	if (pthread_mutex_lock(line ? &line->table->one : &own) == EOWNERDEAD) {
+	if (!line) {
+		pthread_mutex_lock(&own);
+		return;
+	}
+	if (lock_shared(&line->table->one) == EOWNERDEAD) {
 		line->table->is_left = 1;
 		pthread_mutex_consistent(&line->table->one);
 	}
-	if (line && line->table->is_left && !is_cut(line))
+	if (line->table->is_left && !is_cut(line))
 		find_back(line);
 }
 

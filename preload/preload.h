@@ -10,8 +10,8 @@
 #include <sys/types.h>
 
 /*
- * A call of the C library that stands in the place of the library's own; another name of it, as that of 64 bits, which differs in nothing here, or one
- * that has a size behind its arguments; and the library's own.
+ * A call of the C library that stands in the place of the library's own; another name of it, as that of 64 bits, which differs in nothing
+ * here, or one with a size behind its arguments; and the library's own.
  */
 #define EXPORT __attribute__((visibility("default")))
 #define SAME(other, name) __asm__(".globl " #other "\n.set " #other ", " #name);

@@ -251,7 +251,8 @@ EXPORT int statx(int there, const char *restrict path, int flags, unsigned int m
 	int adapter = 0, kind = NONE;
 	struct at at;
 	init();
-	int is_own = !*path && flags & AT_EMPTY_PATH && find(there, &at), is_led = is_own || (flags & AT_SYMLINK_NOFOLLOW ? led : leads)(there, path, into);
+	int is_own = !*path && flags & AT_EMPTY_PATH && find(there, &at);
+	int is_led = is_own || (flags & AT_SYMLINK_NOFOLLOW ? led : leads)(there, path, into);
 	if (is_own)
 		place_of(at, into);
 	int result = NEXT(statx)(is_led ? AT_FDCWD : there, is_led ? into : path, flags, mask, told);

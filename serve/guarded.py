@@ -9,13 +9,11 @@ import tempfile
 from dvbemu.build import FLAGS, PARTS as SOURCES
 from room import HERE, TOP, cases_of, is_passed, passes, ran
 
-# Children that are killed at whatever moment, hundreds of times, which is too often for such a tool.
-KILLED = "-killed_at_the_open", "-killed_within_a_request", "-killed_with_its_parents_device", "-several_are_killed_at_once"
 # The packets a second; what valgrind keeps for itself or does otherwise (vfork is a fork there), and pointers that are bad on purpose;
 # what a sanitizer finds in Debian's dd, and stacks that are too small for one; and that a program that leaks is as ever.
 SLOW = "200"
 NOT_BY_VALGRIND = ("-numbers_of_the_preload", "-few_descriptors", "-a_high_number", "-by_io_uring", "-by_vfork",
-                   "-bad_pointers", "-another_process_sees_the_lock", *KILLED)  # fmt: skip
+                   "-bad_pointers", "-another_process_sees_the_lock")  # fmt: skip
 NOT_OVER_SANITIZERS = "-by_the_shell", "-small_stacks"
 # A preload of somebody else, whose stat is by its stat64, as fakeroot's calls are by others.
 OTHER = """#include <dlfcn.h>
@@ -25,6 +23,8 @@ int stat64(const char *path, struct stat64 *told) { return ((__typeof__(&stat64)
 """
 ADDRESSES, BOTH = ["-g", "-fsanitize=address"], ["-g", "-fsanitize=address,undefined", "-fno-sanitize-recover=undefined"]
 SANITIZED = "ASAN_OPTIONS=verify_asan_link_order=0:detect_leaks=0"
+# Children are killed some times, which takes long here.
+FEW = "ROUNDS=20"
 FOUR = 4
 
 
@@ -37,7 +37,7 @@ def try_valgrind(room):
     if not shutil.which("valgrind"):
         skipped("valgrind isn't there")
         return
-    words = ["valgrind", "-q", "--error-exitcode=99", cases_of(room), *NOT_BY_VALGRIND]
+    words = ["env", FEW, "valgrind", "-q", "--error-exitcode=99", cases_of(room), *NOT_BY_VALGRIND]
     out, status = room.run(*words, keep="none", rate=SLOW)
     room.want(status == 0 and is_passed(out), f"the own calls under valgrind, status {status}", out)
 
@@ -59,7 +59,7 @@ def try_sanitizers(room):
                         (preload, [*FLAGS, *BOTH, *(os.path.join(TOP, "preload", f"{part}.c") for part in SOURCES), "-ldl"])):  # fmt: skip
         made = ran(["gcc", *words, "-o", name])
         room.want(not made.returncode, f"{os.path.basename(name)} is built with sanitizers", made.stdout)
-    out, status = room.run("env", SANITIZED, cases, "-small_stacks", keep="none", rate=SLOW)
+    out, status = room.run("env", SANITIZED, FEW, cases, "-small_stacks", keep="none", rate=SLOW)
     room.want(status == 0 and is_passed(out), f"own calls of a program with a sanitizer, status {status}", out)
     late = room.path("late.so")
     made = ran(["gcc", "-O2", "-Wall", "-Wextra", "-shared", "-fPIC", os.path.join(HERE, "late.c"), "-o", late, "-ldl"])
@@ -68,7 +68,7 @@ def try_sanitizers(room):
     out, status = room.run("env", SANITIZED, "sh", "-c", script, cases, keep="none", rate=SLOW)
     room.want(status == 0 and is_passed(out) and "late\n" in out, f"a fork while a thread begins, status {status}", out)
     loaded = f"LD_PRELOAD={':'.join([*libraries, preload])}"
-    out, status = room.run("env", SANITIZED, loaded, cases_of(room), *NOT_OVER_SANITIZERS, keep="none", rate=SLOW)
+    out, status = room.run("env", SANITIZED, FEW, loaded, cases_of(room), *NOT_OVER_SANITIZERS, keep="none", rate=SLOW)
     room.want(status == 0 and is_passed(out), f"own calls over a preload with sanitizers, status {status}", out)
 
 

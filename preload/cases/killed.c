@@ -5,7 +5,8 @@
 
 #include "cases.h"
 
-enum { ROUNDS = 200, GROUP = 3 };
+/* how often each is tried; a tool that slows all down may want fewer, by ROUNDS in the environment */
+enum { MOST_ROUNDS = 200, GROUP = 3 };
 
 /* what a child does again and again */
 static void opens(int fd)
@@ -58,10 +59,10 @@ static void look_at(int fd)
 
 static void rounds(void (*does)(int), int number, int count)
 {
-	int fd = pat(O_NONBLOCK), fds[MOST_NODES];
+	int fd = pat(O_NONBLOCK), fds[MOST_NODES], count_of_rounds = getenv("ROUNDS") ? atoi(getenv("ROUNDS")) : MOST_ROUNDS;
 	struct pollfd one = { fd, POLLIN, 0 };
 	srand((unsigned)number);
-	for (int i = 0; i < ROUNDS; i++) {
+	for (int i = 0; i < count_of_rounds; i++) {
 		pid_t pids[GROUP] = { 0 };
 		for (int k = 0; k < count; k++)
 			pids[k] = begun(does, fd, pids[0]);

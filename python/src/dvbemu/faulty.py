@@ -6,12 +6,11 @@ import codecs
 import re
 from typing import TYPE_CHECKING
 
+from . import inputs
 from . import tool
 
 if TYPE_CHECKING:
     from typing import Iterable, Sequence
-
-    from .inputs import Input
 
 PACKET = "a packet begins with G, 0x47: is the line `stream` missing in front of it?"
 REPORT = b"dvbemu 1\n"
@@ -113,11 +112,11 @@ def is_text(beginning: bytes) -> bool:
     return "\n" in text and not re.search("[^\t\n\f\r\x20-\x7e\xa0-\U0010ffff]", text)
 
 
-def warnings(head: bytes, files: Sequence[Input]) -> str:
+def warnings(head: bytes, files: Sequence[inputs.Input]) -> str:
     """The lines on what is likely a mistake: a line of a script behind the line `stream`, and a text that is taken for a stream. The files
     are those of `inputs.opened`, of which the first has this beginning."""
-    place, told = 0 if head.startswith(b"stream\n") else head.find(b"\nstream\n") + 1, []
-    if head.startswith(b"stream\n", place) and (found := LINE.match(head, place + 7)):
+    place, told = inputs.stream_at(head), []
+    if place >= 0 and (found := LINE.match(head, place + len(inputs.LINE))):
         line, text = head.count(b"\n", 0, found.start()) + 1, found[0].decode(errors="replace")
         told = [f"{files[0].name}: line {line}, '{text}', stands behind `stream`: a part of the stream, and no call"]
     told += [f"{file.name}: this is a text, and no stream of packets" for file in files[1:] if is_text(file.beginning)]

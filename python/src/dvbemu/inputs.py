@@ -72,22 +72,22 @@ def opened(names: list[str]) -> list[Input]:
     return [Input(name) for name in names]
 
 
-def ends_script(text: bytes) -> bool:
-    """Whether a line of a text is `stream`."""
-    return text.startswith(LINE) or b"\n" + LINE in text
+def stream_at(text: bytes) -> int:
+    """Where the line `stream` stands in a text; -1 where it has none."""
+    return 0 if text.startswith(LINE) else text.find(b"\n" + LINE) + 1 or -1
 
 
 def head_of(script: Input) -> bytes:
     """The beginning of a script or session, with the line `stream`, if one comes in time."""
     head = b""
-    while len(head) < SCRIPT and not ends_script(head) and (piece := script.read()):
+    while len(head) < SCRIPT and stream_at(head) < 0 and (piece := script.read()):
         head += piece
     return head
 
 
 def with_line(head: bytes) -> bytes:
     """The beginning of a script, with the line `stream` behind it where it has none. Without its line feed that gets one."""
-    if ends_script(head) or len(head) >= SCRIPT:
+    if stream_at(head) >= 0 or len(head) >= SCRIPT:
         return head
     if head == LINE[:-1] or head.endswith(b"\n" + LINE[:-1]):
         return head + b"\n"
