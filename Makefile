@@ -6,6 +6,8 @@ PREFIX = /usr/local
 DESTDIR =
 GATE =
 VERSION := $(shell sed -n 1p VERSION)
+# (what is installed is proved)
+unexport DVBEMU_UNPROVED
 
 prefix = $(DESTDIR)$(PREFIX)
 tree = out/tree
