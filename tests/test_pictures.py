@@ -1,5 +1,5 @@
 """`dvbemu picture`: what its bands name, its axis, its areas, its legend, title and moments, over reports whose picture was worked out by
-hand from the rules of docs/BEHAVIOUR.md, and over sessions of oracle/fuzz.py.
+hand from the rules of docs/BEHAVIOUR.md, and over drawn sessions.
 
 The reports are those of the plain second program, or stand here.
 """
@@ -10,12 +10,13 @@ import xml.dom.minidom
 import pytest
 from conftest import EXAMPLES, examples
 from dvbemu import reports
+from dvbemu.drawn import Seeded, session
 from dvbemu.explain.unread import History
 from dvbemu.picture.axis import Axis, parts, shares
 from dvbemu.picture.lanes import ranges
 from dvbemu.picture.svg import LEFT, WIDTH
 from dvbemu.stream.packets import packet
-from oracle import fuzz, second
+from oracle import second
 
 # A report of threads: batch 0 passes n0 before client 0 calls it and n1 after, so that the two calls stand on its two sides.
 THREADS = """dvbemu 1
@@ -270,14 +271,14 @@ def test_sign_of_a_number_that_is_left_out(report_of, drawn, script, count, is_s
     assert any(words.startswith("· stands") for words in texts) == is_signed
 
 
-# ------ sessions of oracle/fuzz.py
+# ------ drawn sessions
 
 
 def made(seed):
     """The report of a session; of a later one, where the script has a fault."""
     while True:
         try:
-            return second.report(*fuzz.session(seed)).encode()
+            return second.report(*session(Seeded(seed))).encode()
         except second.Fault:
             seed += 20
 
