@@ -126,8 +126,8 @@ PAGES = [
 REFUSED = [
     (["--node", "n3"], "dvbemu explain: no client called n3\n", 1),
     (["--client", "2"], "dvbemu explain: the report has no client 2\n", 1),
-    (["--node", "n32"], "dvbemu explain: --node: n0 to n31 or dvr is expected, and not 'n32'\n", 2),
-    (["--client", "c8"], "dvbemu explain: --client: c0 to c7 is expected, and not 'c8'\n", 2),
+    (["--node", "n32"], "dvbemu explain: error: argument --node: n0 to n31 or dvr is expected, and not 'n32'\n", 2),
+    (["--client", "c8"], "dvbemu explain: error: argument --client: c0 to c7 is expected, and not 'c8'\n", 2),
 ]
 
 
@@ -156,4 +156,4 @@ def test_page(tool, report_of, script, stream, words, there, absent):
 @pytest.mark.parametrize("words, told, status", REFUSED)
 def test_refused(tool, words, told, status):
     ran = tool("explain", *words, str(EXAMPLES / "programs" / "two-clients.report"))
-    assert (ran.status, ran.out) == (status, "") and ran.err.startswith(told)
+    assert (ran.status, ran.out) == (status, "") and ran.err.endswith(told)
