@@ -24,7 +24,7 @@ int stat64(const char *path, struct stat64 *told) { return ((__typeof__(&stat64)
 ADDRESSES, BOTH = ["-g", "-fsanitize=address"], ["-g", "-fsanitize=address,undefined", "-fno-sanitize-recover=undefined"]
 SANITIZED = "ASAN_OPTIONS=verify_asan_link_order=0:detect_leaks=0"
 # Children are killed some times, which takes long here.
-FEW = "ROUNDS=20"
+FEW = "ROUNDS=10"
 FOUR = 4
 
 
