@@ -78,7 +78,7 @@ def run_differs(session: drawn.Session, words: list[str], wanted: Ended) -> tupl
     return judge.judge(session.data, session.batch, found.output, session.packet), found.output
 
 
-# RULES: 8876ba46 A report that is checked
+# RULES: eeaa414f A report that is checked
 def check_differs(text: bytes, packet: int, words: list[str], right: bool | None) -> str | None:
     """What differs in `check` over an input, or in the judge, where it is known whether the report is right."""
     judged = Ended(*judge.answer(text, packet))
