@@ -1,5 +1,5 @@
 """`dvbemu picture`: what its bands name, its axis, its areas, its legend, title and moments, over reports whose picture was worked out by
-hand from the rules of docs/BEHAVIOUR.md, and over drawn sessions.
+hand from the rules of docs/BEHAVIOUR.md, and over sessions of oracle/fuzz.py.
 
 The reports are those of the plain second program, or stand here.
 """
@@ -10,13 +10,12 @@ import xml.dom.minidom
 import pytest
 from conftest import EXAMPLES, examples
 from dvbemu import reports
-from dvbemu.drawn import Seeded, session
 from dvbemu.explain.unread import History
 from dvbemu.picture.axis import Axis, parts, shares
 from dvbemu.picture.lanes import ranges
 from dvbemu.picture.svg import LEFT, WIDTH
 from dvbemu.stream.packets import packet
-from oracle import second
+from oracle import fuzz, second
 
 # A report of threads: batch 0 passes n0 before client 0 calls it and n1 after, so that the two calls stand on its two sides.
 THREADS = """dvbemu 1
@@ -271,14 +270,14 @@ def test_sign_of_a_number_that_is_left_out(report_of, drawn, script, count, is_s
     assert any(words.startswith("· stands") for words in texts) == is_signed
 
 
-# ------ drawn sessions
+# ------ sessions of oracle/fuzz.py
 
 
 def made(seed):
     """The report of a session; of a later one, where the script has a fault."""
     while True:
         try:
-            return second.report(*session(Seeded(seed))).encode()
+            return second.report(*fuzz.session(seed)).encode()
         except second.Fault:
             seed += 20
 

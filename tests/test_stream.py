@@ -3,12 +3,12 @@
 
 The CRC of the nine digits is that of the catalogues of checksums (CRC-32/MPEG-2)."""
 import datetime
+import random
 
 import pytest
-from dvbemu import drawn
 from dvbemu.stream import packets, sections, tables
 from dvbemu.stream.tables import Descriptor, Part, Table
-from oracle import second
+from oracle import fuzz, second
 
 HEX = bytes.fromhex
 PACKETS = [
@@ -132,8 +132,9 @@ def test_packets_of_a_section():
 
 
 def stream_of(seed):
-    """A drawn stream of 120 packets, and what each takes up."""
-    made = drawn.Stream(drawn.Seeded(seed), 16 * (seed % 2))
+    """The stream of a made session."""
+    rng = random.Random(seed)
+    made = fuzz.Stream(rng, 16 * (seed % 2))
     for _ in range(120):
         made.add()
     return bytes(made.out), 188 + 16 * (seed % 2)
