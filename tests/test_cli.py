@@ -159,7 +159,7 @@ def test_a_word_that_has_moved(monkeypatch, tool):
 def test_file(files_room, line, file, status):
     found = files_room.quick(line.format(file))
     # (of what stands in a script the program tells no name, of a stream's packets the line of the report, and of bytes the form)
-    told_else = "dvbemu: script line ", "dvbemu: report: line ", "dvbemu packet: bytes are "
+    told_else = "dvbemu: script line ", "dvbemu: report line ", "dvbemu: report: line ", "dvbemu packet: bytes are "
     assert found.status == status and is_quiet(found.err)
     assert not found.err or file in found.err or found.err.startswith(told_else)
     assert (found.err.count("\n") if status != 3 else 1) <= 1 + (status == 2)

@@ -106,8 +106,9 @@ def test_check_of_no_report(room, overflow):
 
 
 def test_why_is_check(room, overflow):
-    told = "dvbemu: `dvbemu check REPORT SESSION [STREAM ..]` tells what is wrong with a report now, and what was expected there\n"
-    assert room.run("why report session") == (2, b"", told)
+    told = "`dvbemu check REPORT SESSION [STREAM ..]` tells what is wrong with a report now, and what was expected there\n"
+    ran = room.run("why report session")
+    assert (ran.status, ran.out) == (2, b"") and ran.err.endswith(f"\ndvbemu: error: {told}")
 
 
 # ------ faults of a script: the program's own lines, and behind them what is known of it

@@ -272,7 +272,7 @@ def run_differs(program, made, batch, packet, words, wanted):
     return judge.judge(made, batch, ran.stdout, packet), ran.stdout
 
 
-# RULES: 8876ba46 A report that is checked
+# RULES: eeaa414f A report that is checked
 def check_differs(program, text, packet, words, right=None):
     """What differs in `check` over an input, or in the judge, where it is known whether the report is right."""
     status, output, line = judge.answer(text, packet)
