@@ -162,7 +162,8 @@ def test_file(files_room, line, file, status):
     told_else = "dvbemu: script line ", "dvbemu: report line ", "dvbemu: report: line ", "dvbemu packet: bytes are "
     assert found.status == status and is_quiet(found.err)
     assert not found.err or file in found.err or found.err.startswith(told_else)
-    assert (found.err.count("\n") if status != 3 else 1) <= 1 + (status == 2)
+    # (behind wrong words stands their usage, behind `no` what was expected)
+    assert (found.err.count("\n") if status != 3 else 1) <= 1 + (status == 2 or "\nexpected " in found.err)
     assert status in (0, 3) or found.err or found.out
 
 
