@@ -105,10 +105,12 @@ module _ {N : Type 0} where
     pub looked : OneLook who_of stood len first then
 
   -- each pass of a row whose place is among these has made a call, at the place with its number; every other is as it was
-  pub record AllCall (who_of : N → ℕ) (stood : ℕ → List N → Type 0) (among : ℕ → Bool) (entry : ℕ → N) (places : List ℕ)
+  pub record AllCall (who_of : N → ℕ) (stood : ℕ → List N → Type 0) (among : ℕ → Bool) (entry : ℕ → N)
+      (places : List ℕ)
       (old new : List (TableId × View N)) : Type 0 where
     pub long : length new ≡ length old
-    pub each : (i : ℕ) (p q : TableId × View N) → slice_get old i ≡ Some p → slice_get new i ≡ Some q → among i ≡ true
+    pub each : (i : ℕ) (p q : TableId × View N) → slice_get old i ≡ Some p → slice_get new i ≡ Some q
+        → among i ≡ true
         → OneMore who_of (stood i) (entry p.1.number) (slice_index places i) p q
     pub others : (i : ℕ) (p q : TableId × View N) → slice_get old i ≡ Some p → slice_get new i ≡ Some q
         → among i ≡ false → q ≡ p

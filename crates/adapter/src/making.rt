@@ -76,7 +76,8 @@ pub(crate) fn with_dvr(
     requires locks { vec_len demux.now ≡ nodes }
     requires rows { AreFreshRows (λ r. r.items) (vec_len passes) demux.now.items rows.items }
     requires passes { AreFresh dvr.now (vec_len passes) passes.items }
-    ensures { IfOk result (λ all. (vec_len all ≡ vec_len passes) × AreLastFirst (vec_len passes) (demux.now.items ++ dvr.now ∷ []) all.items) }
+    ensures { IfOk result (λ all. (vec_len all ≡ vec_len passes)
+        × AreLastFirst (vec_len passes) (demux.now.items ++ dvr.now ∷ []) all.items) }
 {
     let mut all = Vec::with_capacity(alloc, rows.len())?;
     while let Some(row) = rows.pop() {
@@ -98,7 +99,8 @@ pub(crate) fn make_clients(
 ) -> Result<Vec<Client>, NoMemory>
     requires few { vec_len rest ≤ 8 }
     requires rest { AreLastFirst (vec_len rest + 1) (demux.now.items ++ dvr.now ∷ []) rest.items }
-    ensures { IfOk result (λ clients. (vec_len clients ≡ vec_len rest) × AreFreshClients (vec_len rest + 1) (demux.now.items ++ dvr.now ∷ []) clients.items) }
+    ensures { IfOk result (λ clients. (vec_len clients ≡ vec_len rest)
+        × AreFreshClients (vec_len rest + 1) (demux.now.items ++ dvr.now ∷ []) clients.items) }
 {
     let mut clients = Vec::with_capacity(alloc, rest.len())?;
     while let Some(passes) = rest.pop() {

@@ -82,7 +82,8 @@ impl NodePasses {
         requires node { node ≤ nodes }
         requires own { Fits adapter.now self.old }
         requires left { MayCallAt node self.old }
-        ensures call { IfOk result (λ r. OneCalls caller_of (IsLegalAt node) node (λ who. told who call r.1) r.0 self.old self.new) }
+        ensures call { IfOk result
+            (λ r. OneCalls caller_of (IsLegalAt node) node (λ who. told who call r.1) r.0 self.old self.new) }
         ensures back { IfOk result (λ r. GivesBack call r.1) }
         ensures cost { IfOk result (λ r. steps.new ≤ steps.old + packets_of call) }
         ensures held { IfErr result (λ e. OneMisses caller_of (IsLegalAt node) node e.1 self.old self.new) }
@@ -107,7 +108,9 @@ impl NodePasses {
     ) -> [u64; NODES as usize]
         requires own { Fits adapter.now self.old }
         requires left { MayCall self.old }
-        ensures entries { AllCall caller_of IsLegalAt (is_in nodes.now) (λ who. entry_of who (asks.Pass Frontend batch.value.first batch.value.packets now) Passed) result self.old self.new }
+        ensures entries { AllCall caller_of IsLegalAt (is_in nodes.now)
+            (λ who. entry_of who (asks.Pass Frontend batch.value.first batch.value.packets now) Passed) result
+            self.old self.new }
         ensures cost { steps.new ≤ steps.old + NODES * length batch.value.packets }
     {
         // Its type says that it has a lock for each node.
@@ -140,7 +143,8 @@ impl NodePasses {
     ) -> [u64; NODES as usize]
         requires own { Fits adapter.now self.old }
         requires left { MayCall self.old }
-        ensures entries { AllCall caller_of IsLegalAt (is_in nodes.now) (λ who. entry_of who asks.End Passed) result self.old self.new }
+        ensures entries { AllCall caller_of IsLegalAt (is_in nodes.now)
+            (λ who. entry_of who asks.End Passed) result self.old self.new }
         ensures cost { steps.new ≤ steps.old }
     {
         // Its type says that it has a lock for each node.

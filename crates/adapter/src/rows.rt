@@ -20,7 +20,8 @@ pub(crate) fn call_in<M: Machine, L: Ledger, R: Wait>(
     requires node { node < length locks.now.items }
     requires fits { Fits locks.now.items passes.old.items }
     requires left { MayCallAt node passes.old.items }
-    ensures call { OneCalls M.who_of (λ h. (m : M) × M.stands_for m h) node (λ who. M.entry_of who call result.1) result.0 passes.old.items passes.new.items }
+    ensures call { OneCalls M.who_of (λ h. (m : M) × M.stands_for m h) node
+        (λ who. M.entry_of who call result.1) result.0 passes.old.items passes.new.items }
     ensures back { M.hands_back call result.1 }
     ensures cost { (before : List M.Entry) × (steps.new ≤ steps.old + M.most before call) }
 {
@@ -40,10 +41,12 @@ pub(crate) fn try_in<M: Machine, L: Ledger>(
     requires node { node < length locks.now.items }
     requires fits { Fits locks.now.items passes.old.items }
     requires left { MayCallAt node passes.old.items }
-    ensures call { IfOk result (λ r. OneCalls M.who_of (λ h. (m : M) × M.stands_for m h) node (λ who. M.entry_of who call r.1) r.0 passes.old.items passes.new.items) }
+    ensures call { IfOk result (λ r. OneCalls M.who_of (λ h. (m : M) × M.stands_for m h) node
+        (λ who. M.entry_of who call r.1) r.0 passes.old.items passes.new.items) }
     ensures back { IfOk result (λ r. M.hands_back call r.1) }
     ensures cost { IfOk result (λ r. (before : List M.Entry) × (steps.new ≤ steps.old + M.most before call)) }
-    ensures held { IfErr result (λ e. OneMisses M.who_of (λ h. (m : M) × M.stands_for m h) node e.1 passes.old.items passes.new.items) }
+    ensures held { IfErr result
+        (λ e. OneMisses M.who_of (λ h. (m : M) × M.stands_for m h) node e.1 passes.old.items passes.new.items) }
     ensures handed { IfErr result (λ e. (e.0 ≡ call) × (steps.new ≡ steps.old)) }
 {
     let lock = &locks[node];

@@ -25,7 +25,8 @@ fn empty_lists(alloc: Global) -> Result<Vec<Vec<Entry>>, NoMemory>
 fn deal(nodes: &mut Vec<Vec<Entry>>, log: Vec<Entry>) -> Result<(), NoMemory>
     requires nodes { length nodes.old.items ≡ DEMUX_NODES + 1 }
     requires log { AreOnNodes log.items }
-    ensures { OnOk result (IsDealt log.items (map (λ calls. calls.items) nodes.old.items) (map (λ calls. calls.items) nodes.new.items)) }
+    ensures { OnOk result (IsDealt log.items (map (λ calls. calls.items) nodes.old.items)
+        (map (λ calls. calls.items) nodes.new.items)) }
 {
     let mut left = log;
     'entries: while let Some(entry) = left.pop() {
@@ -49,7 +50,8 @@ fn deal_all(alloc: Global, logs: Vec<Vec<Entry>>) -> Result<Vec<Vec<Entry>>, NoM
 
 // Brings the entries of each node into the order of their places.
 fn sort_all(nodes: &mut Vec<Vec<Entry>>) -> Result<(), NoMemory>
-    ensures { OnOk result (AreSorted (map (λ calls. calls.items) nodes.old.items) (map (λ calls. calls.items) nodes.new.items)) }
+    ensures { OnOk result (AreSorted (map (λ calls. calls.items) nodes.old.items)
+        (map (λ calls. calls.items) nodes.new.items)) }
 {
     'nodes: for node in 0..nodes.len() {
         nodes[node].sort_by_key(|entry: &Entry| entry.place)?;
@@ -69,7 +71,8 @@ pub fn histories(
     logs: Vec<Vec<Entry>>,
 ) -> Result<Histories, NoMemory>
     requires { All (λ log. AreOnNodes log.items) logs.items }
-    ensures { IfOk result (λ all. (nodes : _) × AreByPlace (map (λ log. log.items) logs.items) nodes × (all ≡ histories_of feeding.items nodes)) }
+    ensures { IfOk result (λ all. (nodes : _) × AreByPlace (map (λ log. log.items) logs.items) nodes
+        × (all ≡ histories_of feeding.items nodes)) }
 {
     let mut nodes = deal_all(alloc, logs)?;
     sort_all(&mut nodes)?;

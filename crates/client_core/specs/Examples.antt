@@ -1,4 +1,5 @@
--- What no session shows, worked out by hand: a client in the middle of a command. The sessions of examples/rows have the other examples.
+-- What no session shows, worked out by hand: a client in the middle of a command. The sessions of examples/rows have the other
+-- examples.
 use Rattle.std.specs.Prelude.{◌≡◌, ℕ, List, [], ◌∷◌, Some, None, true, false}
 use Rattle.client_core.specs.Imports.{Again, Command, Done, Frontend, GetStc, Keep, Node, Once, Open, Outcome, Pes, ReadWait, Response, Scripted, Start, TsdemuxTap, plain}
 use Rattle.dmx_calls.specs.declared.outcome.OutcomeKind.TheVariants.{Done as WasDone}

@@ -64,7 +64,8 @@ pub fn call_of(
     requires played { IsRequestOf core.now.plays request.now }
     ensures call { IfOk result (λ call. invocation_of call ≡ call_at core.now.plays request.now now) }
     ensures fresh { IfOk result IsFresh }
-    ensures memory { IsErr result → ((count : ℕ) × (request.now ≡ Own (AskRead count))) ⊎ ((write : ℕ) × (request.now ≡ Pass write)) }
+    ensures memory { IsErr result → ((count : ℕ) × (request.now ≡ Own (AskRead count)))
+        ⊎ ((write : ℕ) × (request.now ≡ Pass write)) }
 {
     match request {
         ClientRequest::Own(want) => call_of_want(alloc, *want, now),

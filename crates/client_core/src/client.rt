@@ -43,9 +43,27 @@ impl Model for ClientCore {
 
     ghost Value = { Core };
 
-    ghost view = { λ c. record { left = c.left; current = c.current; slots = c.slots; step = c.step; waits = c.waits; clocks = c.clocks; plays = c.plays.batches; outcomes = c.outcomes.items } };
+    ghost view = { λ c. record {
+      left = c.left;
+      current = c.current;
+      slots = c.slots;
+      step = c.step;
+      waits = c.waits;
+      clocks = c.clocks;
+      plays = c.plays.batches;
+      outcomes = c.outcomes.items;
+    } };
 
-    ghost invariant = { λ c. IsSound (record { left = c.left; current = c.current; slots = c.slots; step = c.step; waits = c.waits; clocks = c.clocks; plays = c.plays.batches; outcomes = c.outcomes.items })
+    ghost invariant = { λ c. IsSound (record {
+      left = c.left;
+      current = c.current;
+      slots = c.slots;
+      step = c.step;
+      waits = c.waits;
+      clocks = c.clocks;
+      plays = c.plays.batches;
+      outcomes = c.outcomes.items;
+    })
         × (length c.outcomes.items + one_if_some c.current + length c.left ≤ vec_capacity c.outcomes) };
 }
 
@@ -133,7 +151,8 @@ fn follow(clocks: &mut Clocks, task: &Task, step: u64, reply: &LogReply)
     requires task { IsTaskInRange task.now }
     requires few { AreFew (65536 * step) clocks.old }
     requires step { step < 2 ^ 46 }
-    ensures followed { (xs : List Exchange) → HaveFollowed xs clocks.old → HaveFollowed (with_reply (Some (stands_at task.now step)) (response_of reply.now) xs) clocks.new }
+    ensures followed { (xs : List Exchange) → HaveFollowed xs clocks.old
+        → HaveFollowed (with_reply (Some (stands_at task.now step)) (response_of reply.now) xs) clocks.new }
     ensures few { AreFew (65536 * (step + 1)) clocks.new }
     ensures count { length clocks.new ≡ length clocks.old }
 {
@@ -181,7 +200,8 @@ impl ClientCore {
     /// The client's next call; None where its commands are through.
     pub fn next(&self) -> Option<Event>
         ensures next { result ≡ next_of self.now }
-        ensures tied { (client : ℕ) (script : Scripted) (replies : List Response) → IsAfter client script replies self.now → result ≡ next_event client script replies }
+        ensures tied { (client : ℕ) (script : Scripted) (replies : List Response) → IsAfter client script replies self.now
+            → result ≡ next_event client script replies }
         ensures node { IfSome result (λ e. (e.step ≡ self.now.step) × (e.node ≤ nodes)) }
         ensures range { IfSome result (λ e. IsRequestInRange e.want) }
         ensures some { IsSome result ↔ IsSome self.now.current }
@@ -195,7 +215,8 @@ impl ClientCore {
 
     /// The call before which the command of this line stands; None where that command is through.
     pub fn next_at(&self, line: u32) -> Option<Event>
-        ensures tied { (client : ℕ) (script : Scripted) (replies : List Response) → IsAfter client script replies self.now → result ≡ next_of_line client script line replies }
+        ensures tied { (client : ℕ) (script : Scripted) (replies : List Response) → IsAfter client script replies self.now
+            → result ≡ next_of_line client script line replies }
         ensures node { IfSome result (λ e. (e.step ≡ self.now.step) × (e.node ≤ nodes)) }
         ensures range { IfSome result (λ e. IsRequestInRange e.want) }
         ensures some { IsSome result → IsSome self.now.current }
@@ -232,7 +253,8 @@ impl ClientCore {
     pub fn take(&mut self, reply: &LogReply)
         requires some { IsSome self.old.current }
         requires few { self.old.step < 2 ^ 46 }
-        ensures after { (client : ℕ) (script : Scripted) (replies : List Response) → IsAfter client script replies self.old → IsAfter client script (replies ++ response_of reply.now ∷ []) self.new }
+        ensures after { (client : ℕ) (script : Scripted) (replies : List Response) → IsAfter client script replies self.old
+            → IsAfter client script (replies ++ response_of reply.now ∷ []) self.new }
         ensures taken { HasTaken (response_of reply.now) self.old self.new }
         ensures step { self.new.step ≡ self.old.step + 1 }
     {
@@ -276,7 +298,8 @@ impl ClientCore {
     /// The node on which the client waits: the last reply was Again, the stream hasn't ended, and the read is repeated.
     pub fn waits(&self) -> Option<u32>
         ensures value { result ≡ self.now.waits }
-        ensures tied { (client : ℕ) (script : Scripted) (replies : List Response) → IsAfter client script replies self.now → result ≡ waits_on client script replies }
+        ensures tied { (client : ℕ) (script : Scripted) (replies : List Response) → IsAfter client script replies self.now
+            → result ≡ waits_on client script replies }
     {
         self.waits
     }
@@ -284,7 +307,8 @@ impl ClientCore {
     /// The outcomes of the commands that are through.
     pub fn outcomes(&self) -> &[Outcome]
         ensures value { result.now ≡ self.now.outcomes }
-        ensures tied { (client : ℕ) (script : Scripted) (replies : List Response) → IsAfter client script replies self.now → result.now ≡ outcomes_of client script replies }
+        ensures tied { (client : ℕ) (script : Scripted) (replies : List Response) → IsAfter client script replies self.now
+            → result.now ≡ outcomes_of client script replies }
     {
         &self.outcomes
     }

@@ -72,7 +72,8 @@ impl NodeClock {
 
     // A call of a command was accepted.
     fn accept(&mut self, want: &Want)
-        ensures followed { (bytes : List ℕ) → HasFollowed bytes self.old.clock → HasFollowed (if begins_by want.now then [] else bytes) self.new.clock }
+        ensures followed { (bytes : List ℕ) → HasFollowed bytes self.old.clock
+            → HasFollowed (if begins_by want.now then [] else bytes) self.new.clock }
         ensures set { self.new.filter_type ≡ set_by_call want.now self.old.filter_type }
         ensures few { bytes_counted self.new.clock.cutting ≤ bytes_counted self.old.clock.cutting }
     {
@@ -89,7 +90,8 @@ impl NodeClock {
     // Bytes were read.
     fn read(&mut self, buf: &ByteBuf)
         requires few { bytes_counted self.old.clock.cutting < 2 ^ 62 }
-        ensures followed { (bytes : List ℕ) → HasFollowed bytes self.old.clock → HasFollowed (bytes ++ buf.now.bytes) self.new.clock }
+        ensures followed { (bytes : List ℕ) → HasFollowed bytes self.old.clock
+            → HasFollowed (bytes ++ buf.now.bytes) self.new.clock }
         ensures set { self.new.filter_type ≡ self.old.filter_type }
         ensures few { bytes_counted self.new.clock.cutting ≤ bytes_counted self.old.clock.cutting + 65536 }
     {
@@ -100,7 +102,8 @@ impl NodeClock {
     // A call on the node, and its reply.
     fn follow(&mut self, request: &ClientRequest, reply: &LogReply)
         requires few { bytes_counted self.old.clock.cutting < 2 ^ 62 }
-        ensures followed { (bytes : List ℕ) → HasFollowed bytes self.old.clock → HasFollowed (bytes_after request.now (response_of reply.now) bytes) self.new.clock }
+        ensures followed { (bytes : List ℕ) → HasFollowed bytes self.old.clock
+            → HasFollowed (bytes_after request.now (response_of reply.now) bytes) self.new.clock }
         ensures set { self.new.filter_type ≡ type_after request.now (response_of reply.now) self.old.filter_type }
         ensures few { bytes_counted self.new.clock.cutting ≤ bytes_counted self.old.clock.cutting + 65536 }
     {
@@ -165,7 +168,8 @@ impl Clocks {
     /// A call, and its reply.
     pub fn follow(&mut self, event: &Event, reply: &LogReply)
         requires few { AreFew 4611686018427387903 self.old }
-        ensures followed { (xs : List Exchange) → HaveFollowed xs self.old → HaveFollowed (with_reply (Some event.now) (response_of reply.now) xs) self.new }
+        ensures followed { (xs : List Exchange) → HaveFollowed xs self.old
+            → HaveFollowed (with_reply (Some event.now) (response_of reply.now) xs) self.new }
         ensures few { (most : ℕ) → AreFew most self.old → AreFew (most + 65536) self.new }
         ensures count { length self.new ≡ length self.old }
     {

@@ -88,7 +88,8 @@ pub fn begin(
     ensures current { IfSome result (λ c. IsTaskInRange c.task × (c.from ≡ step)) }
     ensures room { length outcomes.new.items + one_if_some result + length left.new ≤ vec_capacity outcomes.new }
     ensures ended { IfNone result (left.new ≡ []) }
-    ensures played { (batches : Batches) → All (IsCommandOf batches) left.old → All (IsCommandOf batches) left.new × IfSome result (λ c. IsTaskOf batches c.task) }
+    ensures played { (batches : Batches) → All (IsCommandOf batches) left.old
+        → All (IsCommandOf batches) left.new × IfSome result (λ c. IsTaskOf batches c.task) }
 {
     'commands: while let Some(command) = left.take() {
         match first(slots, command.target, command.verb, command.has_batch) {

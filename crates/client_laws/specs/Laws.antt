@@ -7,8 +7,8 @@ use Rattle.client_laws.specs.Verbs.{CommandCall, Makes, replies_to}
 abbrev pub event_at : (step : ℕ) → CommandCall → Event
 event_at step c = record { step = step; node = c.node; want = c.want }
 
--- A command is through by these replies, at this step: it has made calls as its verb says, and so many; their replies are the first
--- of these, in order, and the others are left; and it stood before each call by the replies to those before it.
+-- A command is through by these replies, at this step: it has made calls as its verb says, and so many; their replies are the
+-- first of these, in order, and the others are left; and it stood before each call by the replies to those before it.
 pub record HasMade (slots : Slots) (target : Target) (verb : Verb) (has_batch : Bool) (step : ℕ) (replies : List Response)
     (ending : Ending) (next : ℕ) (left : List Response) : Type 0 where
   pub calls : List CommandCall

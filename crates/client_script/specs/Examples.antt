@@ -1,5 +1,5 @@
--- What no session shows, worked out by hand: the words that a place leaves, and how lines are spelled. The sessions of examples/rows have
--- lines and scripts with their faults.
+-- What no session shows, worked out by hand: the words that a place leaves, and how lines are spelled. The sessions of
+-- examples/rows have lines and scripts with their faults.
 use Rattle.std.specs.Prelude.{◌≡◌, [], ◌∷◌, ◌++◌, map, replicate, Ok, Err, codes}
 use Rattle.client_script.specs.Imports.{Frontend, TsTap, number_between}
 use Rattle.client_script.specs.Words.{next_as}
@@ -18,7 +18,8 @@ OneWord =
     (next_as Number (wanted.Number N 1 9) (number_between 1 9) (codes "7" ∷ codes "x" ∷ []) ≡ Ok (7, codes "x" ∷ []))
     × (next_as Number (wanted.Number N 1 9) (number_between 1 9) (codes "x" ∷ codes "7" ∷ [])
     ≡ Err (record { kind = Number; wanted = wanted.Number N 1 9 }, codes "7" ∷ []))
-    × (next_as Number (wanted.Number N 1 9) (number_between 1 9) [] ≡ Err (record { kind = Count; wanted = wanted.Number N 1 9 }, []))
+    × (next_as Number (wanted.Number N 1 9) (number_between 1 9) []
+    ≡ Err (record { kind = Count; wanted = wanted.Number N 1 9 }, []))
 
 -- Lines with their line feeds, where client 1 writes 00 ff. A request that asks for a call is spelled as its command; the
 -- counter's has no other, and all bytes behind its number are 0.

@@ -135,7 +135,8 @@ named_among client lines = flat_map (named_in client) lines
 
 -- the lines of each client name its writes in their order, each once
 abbrev pub AreNumbered : Scripted → Type 0
-AreNumbered script = (client : ℕ) → named_among client script.lines ≡ range_with_len 0 (length (writes_of client script.writes))
+AreNumbered script = (client : ℕ) → named_among client script.lines
+    ≡ range_with_len 0 (length (writes_of client script.writes))
 
 -- no more lines and writes than bytes are searched, each in the ranges of the grammar
 pub record IsScript (script : Scripted) : Type 0 where

@@ -36,7 +36,8 @@ word_in wanted (word ∷ words) = Ok (word, words)
 
 -- What the word in the next place spells, as that place asks; where it spells nothing of the sort, the fault is of this
 -- kind. So a number from 1 to 9 is read from `7 x` as 7, with the word `x` behind it (specs/Examples.antt, `OneWord`).
-abbrev pub next_as : {A : Type 0} → FaultKind → WantedWord → (spelled : List ℕ → Option A) → List (List ℕ) → Reading A
+abbrev pub next_as : {A : Type 0} → FaultKind → WantedWord → (spelled : List ℕ → Option A)
+    → List (List ℕ) → Reading A
 next_as kind wanted spelled words = and_then (word_in wanted words) (λ word words. or_fault kind wanted (spelled word) words)
 
 -- a reader has answered as the definition says, and has left the words behind what it read

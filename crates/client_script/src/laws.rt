@@ -23,9 +23,12 @@ pub fn each_write_has_its_line()
 /// Reading the spellings of lines of a script, and the line `stream` behind them, gives what these lines say again, each with its
 /// number in the script: the same calls, and the same bytes of writes. So it is for a single line.
 pub fn printed_lines_are_read_again()
-    ensures line { (s : Scripted) (line : Line) → All AreWritten s.writes → IsInRange line → IsOnDvr line → HasWrite s.writes line
-        → grammar (spelling s.writes line ++ codes "stream\n") ≡ Ok (with_said (Some (said_again 1 s.writes line)) (plain [])) }
-    ensures script { (s : Scripted) (lines : List Line) → All AreWritten s.writes → All IsInRange lines → All IsOnDvr lines → All (HasWrite s.writes) lines
+    ensures line { (s : Scripted) (line : Line) → All AreWritten s.writes → IsInRange line → IsOnDvr line
+        → HasWrite s.writes line
+        → grammar (spelling s.writes line ++ codes "stream\n")
+        ≡ Ok (with_said (Some (said_again 1 s.writes line)) (plain [])) }
+    ensures script { (s : Scripted) (lines : List Line) → All AreWritten s.writes → All IsInRange lines → All IsOnDvr lines
+        → All (HasWrite s.writes) lines
         → grammar (flat_map (spelling s.writes) lines ++ codes "stream\n") ≡ Ok (with_all 1 s.writes lines (plain [])) }
 {}
 
@@ -39,11 +42,13 @@ pub fn the_script_part_ends_with_its_line_stream()
 /// part, and there is no stream.
 pub fn without_a_line_stream_all_bytes_are_the_script_part()
     ensures { (first others : List ℕ) → length first ≤ most_bytes → script_len (whole_lines first) ≡ None
-        → (length first ≡ most_bytes) ⊎ (others ≡ []) → split (first ++ others) ≡ record { script = first; stream = None } }
+        → (length first ≡ most_bytes) ⊎ (others ≡ [])
+        → split (first ++ others) ≡ record { script = first; stream = None } }
 {}
 
 /// The line `stream` ends behind all bytes that don't hold it.
 #[tactic(auto, using(crate::proofs::Lengthening::stream_ends_later))]
 pub fn the_line_stream_ends_behind_bytes_that_lack_it()
-    ensures { (first others : List ℕ) (n : ℕ) → script_len (whole_lines first) ≡ None → script_len (whole_lines (first ++ others)) ≡ Some n → length first < n }
+    ensures { (first others : List ℕ) (n : ℕ) → script_len (whole_lines first) ≡ None
+        → script_len (whole_lines (first ++ others)) ≡ Some n → length first < n }
 {}

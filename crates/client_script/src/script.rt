@@ -95,7 +95,8 @@ fn meaning(number: u32, line: &[u8]) -> Result<Option<Said<'_>>, ScriptFault>
 
 // The first whole line without its line feed, and the bytes behind it; None where there is no line feed.
 fn next_line(bytes: &[u8]) -> Option<(&[u8], &[u8])>
-    ensures line { MatchOption result (whole_lines bytes.now ≡ []) (λ r. whole_lines bytes.now ≡ r.0.now ∷ whole_lines r.1.now) }
+    ensures line { MatchOption result (whole_lines bytes.now ≡ []) (λ r. whole_lines bytes.now
+        ≡ r.0.now ∷ whole_lines r.1.now) }
     ensures shorter { IfSome result (λ r. length r.0.now + length r.1.now + 1 ≡ length bytes.now) }
 {
     let (line, behind) = cut_at(b'\n', bytes);

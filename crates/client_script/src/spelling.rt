@@ -122,7 +122,8 @@ fn add_command(
     verb: &Verb,
 ) -> Result<(), NoMemory>
     requires { HasVerb (length (writes_of client script.now.writes)) verb.now }
-    ensures { OnOk result (text.new.items ≡ text.old.items ++ command_text (written_by client script.now.writes) client target verb.now) }
+    ensures { OnOk result (text.new.items
+        ≡ text.old.items ++ command_text (written_by client script.now.writes) client target verb.now) }
 {
     write_client(text, client)?;
     text.push(b' ')?;

@@ -52,7 +52,8 @@ impl<'a> Words<'a> {
     /// The word in the next place, which asks for this.
     #[tactic(auto, unfolding(crate::specs::Words::word_in))]
     pub fn word(&mut self, wanted: WantedWord) -> Result<&'a [u8], WordFault>
-        ensures { MatchResult result (λ word. word_in wanted self.old ≡ Ok (word.now, self.new)) (λ fault. word_in wanted self.old ≡ Err (fault, self.new)) }
+        ensures { MatchResult result (λ word. word_in wanted self.old ≡ Ok (word.now, self.new))
+            (λ fault. word_in wanted self.old ≡ Err (fault, self.new)) }
     {
         self.next().ok_or(wanted.fault(FaultKind::Count))
     }

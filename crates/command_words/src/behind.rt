@@ -67,7 +67,8 @@ fn self_test_with(
     word: &String,
     option: &[String],
 ) -> Result<Option<Command>, NoMemory>
-    ensures value { IfOk result (λ command. command ≡ self_test_by (number_of_word (string_bytes word.now)) (options_of (map string_bytes option.now))) }
+    ensures value { IfOk result (λ command. command
+        ≡ self_test_by (number_of_word (string_bytes word.now)) (options_of (map string_bytes option.now))) }
     ensures range { IfOk result (λ command. IfSome command IsInRange) }
 {
     let Some(number) = session_number(word) else {

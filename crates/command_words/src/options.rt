@@ -103,7 +103,8 @@ fn packet_by(text: Option<&str>) -> Option<Option<PacketSize>>
 // What the texts of the options ask for.
 #[tactic(auto, unfolding(crate::specs::Meant::options_by))]
 fn options_by_texts(batch: Option<&str>, packet: Option<&str>) -> Option<Options>
-    ensures value { result ≡ options_by (record { batch = option_map (λ text. text.now) batch.entry; packet = option_map (λ text. text.now) packet.entry }) }
+    ensures value { result ≡ options_by
+        (record { batch = option_map (λ text. text.now) batch.entry; packet = option_map (λ text. text.now) packet.entry }) }
     ensures range { IfSome result (λ options. IfSome options.batch (λ b. (1 ≤ b) × (b ≤ 64))) }
 {
     let batch = batch_by(batch)?;

@@ -91,4 +91,5 @@ IsFrom packets _ = Unit {0}
 -- A call as a report tells it, filled with the packets that its caller's passes bring, is the call: nothing of it is lost.
 abbrev pub FilledIsTheCall : Type 0
 FilledIsTheCall =
-    (packets : Input → List (List ℕ)) (call : Invocation) → IsFrom packets call → filled_act packets (act_of call) ≡ call
+    (packets : Input → List (List ℕ)) (call : Invocation) → IsFrom packets call
+    → filled_act packets (act_of call) ≡ call

@@ -22,7 +22,8 @@ impl Model for ByteBuf {
 
     ghost view = { λ b. record { count = b.count; bytes = b.bytes.items } };
 
-    ghost invariant = { λ b. (b.count ≤ LARGEST_READ) × (length b.bytes.items ≤ b.count) × (b.count ≤ vec_capacity b.bytes) };
+    ghost invariant = { λ b. (b.count ≤ LARGEST_READ) × (length b.bytes.items ≤ b.count)
+        × (b.count ≤ vec_capacity b.bytes) };
 }
 
 impl ByteBuf {

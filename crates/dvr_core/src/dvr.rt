@@ -123,8 +123,10 @@ impl DvrCore {
         ensures stands { (h : History) → StandsFor self.old h
             → May dvr h who (invocation_of call) (response_of result.reply)
             × StandsFor self.new (entry_of who (invocation_of call) (response_of result.reply) ∷ h) }
-        ensures causes { (h : History) → StandsFor self.old h → Causes Dvr self.old.facts self.new.facts who (invocation_of call) (response_of result.reply) }
-        ensures unchanged { is_accepted (response_of result.reply) ≡ false → self.new ≡ record self.old { entries = self.old.entries + 1 } }
+        ensures causes { (h : History) → StandsFor self.old h
+            → Causes Dvr self.old.facts self.new.facts who (invocation_of call) (response_of result.reply) }
+        ensures unchanged { is_accepted (response_of result.reply) ≡ false
+            → self.new ≡ record self.old { entries = self.old.entries + 1 } }
         ensures back { GivesBack call result }
         ensures rises { self.new.entries ≡ self.old.entries + 1 }
         ensures cost { steps.new ≤ steps.old + named_packets self.old.taps (invocation_of call) }

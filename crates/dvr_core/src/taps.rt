@@ -75,7 +75,8 @@ impl Taps {
 
     /// The places of the packets of a batch that some tap names, each once.
     pub fn places(&self, batch: &Batch) -> PlaceSet
-        ensures { (i : ℕ) (packet : List ℕ) → slice_get batch.now.packets i ≡ Some packet → is_in i result ≡ some_names self.now packet }
+        ensures { (i : ℕ) (packet : List ℕ) → slice_get batch.now.packets i ≡ Some packet
+            → is_in i result ≡ some_names self.now packet }
     {
         let mut places = PlaceSet::new();
         'taps: for tap in &self.taps {

@@ -55,8 +55,10 @@ impl DvrTenure {
         requires sound { CoherentIn self.old.buffer.ledger }
         requires own { is_for_anybody Dvr (invocation_of call) ≡ false }
         requires stays { is_close (invocation_of call) ≡ false }
-        ensures said { (taps : List (Option TapValue)) → Gives (knows_in ended taps (Some self.old)) self.old.owner (invocation_of call) (response_of result.reply) }
-        ensures after { (taps : List (Option TapValue)) → knows_in ended taps (Some self.new) ≡ next (knows_in ended taps (Some self.old)) self.old.owner (invocation_of call) (response_of result.reply) }
+        ensures said { (taps : List (Option TapValue))
+            → Gives (knows_in ended taps (Some self.old)) self.old.owner (invocation_of call) (response_of result.reply) }
+        ensures after { (taps : List (Option TapValue)) → knows_in ended taps (Some self.new)
+            ≡ next (knows_in ended taps (Some self.old)) self.old.owner (invocation_of call) (response_of result.reply) }
         ensures back { GivesBack call result }
         ensures sound { CoherentIn self.new.buffer.ledger }
         ensures bytes { total_of self.new.buffer.ledger ≤ total_of self.old.buffer.ledger }
@@ -97,7 +99,8 @@ impl DvrTenure {
 
     /// close(): what is dropped with the tenure. The node becomes free, and its size and unread bytes are gone.
     pub fn close(&self) -> Reply
-        ensures { (ended : Bool) (taps : List (Option TapValue)) → response_of result ≡ reply_to (knows_in ended taps (Some self.now)) self.now.owner Close }
+        ensures { (ended : Bool) (taps : List (Option TapValue))
+            → response_of result ≡ reply_to (knows_in ended taps (Some self.now)) self.now.owner Close }
     {
         done(self.buffer.unread(), Tap::Keep)
     }

@@ -41,7 +41,14 @@ impl Model for MemSink {
 
     ghost Value = { MemoryWritten };
 
-    ghost view = { λ s. record { written = s.bytes.items; capacity = s.capacity; piece = s.piece; writes = s.writes; fails = s.fails.items; faults = s.faults.count } };
+    ghost view = { λ s. record {
+      written = s.bytes.items;
+      capacity = s.capacity;
+      piece = s.piece;
+      writes = s.writes;
+      fails = s.fails.items;
+      faults = s.faults.count;
+    } };
 
     ghost invariant = { λ s. (length s.bytes.items ≤ s.capacity) × (s.capacity ≤ vec_capacity s.bytes) × (1 ≤ s.piece) };
 }
@@ -56,7 +63,8 @@ impl MemSink {
         fails: Vec<u64>,
     ) -> Result<MemSink, NoMemory>
         requires { 1 ≤ piece }
-        ensures { IfOk result (λ s. s ≡ record { written = []; capacity = capacity; piece = piece; writes = 0; fails = fails.items; faults = 0 }) }
+        ensures { IfOk result (λ s. s
+            ≡ record { written = []; capacity = capacity; piece = piece; writes = 0; fails = fails.items; faults = 0 }) }
     {
         Ok(MemSink {
             bytes: Vec::with_capacity(alloc, capacity)?,
@@ -86,12 +94,16 @@ impl Sink for MemSink {
         ensures bytes { WriteAppends (Some self.old.written) (Some self.new.written) result piece.now }
         ensures cause { HasCause self.old.faults self.new.faults result }
         // It fails exactly where its number was named or the sink is full, and else takes as many bytes as it may.
-        ensures fails { IsErr result ↔ (Contains self.old.fails self.old.writes ⊎ (length self.old.written ≡ self.old.capacity)) }
-        ensures count { IfOk result (λ n. n ≡ min (min (length piece.now) (self.old.capacity - length self.old.written)) self.old.piece) }
+        ensures fails { IsErr result ↔ (Contains self.old.fails self.old.writes
+            ⊎ (length self.old.written ≡ self.old.capacity)) }
+        ensures count { IfOk result (λ n. n
+            ≡ min (min (length piece.now) (self.old.capacity - length self.old.written)) self.old.piece) }
         ensures fits { length self.new.written ≤ self.new.capacity }
-        ensures faults { MatchResult result (λ _. self.new.faults ≡ self.old.faults) (λ _. self.new.faults ≡ self.old.faults + 1) }
+        ensures faults { MatchResult result (λ _. self.new.faults ≡ self.old.faults) (λ _. self.new.faults
+            ≡ self.old.faults + 1) }
         ensures writes { self.new.writes ≡ min (self.old.writes + 1) (2 ^ 64 - 1) }
-        ensures keeps { (self.new.capacity ≡ self.old.capacity) × (self.new.piece ≡ self.old.piece) × (self.new.fails ≡ self.old.fails) }
+        ensures keeps { (self.new.capacity ≡ self.old.capacity) × (self.new.piece ≡ self.old.piece)
+            × (self.new.fails ≡ self.old.fails) }
     {
         let number = self.writes;
         self.writes = self.writes.saturating_add(1);

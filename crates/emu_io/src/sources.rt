@@ -41,7 +41,13 @@ impl Model for MemSource {
 
     ghost Value = { MemoryLeft };
 
-    ghost view = { λ s. record { left = drop s.at s.bytes.items; piece = s.piece; reads = s.reads; fails = s.fails.items; faults = s.faults.count } };
+    ghost view = { λ s. record {
+      left = drop s.at s.bytes.items;
+      piece = s.piece;
+      reads = s.reads;
+      fails = s.fails.items;
+      faults = s.faults.count;
+    } };
 
     ghost invariant = { λ s. (s.at ≤ length s.bytes.items) × (1 ≤ s.piece) };
 }
@@ -85,7 +91,8 @@ impl Source for MemSource {
         // It fails exactly where its number was named, and else gives as many bytes as it may.
         ensures fails { IsErr result ↔ Contains self.old.fails self.old.reads }
         ensures count { IfOk result (λ n. n ≡ min (min (length self.old.left) (length into.old)) self.old.piece) }
-        ensures faults { MatchResult result (λ _. self.new.faults ≡ self.old.faults) (λ _. self.new.faults ≡ self.old.faults + 1) }
+        ensures faults { MatchResult result (λ _. self.new.faults ≡ self.old.faults) (λ _. self.new.faults
+            ≡ self.old.faults + 1) }
         ensures reads { self.new.reads ≡ min (self.old.reads + 1) (2 ^ 64 - 1) }
         ensures keeps { (self.new.piece ≡ self.old.piece) × (self.new.fails ≡ self.old.fails) }
     {

@@ -52,9 +52,11 @@ pub record Asks (bytes report : List ℕ) (script : Scripted) (stream : List ℕ
 -- ------ what is answered
 
 -- whether the report is that of a run of the script over the packets of the stream, all of which was read
-abbrev pub IsAnswer : (right : Bool) → PacketSize → (report : List ℕ) → (script : Scripted) → (stream : List ℕ) → Type 0
+abbrev pub IsAnswer : (right : Bool) → PacketSize → (report : List ℕ) → (script : Scripted)
+    → (stream : List ℕ) → Type 0
 IsAnswer true size report script stream = IsReportOfRun script (cut size stream).packets (head_of size stream false) report
-IsAnswer false size report script stream = IsReportOfRun script (cut size stream).packets (head_of size stream false) report → ⊥
+IsAnswer false size report script stream = IsReportOfRun script (cut size stream).packets (head_of size stream false) report
+    → ⊥
 
 -- the answer, as it is written
 unfoldable pub answer_text : (right : Bool) → List ℕ

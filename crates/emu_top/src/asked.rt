@@ -37,8 +37,10 @@ fn size_in(line: &[u8]) -> Option<u32>
 // it isn't such a line.
 fn read_size<S: Source>(alloc: Global, source: &mut S) -> Result<Option<u32>, PartError>
     ensures some { IfOk result (λ size. IfSome size (λ n. AsksFor n (S.end source.old) (S.end source.new))) }
-    ensures none { IfOk result (λ size. IfNone size (HasFirstFault (in_front NumberKind) (S.end source.old) (S.end source.new))) }
-    ensures failed { IsErrOf result PartError.Failed → (bytes : List ℕ) × Consumes (S.end source.old).left (S.end source.new).left bytes × EndsInLine bytes }
+    ensures none { IfOk result
+        (λ size. IfNone size (HasFirstFault (in_front NumberKind) (S.end source.old) (S.end source.new))) }
+    ensures failed { IsErrOf result PartError.Failed → (bytes : List ℕ)
+        × Consumes (S.end source.old).left (S.end source.new).left bytes × EndsInLine bytes }
     ensures cause { HasReadCause (S.end source.old).faults (S.end source.new).faults result }
 {
     let mut line = Vec::new(alloc);
@@ -64,7 +66,8 @@ fn read_bytes<S: Source>(alloc: Global, source: &mut S, size: u32) -> Result<Vec
     ensures bytes { IfOk result (λ bytes. Consumes (S.end source.old).left (S.end source.new).left bytes.items) }
     ensures fits { IfOk result (λ bytes. length bytes.items ≤ size) }
     ensures end { IfOk result (λ bytes. length bytes.items < size → IsAtEnd (S.end source.new).left) }
-    ensures failed { IsErrOf result PartError.Failed → (bytes : List ℕ) × Consumes (S.end source.old).left (S.end source.new).left bytes × (length bytes < size) }
+    ensures failed { IsErrOf result PartError.Failed → (bytes : List ℕ)
+        × Consumes (S.end source.old).left (S.end source.new).left bytes × (length bytes < size) }
     ensures cause { HasReadCause (S.end source.old).faults (S.end source.new).faults result }
 {
     let most = size as usize;

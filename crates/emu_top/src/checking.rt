@@ -18,7 +18,8 @@ pub fn wrong_in<S: Source>(
     source: &mut S,
     size: PacketSize,
 ) -> Result<Option<Fault>, Status>
-    ensures answer { IfOk result (λ fault. MatchOption fault (Judges true size (S.end source.old) (S.end source.new)) (λ _. Judges false size (S.end source.old) (S.end source.new))) }
+    ensures answer { IfOk result (λ fault. MatchOption fault (Judges true size (S.end source.old) (S.end source.new))
+        (λ _. Judges false size (S.end source.old) (S.end source.new))) }
     ensures declines { IfErr result (λ status. Declines (S.end source.old) (S.end source.new) status) }
     ensures once { (S.end source.new).faults ≤ (S.end source.old).faults + 1 }
 {

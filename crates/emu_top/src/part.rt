@@ -36,7 +36,8 @@ pub fn read_front<S: Source>(alloc: Global, source: &mut S) -> Result<Front, Par
     ensures fits { IfOk result (λ front. length front.part ≤ most_bytes) }
     ensures reads { IfOk result (λ front. front.reads ≤ length front.part) }
     ensures ahead { IfOk result (λ front. IfSome (script_len (whole_lines front.part)) (λ n. length front.part ≤ n + 65535)) }
-    ensures end { IfOk result (λ front. script_len (whole_lines front.part) ≡ None → (length front.part ≡ most_bytes) ⊎ IsAtEnd (S.end source.new).left) }
+    ensures end { IfOk result (λ front. script_len (whole_lines front.part) ≡ None
+        → (length front.part ≡ most_bytes) ⊎ IsAtEnd (S.end source.new).left) }
     ensures unended { IsErrOf result PartError.Failed → IsUnended (S.end source.old) (S.end source.new) }
     ensures cause { HasReadCause (S.end source.old).faults (S.end source.new).faults result }
 {

@@ -71,7 +71,8 @@ pub fn read_session<S: Source>(
     source: &mut S,
     size: PacketSize,
 ) -> Result<Session, Status>
-    ensures begins { IfOk result (λ session. (first : List ℕ) × Takes (S.end source.old) (S.end source.new) first × Holds first size session.script session.puller) }
+    ensures begins { IfOk result (λ session. (first : List ℕ) × Takes (S.end source.old) (S.end source.new) first
+        × Holds first size session.script session.puller) }
     ensures going { IfOk result (λ session. (session.puller.reading ≡ Going) × (session.puller.given ≡ 0)) }
     ensures steady { IfOk result (λ session. (S.end source.new).faults ≡ (S.end source.old).faults) }
     ensures refuses { IfErr result (λ status. Refuses (S.end source.old) (S.end source.new) status) }
@@ -96,9 +97,11 @@ fn run_session<S: Source>(
     requires few { batch ≤ 64 }
     requires going { session.puller.reading ≡ Going }
     requires fresh { session.puller.given ≡ 0 }
-    ensures runs { IfOk result (λ ran. (begun : SourceEnd) (size : PacketSize) (first : List ℕ) → Takes begun (S.end source.old) first → Holds first size session.script session.puller
+    ensures runs { IfOk result (λ ran. (begun : SourceEnd) (size : PacketSize) (first : List ℕ)
+        → Takes begun (S.end source.old) first → Holds first size session.script session.puller
         → Runs batch size begun (S.end source.new) ran) }
-    ensures refuses { IfErr result (λ status. (begun : SourceEnd) (size : PacketSize) (first : List ℕ) → Takes begun (S.end source.old) first → Holds first size session.script session.puller
+    ensures refuses { IfErr result (λ status. (begun : SourceEnd) (size : PacketSize) (first : List ℕ)
+        → Takes begun (S.end source.old) first → Holds first size session.script session.puller
         → Refuses begun (S.end source.new) status) }
     ensures once { (S.end source.new).faults ≤ (S.end source.old).faults + 1 }
 {

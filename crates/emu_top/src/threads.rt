@@ -30,9 +30,12 @@ fn run_threads<R: Threads + Wait + Sync, S: Source + Send, C: Clock + Sync, G: G
     requires few { batch ≤ 64 }
     requires going { session.puller.reading ≡ Going }
     requires fresh { session.puller.given ≡ 0 }
-    ensures makes { IfOk result (λ left. (begun : SourceEnd) (size : PacketSize) (first : List ℕ) → Takes begun (S.end source.old) first → Holds first size session.script session.puller
-        → Makes (IsThreadOutput batch size (C.may_give clock.now)) begun (S.end source.new) left.head.read_fault (report_over left)) }
-    ensures refuses { IfErr result (λ status. (begun : SourceEnd) (size : PacketSize) (first : List ℕ) → Takes begun (S.end source.old) first → Holds first size session.script session.puller
+    ensures makes { IfOk result (λ left. (begun : SourceEnd) (size : PacketSize) (first : List ℕ)
+        → Takes begun (S.end source.old) first → Holds first size session.script session.puller
+        → Makes (IsThreadOutput batch size (C.may_give clock.now)) begun (S.end source.new) left.head.read_fault
+        (report_over left)) }
+    ensures refuses { IfErr result (λ status. (begun : SourceEnd) (size : PacketSize) (first : List ℕ)
+        → Takes begun (S.end source.old) first → Holds first size session.script session.puller
         → Refuses begun (S.end source.new) status) }
     ensures once { (S.end source.new).faults ≤ (S.end source.old).faults + 1 }
 {
@@ -80,7 +83,8 @@ pub fn left_by_threads<R: Threads + Wait + Sync, S: Source + Send, C: Clock + Sy
 ) -> Result<Left, Status>
     requires some { 1 ≤ batch }
     requires few { batch ≤ 64 }
-    ensures makes { IfOk result (λ left. Makes (IsThreadOutput batch size (C.may_give clock.now)) (S.end source.old) (S.end source.new) left.head.read_fault (report_over left)) }
+    ensures makes { IfOk result (λ left. Makes (IsThreadOutput batch size (C.may_give clock.now)) (S.end source.old)
+        (S.end source.new) left.head.read_fault (report_over left)) }
     ensures refuses { IfErr result (λ status. Refuses (S.end source.old) (S.end source.new) status) }
     ensures once { (S.end source.new).faults ≤ (S.end source.old).faults + 1 }
 {

@@ -63,7 +63,8 @@ pub record Pulls (ahead taken : List ℕ) (given : List (List ℕ)) (p : Pulling
   pub piece : length latest ≤ 65536
   -- once more bytes were taken than one read may leave behind a packet, it knows how many packets there are in front of
   -- the last read
-  pub found_before_last_read : 65535 < length taken → p.found_before_last_read ≡ length (cut p.cutting.size (ahead ++ before)).packets
+  pub found_before_last_read : 65535 < length taken
+      → p.found_before_last_read ≡ length (cut p.cutting.size (ahead ++ before)).packets
 
 -- reading has stopped, and nothing is left to be given
 pub record IsDone (p : Pulling) : Type 0 where
@@ -113,4 +114,5 @@ IsNear size ahead taken given = (earlier later : List ℕ) → taken ≡ earlier
 
 -- whatever stream the puller stands behind, at most 65,535 of the bytes taken stand behind the packets given
 abbrev pub IsNearEnd : Pulling → Type 0
-IsNearEnd p = (ahead taken : List ℕ) (given : List (List ℕ)) → Pulls ahead taken given p → IsNear p.cutting.size ahead taken given
+IsNearEnd p = (ahead taken : List ℕ) (given : List (List ℕ)) → Pulls ahead taken given p
+    → IsNear p.cutting.size ahead taken given

@@ -29,11 +29,24 @@ pub record Goes (old : Pulling) (more : List ℕ) (new : Pulling) : Type 0 where
   pub start : new.start ≡ old.start
   pub taken : new.taken ≡ old.taken + length more
   pub watch : (before : List (List ℕ)) → Watched before old.watch → Watched (before ++ found) new.watch
-  pub last : ((more ≡ []) × (new.found_before_last_read ≡ old.found_before_last_read)) ⊎ Reads old more new.found_before_last_read
+  pub last : ((more ≡ []) × (new.found_before_last_read ≡ old.found_before_last_read))
+      ⊎ Reads old more new.found_before_last_read
 
 -- the puller once there is room for so many packets
 abbrev pub with_room : Pulling → ℕ → Pulling
-with_room p room = record { cutting = p.cutting; waiting = p.waiting; room = room; unread = p.unread; given = p.given; found_before_last_read = p.found_before_last_read; start = p.start; taken = p.taken; reads = p.reads; reading = p.reading; watch = p.watch }
+with_room p room = record {
+  cutting = p.cutting;
+  waiting = p.waiting;
+  room = room;
+  unread = p.unread;
+  given = p.given;
+  found_before_last_read = p.found_before_last_read;
+  start = p.start;
+  taken = p.taken;
+  reads = p.reads;
+  reading = p.reading;
+  watch = p.watch;
+}
 
 -- no read was made
 pub record ReadsNothing (old new : Pulling) : Type 0 where

@@ -14,4 +14,5 @@ pub record Draws (before after : SourceEnd) (old new : Pulling) (packets : List 
 -- puller, it is so of the stream of both.
 abbrev pub OfStream : (before after : SourceEnd) → Pulling → ((ahead taken : List ℕ) → Type 0) → Type 0
 OfStream before after puller P =
-    (taken : List ℕ) × Consumes before.left after.left taken × ((ahead : List ℕ) → Pulls ahead [] [] puller → P ahead taken)
+    (taken : List ℕ) × Consumes before.left after.left taken
+    × ((ahead : List ℕ) → Pulls ahead [] [] puller → P ahead taken)

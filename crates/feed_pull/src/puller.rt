@@ -101,7 +101,8 @@ impl Puller {
         requires short { vec_len ahead ≤ 65536 }
         ensures stream { IfOk result (λ puller. Pulls ahead.items [] [] puller) }
         ensures size { IfOk result (λ puller. puller.cutting.size ≡ size) }
-        ensures numbers { IfOk result (λ puller. (puller.start ≡ turns) × (puller.reads ≡ turns) × (puller.taken ≡ 0) × (puller.given ≡ 0)) }
+        ensures numbers { IfOk result (λ puller. (puller.start ≡ turns) × (puller.reads ≡ turns) × (puller.taken ≡ 0)
+            × (puller.given ≡ 0)) }
         ensures going { IfOk result (λ puller. puller.reading ≡ Reading.Going) }
         ensures late { IfOk result (λ puller. puller.found_before_last_read ≤ puller.given) }
     {
@@ -130,7 +131,8 @@ impl Puller {
         ensures less { work self.new < work self.old }
         ensures waiting { self.new.waiting ≡ self.old.waiting }
         ensures room { self.new.room ≡ self.old.room }
-        ensures late { self.new.found_before_last_read ≤ max self.old.found_before_last_read (self.old.given + length self.old.waiting) }
+        ensures late { self.new.found_before_last_read
+            ≤ max self.old.found_before_last_read (self.old.given + length self.old.waiting) }
     {
         if self.reads == MOST_READS {
             self.reading = Reading::TooMany;
@@ -195,7 +197,8 @@ impl Puller {
         ensures gathers { Gathers (S.end source.old) (S.end source.new) self.old self.new }
         ensures follows { Follows self.old.reading self.new.reading (S.end source.old) (S.end source.new) }
         ensures less { work self.new < work self.old }
-        ensures late { self.new.found_before_last_read ≤ max self.old.found_before_last_read (self.old.given + length self.old.waiting) }
+        ensures late { self.new.found_before_last_read
+            ≤ max self.old.found_before_last_read (self.old.given + length self.old.waiting) }
         ensures stopped { self.old.reading ≢ Reading.Going → ReadsNothing self.old self.new }
         ensures fits { length self.new.waiting ≤ self.old.room }
         ensures room { self.new.room ≡ self.old.room }
@@ -241,10 +244,12 @@ impl Puller {
         requires most { most ≤ 64 }
         ensures gathers { Gathers (S.end source.old) (S.end source.new) self.old self.new }
         ensures follows { Follows self.old.reading self.new.reading (S.end source.old) (S.end source.new) }
-        ensures fewer { OnOk result (length self.new.waiting < most → (self.new.unread ≡ []) × (self.new.reading ≢ Reading.Going)) }
+        ensures fewer { OnOk result (length self.new.waiting < most
+            → (self.new.unread ≡ []) × (self.new.reading ≢ Reading.Going)) }
         ensures fits { OnOk result (length self.old.waiting ≤ most → length self.new.waiting ≤ most) }
         ensures late { HadFewer most self.old → HadFewer most self.new }
-        ensures full { most ≤ length self.old.waiting → (S.end source.new ≡ S.end source.old) × ReadsNothing self.old self.new }
+        ensures full { most ≤ length self.old.waiting → (S.end source.new ≡ S.end source.old)
+            × ReadsNothing self.old self.new }
         ensures stopped { self.old.reading ≢ Reading.Going → ReadsNothing self.old self.new }
         ensures sound { IsPulling self.new }
     {
@@ -261,12 +266,15 @@ impl Puller {
         requires { 1 ≤ most }
         ensures gives { HasGiven (given_by result (λ batch. batch.value.packets)) self.old self.new }
         ensures first { IfOk result (λ answer. IfSome answer (λ batch. batch.value.first ≡ self.old.given)) }
-        ensures count { IfOk result (λ answer. IfSome answer (λ batch. length batch.value.packets ≡ min most (length self.old.waiting))) }
+        ensures count { IfOk result
+            (λ answer. IfSome answer (λ batch. length batch.value.packets ≡ min most (length self.old.waiting))) }
         ensures some { IfOk result (λ answer. IfSome answer (λ batch. 1 ≤ length batch.value.packets)) }
         ensures none { IfOk result (λ answer. IfNone answer (self.old.waiting ≡ [])) }
         ensures late { HadFewer most self.old → IfOk result (λ _. self.new.found_before_last_read ≤ self.new.given) }
         ensures left { length self.old.waiting ≤ most → IfOk result (λ _. self.new.waiting ≡ []) }
-        ensures whole { HadFewer most self.old → IfOk result (λ answer. IfSome answer (λ batch. length batch.value.packets ≡ most → self.new.found_before_last_read < self.new.given)) }
+        ensures whole { HadFewer most self.old
+            → IfOk result (λ answer. IfSome answer (λ batch. length batch.value.packets ≡ most
+            → self.new.found_before_last_read < self.new.given)) }
         ensures sound { IsPulling self.new }
     {
         let count = most.min(self.room.len());
@@ -290,9 +298,11 @@ impl Puller {
         requires few { most ≤ 64 }
         // The stream grows by just the bytes that the source gave, and what was given by the packets of this batch. After
         // want of memory too nothing that was taken is lost.
-        ensures stream { Carries (S.end source.old) (S.end source.new) self.old (given_by result (λ batch. batch.value.packets)) self.new }
+        ensures stream { Carries (S.end source.old) (S.end source.new) self.old
+            (given_by result (λ batch. batch.value.packets)) self.new }
         // What was given so far is the front of the stream's packets.
-        ensures front { (ahead taken : List ℕ) (given : List (List ℕ)) → Pulls ahead taken given self.new → (later : List (List ℕ)) × ((cut self.new.cutting.size (ahead ++ taken)).packets ≡ given ++ later) }
+        ensures front { (ahead taken : List ℕ) (given : List (List ℕ)) → Pulls ahead taken given self.new
+            → (later : List (List ℕ)) × ((cut self.new.cutting.size (ahead ++ taken)).packets ≡ given ++ later) }
         // Nothing that was found is left over, unless more packets waited than are asked for.
         ensures left { length self.old.waiting ≤ most → IfOk result (λ _. self.new.waiting ≡ []) }
         // A batch's first number is the number of packets given before.
@@ -312,16 +322,19 @@ impl Puller {
         ensures too_many { self.new.reading ≡ Reading.TooMany → 4294967296 ≤ self.new.start + self.new.taken }
         ensures start { self.new.start ≡ self.old.start }
         // Where enough packets wait, or reading has stopped, nothing is read.
-        ensures full { most ≤ length self.old.waiting → (S.end source.new ≡ S.end source.old) × ReadsNothing self.old self.new }
+        ensures full { most ≤ length self.old.waiting → (S.end source.new ≡ S.end source.old)
+            × ReadsNothing self.old self.new }
         ensures stopped { self.old.reading ≢ Reading.Going → ReadsNothing self.old self.new }
         ensures bytes { self.new.taken ≤ 2 ^ 48 }
         ensures numbers { 188 * self.new.given ≤ 65536 + self.new.taken }
-        ensures packets { (ahead taken : List ℕ) (given : List (List ℕ)) → Pulls ahead taken given self.new → 188 * length given ≤ length ahead + length taken }
+        ensures packets { (ahead taken : List ℕ) (given : List (List ℕ)) → Pulls ahead taken given self.new
+            → 188 * length given ≤ length ahead + length taken }
         // Before the last read fewer than `most` packets were in hand, unless a pull that asked for more was refused memory
         // since; so at most 65,535 of the bytes taken stand behind a batch of `most`. An answer begins this anew.
         ensures late { HadFewer most self.old → IfOk result (λ _. self.new.found_before_last_read ≤ self.new.given) }
         ensures asked { HadFewer most self.old → HadFewer most self.new }
-        ensures near { HadFewer most self.old → IfOk result (λ answer. IfSome answer (λ batch. length batch.value.packets ≡ most → IsNearEnd self.new)) }
+        ensures near { HadFewer most self.old
+            → IfOk result (λ answer. IfSome answer (λ batch. length batch.value.packets ≡ most → IsNearEnd self.new)) }
     {
         self.gather(source, most)?;
         self.give(most)
@@ -350,7 +363,8 @@ impl Puller {
     /// The tally of the whole stream. A pull has answered None.
     pub fn tally(&self) -> Tally
         requires { IsDone self.now }
-        ensures { (ahead taken : List ℕ) (given : List (List ℕ)) → Pulls ahead taken given self.now → IsTally (cut self.now.cutting.size (ahead ++ taken)) result }
+        ensures { (ahead taken : List ℕ) (given : List (List ℕ)) → Pulls ahead taken given self.now
+            → IsTally (cut self.now.cutting.size (ahead ++ taken)) result }
     {
         self.cutter.finish()
     }
@@ -358,7 +372,8 @@ impl Puller {
     /// The counts of the whole stream's packets. A pull has answered None.
     pub fn watch(&self) -> &Watch
         requires { IsDone self.now }
-        ensures { (ahead taken : List ℕ) (given : List (List ℕ)) → Pulls ahead taken given self.now → Watched (cut self.now.cutting.size (ahead ++ taken)).packets result.now }
+        ensures { (ahead taken : List ℕ) (given : List (List ℕ)) → Pulls ahead taken given self.now
+            → Watched (cut self.now.cutting.size (ahead ++ taken)).packets result.now }
     {
         &self.watch
     }
@@ -367,7 +382,8 @@ impl Puller {
     pub fn head(&self, alloc: Global) -> Result<Head, NoMemory>
         requires { IsDone self.now }
         ensures head { (ahead taken : List ℕ) (given : List (List ℕ)) → Pulls ahead taken given self.now
-            → IfOk result (λ head. told_head head ≡ head_of self.now.cutting.size (ahead ++ taken) (has_failed self.now.reading)) }
+            → IfOk result (λ head. told_head head
+            ≡ head_of self.now.cutting.size (ahead ++ taken) (has_failed self.now.reading)) }
         ensures fault { IfOk result (λ head. head.read_fault ≡ has_failed self.now.reading) }
     {
         Ok(Head {

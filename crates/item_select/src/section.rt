@@ -42,7 +42,8 @@ pub fn find(assembler: &mut Assembler, wanted: &Compiled, check: bool, found: &m
     requires { 4096 ≤ vec_capacity found.old }
     ensures kept { all_given assembler.new ≡ all_given assembler.old }
     ensures found { MatchBool result
-        (filter (selected wanted.now check) assembler.old.ready ≡ found.new.items ∷ filter (selected wanted.now check) assembler.new.ready)
+        (filter (selected wanted.now check) assembler.old.ready
+        ≡ found.new.items ∷ filter (selected wanted.now check) assembler.new.ready)
         ((filter (selected wanted.now check) assembler.old.ready ≡ []) × (assembler.new.ready ≡ [])) }
     ensures some { result ≡ true → 0 < length found.new.items }
     ensures fits { result ≡ true → length found.new.items ≤ 4096 }

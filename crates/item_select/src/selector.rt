@@ -155,7 +155,8 @@ impl Selector {
         requires drained { self.old.ready ≡ [] }
         ensures value { self.new ≡ after_offer self.old packet.now }
         ensures choice { self.new.choice ≡ self.old.choice }
-        ensures stands { (offered given : List (List ℕ)) → Selects offered given self.old → Selects (offered ++ packet.now ∷ []) given self.new }
+        ensures stands { (offered given : List (List ℕ)) → Selects offered given self.old
+            → Selects (offered ++ packet.now ∷ []) given self.new }
         ensures bytes { bytes_held self.new ≤ bytes_held self.old + 188 }
     {
         match &self.wanted {
@@ -182,7 +183,8 @@ impl Selector {
         ensures drained { IsNone result ↔ (self.old.ready ≡ []) }
         ensures some { IfSome result (λ x. 0 < length x.now) }
         ensures most { IfSome result (λ x. length x.now ≤ 4096) }
-        ensures none { (offered given : List (List ℕ)) → Selects offered given self.old → (IsNone result ↔ (items_of self.old.choice offered ≡ given)) }
+        ensures none { (offered given : List (List ℕ)) → Selects offered given self.old
+            → (IsNone result ↔ (items_of self.old.choice offered ≡ given)) }
         ensures* after { sem 𝓛 (Rests the_row self.entry (λ left. Gave self.old (option_map (λ x. x.now) result) left)) }
     {
         match &self.wanted {

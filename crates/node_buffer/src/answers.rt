@@ -19,7 +19,8 @@ pub fn done(dropped: Span, tap: Tap) -> Reply
 /// What is answered to open() of a free node: what was made for the owner is kept, or there was no memory for it and nothing
 /// changes.
 pub fn opened<T: Drop>(kept: &mut Option<T>, made: Result<T, NoMemory>) -> Reply
-    ensures { MatchResult made (λ t. (kept.new ≡ Some t) × (result ≡ Reply.Done NOTHING Tap.Keep)) (λ e. (kept.new ≡ kept.old) × (result ≡ Reply.NoMemory)) }
+    ensures { MatchResult made (λ t. (kept.new ≡ Some t) × (result ≡ Reply.Done NOTHING Tap.Keep))
+        (λ e. (kept.new ≡ kept.old) × (result ≡ Reply.NoMemory)) }
 {
     match made {
         Ok(made) => {

@@ -148,7 +148,11 @@ impl Buffer {
 
     /// Ends the capture, and takes these terms. Where `begins` says so, another begins at this moment, in milliseconds.
     pub fn renew(&mut self, terms: Terms, begins: bool, now: u64)
-        ensures after { self.new ≡ record { size = self.old.size; terms = terms; ledger = if begins then Some (begun now) else None } }
+        ensures after { self.new ≡ record {
+          size = self.old.size;
+          terms = terms;
+          ledger = if begins then Some (begun now) else None;
+        } }
         ensures holds { CoherentIn self.new.ledger }
     {
         if begins {
@@ -161,7 +165,11 @@ impl Buffer {
 
     /// Notes a Stop.
     pub fn stop(&mut self)
-        ensures after { self.new ≡ record { size = self.old.size; terms = self.old.terms; ledger = option_map with_stop self.old.ledger } }
+        ensures after { self.new ≡ record {
+          size = self.old.size;
+          terms = self.old.terms;
+          ledger = option_map with_stop self.old.ledger;
+        } }
         ensures holds { CoherentIn self.new.ledger }
     {
         if let Some(capture) = &mut self.capture {
@@ -172,7 +180,11 @@ impl Buffer {
     /// Notes the moment of a call, in milliseconds: a capture that goes on expires where its time is over and no item
     /// came.
     pub fn expire(&mut self, now: u64)
-        ensures after { self.new ≡ record { size = self.old.size; terms = self.old.terms; ledger = option_map (expiring self.old.terms.timeout now) self.old.ledger } }
+        ensures after { self.new ≡ record {
+          size = self.old.size;
+          terms = self.old.terms;
+          ledger = option_map (expiring self.old.terms.timeout now) self.old.ledger;
+        } }
         ensures holds { CoherentIn self.new.ledger }
     {
         if let Some(capture) = &mut self.capture {
@@ -200,7 +212,11 @@ impl Buffer {
     pub fn put(&mut self, item: &[u8])
         requires some { 0 < length item.now }
         requires total { total_of self.old.ledger + length item.now < 2 ^ 64 }
-        ensures after { self.new ≡ record { size = self.old.size; terms = self.old.terms; ledger = option_map (λ l. with_item self.old.terms (self.old.size - 1) l item.now) self.old.ledger } }
+        ensures after { self.new ≡ record {
+          size = self.old.size;
+          terms = self.old.terms;
+          ledger = option_map (λ l. with_item self.old.terms (self.old.size - 1) l item.now) self.old.ledger;
+        } }
         ensures holds { CoherentIn self.new.ledger }
         ensures total { total_of self.new.ledger ≤ total_of self.old.ledger + length item.now }
     {
@@ -235,7 +251,11 @@ impl Buffer {
     /// the Read's buffer. `ended` says that the stream has ended, which Again tells.
     pub fn read(&mut self, ended: bool, buf: ByteBuf) -> Reply
         ensures said { response_of result ≡ read_by ended self.old.terms self.old.ledger buf.count }
-        ensures after { self.new ≡ record { size = self.old.size; terms = self.old.terms; ledger = option_map (with_response self.old.terms.by_section (response_of result)) self.old.ledger } }
+        ensures after { self.new ≡ record {
+          size = self.old.size;
+          terms = self.old.terms;
+          ledger = option_map (with_response self.old.terms.by_section (response_of result)) self.old.ledger;
+        } }
         ensures holds { CoherentIn self.new.ledger }
     {
         let at_edge = self.overflow_at_edge();
@@ -280,7 +300,11 @@ impl Buffer {
         requires overflow { over_in self.old.ledger ≡ None }
         requires expiry { IfSome self.old.ledger (λ l. is_some l.expired && not l.is_told ≡ false) }
         ensures said { response_of result ≡ read_by ended self.old.terms self.old.ledger buf.count }
-        ensures after { self.new ≡ record { size = self.old.size; terms = self.old.terms; ledger = option_map (with_response self.old.terms.by_section (response_of result)) self.old.ledger } }
+        ensures after { self.new ≡ record {
+          size = self.old.size;
+          terms = self.old.terms;
+          ledger = option_map (with_response self.old.terms.by_section (response_of result)) self.old.ledger;
+        } }
         ensures holds { CoherentIn self.new.ledger }
     {
         let Some(capture) = &mut self.capture else {
@@ -301,7 +325,9 @@ impl Buffer {
     /// The reply to a Poll: whether a Read of one byte would give something, what is pending, and the place up to which all is
     /// answered.
     pub fn poll(&self, ended: bool) -> Reply
-        ensures { response_of result ≡ Ready (is_readable (read_by ended self.now.terms self.now.ledger 1)) (pending (read_by ended self.now.terms self.now.ledger 1)) (answered_of self.now.ledger) ended }
+        ensures { response_of result
+            ≡ Ready (is_readable (read_by ended self.now.terms self.now.ledger 1))
+            (pending (read_by ended self.now.terms self.now.ledger 1)) (answered_of self.now.ledger) ended }
     {
         let Some(capture) = &self.capture else {
             return Reply::Ready {

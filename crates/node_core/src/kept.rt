@@ -84,10 +84,12 @@ impl Kept {
     pub fn pass<L: Ledger>(&mut self, input: Input, batch: &Batch, now: u64, steps: &mut Steps<L>)
         requires sound { IsSound (knows_of self.old) }
         requires bytes { bytes_in (knows_of self.old) + 12032 < 2 ^ 64 }
-        ensures after { knows_of self.new ≡ next (knows_of self.old) 0 (Pass input batch.now.first batch.now.packets now) Passed }
+        ensures after { knows_of self.new
+            ≡ next (knows_of self.old) 0 (Pass input batch.now.first batch.now.packets now) Passed }
         ensures sound { IsSound (knows_of self.new) }
         ensures bytes { bytes_in (knows_of self.new) ≤ bytes_in (knows_of self.old) + 12032 }
-        ensures cost { steps.new ≤ steps.old + named_packets (knows_of self.old).facts (Pass input batch.now.first batch.now.packets now) }
+        ensures cost { steps.new ≤ steps.old + named_packets (knows_of self.old).facts
+            (Pass input batch.now.first batch.now.packets now) }
         ensures idle { state_of (knows_of self.old).facts ≢ State.Go → steps.new ≡ steps.old }
     {
         if let Some(tenure) = &mut self.tenure {

@@ -132,8 +132,10 @@ impl NodeCore {
         ensures stands { (h : History) → StandsFor self.old h
             → May demux h who (invocation_of call) (response_of result.reply)
             × StandsFor self.new (entry_of who (invocation_of call) (response_of result.reply) ∷ h) }
-        ensures causes { (h : History) → StandsFor self.old h → Causes Demux self.old.facts self.new.facts who (invocation_of call) (response_of result.reply) }
-        ensures unchanged { is_accepted (response_of result.reply) ≡ false → self.new ≡ record self.old { entries = self.old.entries + 1 } }
+        ensures causes { (h : History) → StandsFor self.old h
+            → Causes Demux self.old.facts self.new.facts who (invocation_of call) (response_of result.reply) }
+        ensures unchanged { is_accepted (response_of result.reply) ≡ false
+            → self.new ≡ record self.old { entries = self.old.entries + 1 } }
         ensures back { GivesBack call result }
         ensures rises { self.new.entries ≡ self.old.entries + 1 }
         ensures number { self.new.number ≡ self.old.number }

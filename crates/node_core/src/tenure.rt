@@ -62,7 +62,8 @@ impl Tenure {
     // A filter is set. It starts at once where DMX_IMMEDIATE_START is among its flags.
     fn set(&mut self, params: Params, flags: u32, now: u64) -> Reply
         requires few { HasFewPids (params_of params) (pids_of params) }
-        ensures said { response_of result ≡ done_dropping self.old.buffer.ledger (tap_told (is_recording_for self.old) true self.new) }
+        ensures said { response_of result
+            ≡ done_dropping self.old.buffer.ledger (tap_told (is_recording_for self.old) true self.new) }
         ensures owner { self.new.owner ≡ self.old.owner }
         ensures params { self.new.params ≡ params }
         ensures selector { self.new.selector ≡ begun_selecting (choice_of (params_of params)) }
@@ -105,7 +106,8 @@ impl Tenure {
         requires own { is_for_anybody Demux (invocation_of call) ≡ false }
         requires stays { is_close (invocation_of call) ≡ false }
         ensures said { Gives (knows_in ended (Some self.old)) self.old.owner (invocation_of call) (response_of result.reply) }
-        ensures after { knows_in ended (Some self.new) ≡ next (knows_in ended (Some self.old)) self.old.owner (invocation_of call) (response_of result.reply) }
+        ensures after { knows_in ended (Some self.new)
+            ≡ next (knows_in ended (Some self.old)) self.old.owner (invocation_of call) (response_of result.reply) }
         ensures back { GivesBack call result }
         ensures sound { IsSoundIn self.new }
         ensures bytes { bytes_in (knows_in ended (Some self.new)) ≤ bytes_in (knows_in ended (Some self.old)) }

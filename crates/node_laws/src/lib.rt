@@ -84,8 +84,8 @@ pub fn filled_calls_are_the_calls()
     ensures { FilledIsTheCall }
 {}
 
-/// What the definitions say of a history that was worked out by hand, before an overflow and behind it; and that a demux node refuses the
-/// calls of taps.
+/// What the definitions say of a history that was worked out by hand, before an overflow and behind it; and that a demux node
+/// refuses the calls of taps.
 pub fn worked_histories()
     ensures at_the_read { SaidAtTheRead }
     ensures behind_the_read { SaidBehindTheRead }

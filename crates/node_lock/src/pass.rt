@@ -26,7 +26,8 @@ impl<M: Machine> Model for Pass<M> {
 
     ghost view = { λ p. (p.seat.table_id, p.seat.me.0) };
 
-    ghost invariant = { λ p. (p.seat.me.0.stage ≡ Free) × (p.seat.me.0.spare ≡ 0) × (p.seat.me.1 ≡ []) × (p.who ≡ p.seat.me.0.number) × (p.left ≡ p.seat.me.0.left) };
+    ghost invariant = { λ p. (p.seat.me.0.stage ≡ Free) × (p.seat.me.0.spare ≡ 0) × (p.seat.me.1 ≡ [])
+        × (p.who ≡ p.seat.me.0.number) × (p.left ≡ p.seat.me.0.left) };
 }
 
 impl<M: Machine> Pass<M> {

@@ -70,9 +70,11 @@ impl<M: Machine> NodeLock<M> {
         answer: &M::Answer,
     )
         requires own { seat.old.table_id ≡ self.now }
-        requires turn { (seat.old.me.0.stage ≡ Turn ticket) × (seat.old.me.0.spare ≡ 0) × (M.who_of (M.entry_of who call.now.value answer.now) ≡ seat.old.me.0.number) }
+        requires turn { (seat.old.me.0.stage ≡ Turn ticket) × (seat.old.me.0.spare ≡ 0)
+            × (M.who_of (M.entry_of who call.now.value answer.now) ≡ seat.old.me.0.number) }
         requires said { J.said ≡ M.entry_of who call.now.value answer.now ∷ [] }
-        requires stands { (m : M) × (more : List (ℕ × Option M)) × (seat.old.me.1 ≡ (0, Some m) ∷ more) × M.stands_for m (seat.old.me.0.seen ++ M.entry_of who call.now.value answer.now ∷ []) }
+        requires stands { (m : M) × (more : List (ℕ × Option M)) × (seat.old.me.1 ≡ (0, Some m) ∷ more)
+            × M.stands_for m (seat.old.me.0.seen ++ M.entry_of who call.now.value answer.now ∷ []) }
         ensures own { seat.new.table_id ≡ seat.old.table_id }
         ensures done { TellsDone M.who_of (M.entry_of who call.now.value answer.now ∷ []) seat.old.me seat.new.me }
     {
@@ -89,10 +91,12 @@ impl<M: Machine> NodeLock<M> {
         steps: &mut Steps<L>,
     ) -> M::Answer
         requires own { seat.old.table_id ≡ self.now }
-        requires turn { (seat.old.me.0.stage ≡ Turn ticket) × (seat.old.me.0.spare ≡ 0) × (length seat.old.me.0.seen ≡ ticket) × (ticket < 2 ^ 50) × (who ≡ seat.old.me.0.number) }
+        requires turn { (seat.old.me.0.stage ≡ Turn ticket) × (seat.old.me.0.spare ≡ 0)
+            × (length seat.old.me.0.seen ≡ ticket) × (ticket < 2 ^ 50) × (who ≡ seat.old.me.0.number) }
         requires stands { (m : M) × (seat.old.me.1 ≡ (0, Some m) ∷ []) × M.stands_for m seat.old.me.0.seen }
         ensures own { seat.new.table_id ≡ seat.old.table_id }
-        ensures done { (seat.new.me ≡ (made seat.old.me.0 (M.entry_of who call result ∷ []), [])) × KnowsItsCalls M.who_of seat.new.me.0 }
+        ensures done { (seat.new.me ≡ (made seat.old.me.0 (M.entry_of who call result ∷ []), []))
+            × KnowsItsCalls M.who_of seat.new.me.0 }
         ensures stood { (m : M) × M.stands_for m seat.new.me.0.seen }
         ensures back { M.hands_back call result }
         ensures cost { steps.new ≤ steps.old + M.most seat.old.me.0.seen call }
@@ -123,7 +127,8 @@ impl<M: Machine> NodeLock<M> {
     // Draws a ticket where none is out, and answers the number of tickets found.
     pub(crate) fn attempt(&self, seat: &mut Seat<Option<M>, View<M::Entry>>, served: u64) -> u64
         requires own { seat.old.table_id ≡ self.now }
-        requires free { (seat.old.me.0.stage ≡ Free) × (0 < seat.old.me.0.left) × (length seat.old.me.0.seen ≡ served) × (served < 2 ^ 51) }
+        requires free { (seat.old.me.0.stage ≡ Free) × (0 < seat.old.me.0.left) × (length seat.old.me.0.seen ≡ served)
+            × (served < 2 ^ 51) }
         ensures own { seat.new.table_id ≡ seat.old.table_id }
         ensures tried { TellsTry M.stands_for M.who_of (step 1 0 served (served + 1) none) seat.old.me result seat.new.me }
     {

@@ -188,8 +188,10 @@ impl<const N: usize> Clone for PidSet<N> {
 // The place of a PID among ascending ones, or the place where it would be put.
 fn find(pids: &[u16], pid: u16) -> Result<usize, usize>
     requires { ArePids pids.now }
-    ensures found { IfOk result (λ i. (i < length pids.now) × (has_pid pid pids.now ≡ true) × (without_pid pid pids.now ≡ remove pids.now i) × (with_pid pid pids.now ≡ pids.now)) }
-    ensures absent { IfErr result (λ i. (i ≤ length pids.now) × (has_pid pid pids.now ≡ false) × (with_pid pid pids.now ≡ insert pids.now i pid) × (without_pid pid pids.now ≡ pids.now)) }
+    ensures found { IfOk result (λ i. (i < length pids.now) × (has_pid pid pids.now ≡ true)
+        × (without_pid pid pids.now ≡ remove pids.now i) × (with_pid pid pids.now ≡ pids.now)) }
+    ensures absent { IfErr result (λ i. (i ≤ length pids.now) × (has_pid pid pids.now ≡ false)
+        × (with_pid pid pids.now ≡ insert pids.now i pid) × (without_pid pid pids.now ≡ pids.now)) }
 {
     pids.binary_search(&pid)
 }

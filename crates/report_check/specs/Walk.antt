@@ -16,10 +16,12 @@ queues_in client hs = map (of_client client) hs
 
 -- The entries of the queues, taken one by one, are what the client calls after these replies, to the end of its
 -- commands: each is the first of its node's queue, and is the call that the client's commands ask for next.
-abbrev pub IsRest : (client : ℕ) → Scripted → (done : List Response) → (queues : List (List LogEntry)) → (made : List LogEntry)
+abbrev pub IsRest : (client : ℕ) → Scripted → (done : List Response) → (queues : List (List LogEntry))
+    → (made : List LogEntry)
     → Type 0
 IsRest client script done queues [] =
-    (next_event client script done ≡ None) × ((node : ℕ) (q : List LogEntry) → slice_get queues node ≡ Some q → q ≡ [])
+    (next_event client script done ≡ None)
+    × ((node : ℕ) (q : List LogEntry) → slice_get queues node ≡ Some q → q ≡ [])
 IsRest client script done queues (e ∷ made) =
     IsEvent (plays_of client script) (next_event client script done) e × (e.step ≡ length done)
     × ((later : List LogEntry) × (slice_get queues e.node ≡ Some (e ∷ later))

@@ -148,8 +148,8 @@ fn no_such_client(alloc: Global, clients: u64) -> Result<Expected, NoMemory> {
     }
 }
 
-/// What the rules give at a place of a node whose entry can't stand there: that there is no such client, or the call that is asked
-/// for there of its client. None where that client's walk stops elsewhere. Nothing is claimed of it.
+/// What the rules give at a place of a node whose entry can't stand there: that there is no such client, or the call that is
+/// asked for there of its client. None where that client's walk stops elsewhere. Nothing is claimed of it.
 pub fn expected_of_caller(
     alloc: Global,
     script: &Script,

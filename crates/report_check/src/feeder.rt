@@ -47,7 +47,8 @@ fn is_end(act: &KeptAct) -> bool
 
 // The place of an entry that isn't the end, or comes before all packets have passed, or isn't the feeder's last.
 fn unended(entry: &Entry, after: &[Entry], all: bool) -> Option<u64>
-    ensures { MatchOption result ((is_end_act entry.now.act && (all && are_none (steps_of 0 (map told_entry after.now)))) ≡ true)
+    ensures { MatchOption result ((is_end_act entry.now.act && (all && are_none (steps_of 0 (map told_entry after.now))))
+        ≡ true)
         (λ _. (is_end_act entry.now.act && (all && are_none (steps_of 0 (map told_entry after.now)))) ≡ false) }
 {
     if !is_end(&entry.act) || !all {

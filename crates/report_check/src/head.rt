@@ -49,7 +49,8 @@ fn expected_line(alloc: Global, head: &Head, line: u64) -> Result<Expected, NoMe
     }
 }
 
-/// What is wrong with a report that tells the stream otherwise than this head, or ends with another line. Nothing is claimed of it.
+/// What is wrong with a report that tells the stream otherwise than this head, or ends with another line. Nothing is claimed of
+/// it.
 pub fn fault_of_head(alloc: Global, told: &ReadReport, head: &Head) -> Result<Fault, NoMemory> {
     let (line, expected) = match line_of_stream(&told.head, head) {
         Some(line) => (line, expected_line(alloc, head, line)?),

@@ -11,12 +11,13 @@
 //!
 //! What is proved: `check` answers true, and `first_fault` None, exactly where the report is right, for this head and some run of
 //! the script over these packets, in batches of at most 64 and at any moments. `first_other_reply` answers None exactly where a
-//! told history is legal by the machine's rules and no reply is want of memory, `is_walked` exactly where a client has done what its
-//! commands ask. A report is that of a run exactly where it is right (`right_are_of_runs`). Where memory is refused, all say so.
+//! told history is legal by the machine's rules and no reply is want of memory, `is_walked` exactly where a client has done what
+//! its commands ask. A report is that of a run exactly where it is right (`right_are_of_runs`). Where memory is refused, all say
+//! so.
 //!
-//! What is only tested, by `examples/rows`: which line and kind `first_fault` tells and what it expects there (`Expected`), and that
-//! reports worked out by hand are right. The time is linear in the report, the packets that its nodes are passed and the bytes of
-//! writes; memory holds what was read, and the packets that clients play. How a report is checked is this project's own.
+//! What is only tested, by `examples/rows`: which line and kind `first_fault` tells and what it expects there (`Expected`), and
+//! that reports worked out by hand are right. The time is linear in the report, the packets that its nodes are passed and the
+//! bytes of writes; memory holds what was read, and the packets that clients play. How a report is checked is this project's own.
 #![tactic(auto)]
 
 mod client;

@@ -42,15 +42,18 @@ fn is_callable(act: &KeptAct, who: u32, packets: u64, played: &[Vec<Packet>]) ->
 }
 
 fn is_sound(entry: &Entry, clients: u32, packets: u64, played: &[Vec<Packet>]) -> bool
-    ensures { result ≡ is_sound_entry clients packets (map (λ ps. length ps) (map (λ p. p.items) played.now)) (told_entry entry.now) }
+    ensures { result ≡ is_sound_entry clients packets (map (λ ps. length ps) (map (λ p. p.items) played.now))
+        (told_entry entry.now) }
 {
     entry.who <= clients && is_callable(&entry.act, entry.who, packets, played)
 }
 
 // The place of the first entry that isn't sound.
 fn unsound(entries: &[Entry], clients: u32, packets: u64, played: &[Vec<Packet>]) -> Option<u64>
-    ensures { MatchOption result (are_sound clients packets (map (λ ps. length ps) (map (λ p. p.items) played.now)) (map told_entry entries.now) ≡ true)
-        (λ _. are_sound clients packets (map (λ ps. length ps) (map (λ p. p.items) played.now)) (map told_entry entries.now) ≡ false) }
+    ensures { MatchOption result (are_sound clients packets (map (λ ps. length ps) (map (λ p. p.items) played.now))
+        (map told_entry entries.now) ≡ true)
+        (λ _. are_sound clients packets (map (λ ps. length ps) (map (λ p. p.items) played.now)) (map told_entry entries.now)
+        ≡ false) }
 {
     let mut rest = entries;
     'entries: while let [entry, after @ ..] = rest {
@@ -95,8 +98,10 @@ fn odd_on(
     played: &[Vec<Packet>],
 ) -> Option<Odd>
     ensures { MatchOption result
-        (IsSoundNode clients packets (map (λ ps. length ps) (map (λ p. p.items) played.now)) (map told_entry others.now) (told_node node.now))
-        (λ _. IsSoundNode clients packets (map (λ ps. length ps) (map (λ p. p.items) played.now)) (map told_entry others.now) (told_node node.now) → ⊥) }
+        (IsSoundNode clients packets (map (λ ps. length ps) (map (λ p. p.items) played.now)) (map told_entry others.now)
+        (told_node node.now))
+        (λ _. IsSoundNode clients packets (map (λ ps. length ps) (map (λ p. p.items) played.now)) (map told_entry others.now)
+        (told_node node.now) → ⊥) }
 {
     if let Some(place) = fed_unlike(others, &node.1) {
         return Some(first_on(node, place, clients, packets, played));
@@ -116,8 +121,10 @@ fn odd_among(
     played: &[Vec<Packet>],
 ) -> Option<Odd>
     ensures { MatchOption result
-        (All (IsSoundNode clients packets (map (λ ps. length ps) (map (λ p. p.items) played.now)) (map told_entry others.now)) (told_nodes nodes.now))
-        (λ _. All (IsSoundNode clients packets (map (λ ps. length ps) (map (λ p. p.items) played.now)) (map told_entry others.now)) (told_nodes nodes.now) → ⊥) }
+        (All (IsSoundNode clients packets (map (λ ps. length ps) (map (λ p. p.items) played.now)) (map told_entry others.now))
+        (told_nodes nodes.now))
+        (λ _. All (IsSoundNode clients packets (map (λ ps. length ps) (map (λ p. p.items) played.now))
+        (map told_entry others.now)) (told_nodes nodes.now) → ⊥) }
 {
     let mut rest = nodes;
     'nodes: while let [node, after @ ..] = rest {
@@ -138,7 +145,8 @@ pub fn odd_node(
 ) -> Option<Odd>
     ensures { MatchOption result
         (AreSoundNodes clients packets (map (λ ps. length ps) (map (λ p. p.items) played.now)) (told_nodes nodes.now))
-        (λ _. AreSoundNodes clients packets (map (λ ps. length ps) (map (λ p. p.items) played.now)) (told_nodes nodes.now) → ⊥) }
+        (λ _. AreSoundNodes clients packets (map (λ ps. length ps) (map (λ p. p.items) played.now)) (told_nodes nodes.now)
+        → ⊥) }
 {
     let [first, ..] = nodes else {
         return None;

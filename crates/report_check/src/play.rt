@@ -34,12 +34,17 @@ fn odd_of_demux<L: Ledger>(
     steps: &mut Steps<L>,
 ) -> Result<Option<OtherReply>, NoMemory>
     requires node { node < nodes_of_demux }
-    requires sound { (clients : ℕ) × (are_sound clients (length packets.now) (map (λ ps. length ps) (map (λ p. p.items) played.now)) (map told_entry entries.now) ≡ true) }
+    requires sound { (clients : ℕ)
+        × (are_sound clients (length packets.now) (map (λ ps. length ps) (map (λ p. p.items) played.now))
+        (map told_entry entries.now) ≡ true) }
     requires stream { AreFewPackets packets.now }
     requires played { All AreFewPackets (map (λ p. p.items) played.now) }
     requires few { length entries.now < 2 ^ 50 }
-    ensures { IfOk result (λ odd. MatchOption odd (IsPlayed (brought_from packets.now (map (λ p. p.items) played.now)) (record { node = node; entries = map told_entry entries.now }))
-        (λ _. IsPlayed (brought_from packets.now (map (λ p. p.items) played.now)) (record { node = node; entries = map told_entry entries.now }) → ⊥)) }
+    ensures { IfOk result (λ odd. MatchOption odd
+        (IsPlayed (brought_from packets.now (map (λ p. p.items) played.now))
+        (record { node = node; entries = map told_entry entries.now }))
+        (λ _. IsPlayed (brought_from packets.now (map (λ p. p.items) played.now))
+        (record { node = node; entries = map told_entry entries.now }) → ⊥)) }
 {
     let mut core = NodeCore::new(alloc, node);
     match first_other_reply(alloc, &mut core, packets, played, entries, steps)? {
@@ -59,12 +64,17 @@ fn odd_of_dvr<L: Ledger>(
     played: &[Vec<Packet>],
     steps: &mut Steps<L>,
 ) -> Result<Option<OtherReply>, NoMemory>
-    requires sound { (clients : ℕ) × (are_sound clients (length packets.now) (map (λ ps. length ps) (map (λ p. p.items) played.now)) (map told_entry entries.now) ≡ true) }
+    requires sound { (clients : ℕ)
+        × (are_sound clients (length packets.now) (map (λ ps. length ps) (map (λ p. p.items) played.now))
+        (map told_entry entries.now) ≡ true) }
     requires stream { AreFewPackets packets.now }
     requires played { All AreFewPackets (map (λ p. p.items) played.now) }
     requires few { length entries.now < 2 ^ 50 }
-    ensures { IfOk result (λ odd. MatchOption odd (IsPlayed (brought_from packets.now (map (λ p. p.items) played.now)) (record { node = nodes_of_demux; entries = map told_entry entries.now }))
-        (λ _. IsPlayed (brought_from packets.now (map (λ p. p.items) played.now)) (record { node = nodes_of_demux; entries = map told_entry entries.now }) → ⊥)) }
+    ensures { IfOk result (λ odd. MatchOption odd
+        (IsPlayed (brought_from packets.now (map (λ p. p.items) played.now))
+        (record { node = nodes_of_demux; entries = map told_entry entries.now }))
+        (λ _. IsPlayed (brought_from packets.now (map (λ p. p.items) played.now))
+        (record { node = nodes_of_demux; entries = map told_entry entries.now }) → ⊥)) }
 {
     let mut core = DvrCore::new(alloc);
     match first_other_reply(alloc, &mut core, packets, played, entries, steps)? {
@@ -86,13 +96,18 @@ fn odd_with<L: Ledger>(
     blank: Blank,
 ) -> Result<Option<OtherReply>, NoMemory>
     requires node { node ≤ nodes_of_demux }
-    requires sound { (clients : ℕ) × (are_sound clients (length packets.now) (map (λ ps. length ps) (map (λ p. p.items) played.now)) (map told_entry entries.now) ≡ true) }
+    requires sound { (clients : ℕ)
+        × (are_sound clients (length packets.now) (map (λ ps. length ps) (map (λ p. p.items) played.now))
+        (map told_entry entries.now) ≡ true) }
     requires stream { AreFewPackets packets.now }
     requires played { All AreFewPackets (map (λ p. p.items) played.now) }
     requires few { length entries.now < 2 ^ 50 }
     requires ledger { (blank.name ≡ L.name) × (blank.parts ≡ L.parts) × (0 < L.parts) }
-    ensures { IfOk result (λ odd. MatchOption odd (IsPlayed (brought_from packets.now (map (λ p. p.items) played.now)) (record { node = node; entries = map told_entry entries.now }))
-        (λ _. IsPlayed (brought_from packets.now (map (λ p. p.items) played.now)) (record { node = node; entries = map told_entry entries.now }) → ⊥)) }
+    ensures { IfOk result (λ odd. MatchOption odd
+        (IsPlayed (brought_from packets.now (map (λ p. p.items) played.now))
+        (record { node = node; entries = map told_entry entries.now }))
+        (λ _. IsPlayed (brought_from packets.now (map (λ p. p.items) played.now))
+        (record { node = node; entries = map told_entry entries.now }) → ⊥)) }
 {
     let mut steps: Steps<L> = Steps::new(blank);
     if node < DEMUX_NODES {
@@ -111,12 +126,17 @@ fn odd_reply(
     played: &[Vec<Packet>],
 ) -> Result<Option<OtherReply>, NoMemory>
     requires node { node ≤ nodes_of_demux }
-    requires sound { (clients : ℕ) × (are_sound clients (length packets.now) (map (λ ps. length ps) (map (λ p. p.items) played.now)) (map told_entry entries.now) ≡ true) }
+    requires sound { (clients : ℕ)
+        × (are_sound clients (length packets.now) (map (λ ps. length ps) (map (λ p. p.items) played.now))
+        (map told_entry entries.now) ≡ true) }
     requires stream { AreFewPackets packets.now }
     requires played { All AreFewPackets (map (λ p. p.items) played.now) }
     requires few { length entries.now < 2 ^ 50 }
-    ensures { IfOk result (λ odd. MatchOption odd (IsPlayed (brought_from packets.now (map (λ p. p.items) played.now)) (record { node = node; entries = map told_entry entries.now }))
-        (λ _. IsPlayed (brought_from packets.now (map (λ p. p.items) played.now)) (record { node = node; entries = map told_entry entries.now }) → ⊥)) }
+    ensures { IfOk result (λ odd. MatchOption odd
+        (IsPlayed (brought_from packets.now (map (λ p. p.items) played.now))
+        (record { node = node; entries = map told_entry entries.now }))
+        (λ _. IsPlayed (brought_from packets.now (map (λ p. p.items) played.now))
+        (record { node = node; entries = map told_entry entries.now }) → ⊥)) }
 {
     odd_with::<Brand>(alloc, node, entries, packets, played, Blank::new(1))
 }
@@ -141,10 +161,13 @@ pub fn odd_play(
     played: &[Vec<Packet>],
 ) -> Result<Option<Odd>, NoMemory>
     requires nodes { All (λ n. (n.node ≤ nodes_of_demux) × (length n.entries < 2 ^ 50)) (told_nodes nodes.now) }
-    requires sound { (clients : ℕ) × All (λ n. are_sound clients (length packets.now) (map (λ ps. length ps) (map (λ p. p.items) played.now)) n.entries ≡ true) (told_nodes nodes.now) }
+    requires sound { (clients : ℕ)
+        × All (λ n. are_sound clients (length packets.now) (map (λ ps. length ps) (map (λ p. p.items) played.now)) n.entries
+        ≡ true) (told_nodes nodes.now) }
     requires stream { AreFewPackets packets.now }
     requires played { All AreFewPackets (map (λ p. p.items) played.now) }
-    ensures { IfOk result (λ odd. MatchOption odd (All (IsPlayed (brought_from packets.now (map (λ p. p.items) played.now))) (told_nodes nodes.now))
+    ensures { IfOk result (λ odd. MatchOption odd
+        (All (IsPlayed (brought_from packets.now (map (λ p. p.items) played.now))) (told_nodes nodes.now))
         (λ _. All (IsPlayed (brought_from packets.now (map (λ p. p.items) played.now))) (told_nodes nodes.now) → ⊥)) }
 {
     let mut rest = nodes;

@@ -80,7 +80,8 @@ fn odd_part(
     requires few { length (text_of (told_of told.now)) < 2 ^ 46 }
     requires packets { All IsPacket packets.now }
     requires long { length packets.now < 2 ^ 63 }
-    ensures { IfOk result (λ odd. MatchOption odd (HasPassed script.now packets.now (told_of told.now)) (λ _. HasPassed script.now packets.now (told_of told.now) → ⊥)) }
+    ensures { IfOk result (λ odd. MatchOption odd (HasPassed script.now packets.now (told_of told.now))
+        (λ _. HasPassed script.now packets.now (told_of told.now) → ⊥)) }
 {
     let clients = script.clients();
     if told.outcomes.len() != clients as usize {
@@ -180,7 +181,8 @@ pub fn check(
     requires long { length packets.now < 2 ^ 63 }
     requires few { length bytes.now < 2 ^ 46 }
     ensures right { IfOk result (λ b. b ≡ true → IsRightReport script.now packets.now (told_head head.now) bytes.now) }
-    ensures wrong { IfOk result (λ b. b ≡ false → IsRightReport script.now packets.now (told_head head.now) bytes.now → ⊥) }
+    ensures wrong { IfOk result (λ b. b ≡ false
+        → IsRightReport script.now packets.now (told_head head.now) bytes.now → ⊥) }
 {
     Ok(first_fault(alloc, bytes, script, packets, head)?.is_none())
 }

@@ -41,7 +41,8 @@ fn digits_of(bytes: &[u8]) -> usize
 // The byte of the two digits at the front, and the bytes behind them.
 #[tactic(auto, using(crate::proofs::Steps::bytes_steps))]
 fn first_pair(bytes: &[u8]) -> Option<(u8, &[u8])>
-    ensures pair { MatchOption result (bytes_in bytes.now ≡ ([], bytes.now)) (λ r. bytes_in bytes.now ≡ with_first r.0 (bytes_in r.1.now)) }
+    ensures pair { MatchOption result (bytes_in bytes.now ≡ ([], bytes.now)) (λ r. bytes_in bytes.now
+        ≡ with_first r.0 (bytes_in r.1.now)) }
     ensures shorter { IfSome result (λ r. length r.1.now < length bytes.now) }
 {
     let [high, low, rest @ ..] = bytes else {
@@ -197,7 +198,8 @@ impl<'a> Bytes<'a> {
 
     /// The byte of the two digits at the front; where there are none nothing changes.
     pub fn pair(&mut self) -> Option<u8>
-        ensures pair { MatchOption result ((bytes_in self.old ≡ ([], self.old)) × (self.new ≡ self.old)) (λ byte. bytes_in self.old ≡ with_first byte (bytes_in self.new)) }
+        ensures pair { MatchOption result ((bytes_in self.old ≡ ([], self.old)) × (self.new ≡ self.old))
+            (λ byte. bytes_in self.old ≡ with_first byte (bytes_in self.new)) }
         ensures shorter { IfSome result (λ _. length self.new < length self.old) }
     {
         let (byte, rest) = first_pair(self.rest)?;

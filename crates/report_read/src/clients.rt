@@ -110,7 +110,8 @@ pub fn read_clients(
     alloc: Global,
     bytes: &mut Bytes<'_>,
 ) -> Result<Option<Vec<Vec<Outcome>>>, NoMemory>
-    ensures value { IfOk result (λ clients. Reads (option_map (λ v. map (λ o. o.items) v.items) clients) bytes.new (clients_in bytes.old)) }
+    ensures value { IfOk result
+        (λ clients. Reads (option_map (λ v. map (λ o. o.items) v.items) clients) bytes.new (clients_in bytes.old)) }
     ensures range { IfOk result (λ clients. IfSome clients (λ v. All (All IsOutcomeInRange) (map (λ o. o.items) v.items))) }
 {
     let mut clients: Vec<Vec<Outcome>> = Vec::new(alloc);

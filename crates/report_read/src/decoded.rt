@@ -34,7 +34,8 @@ fn decoded(alloc: Global, digits: &[u8]) -> Result<Vec<u8>, NoMemory>
 // The bytes whose digits are all that stands in front of the line's end. None, and nothing is read, where it isn't so.
 #[tactic(auto, using(crate::proofs::Decoding::decoded_are_read))]
 fn read_line_of_bytes(alloc: Global, bytes: &mut Bytes<'_>) -> Result<Option<Vec<u8>>, NoMemory>
-    ensures value { IfOk result (λ read. MatchOption read (bytes.new ≡ bytes.old) (λ r. bytes_in bytes.old ≡ (r.items, bytes.new))) }
+    ensures value { IfOk result
+        (λ read. MatchOption read (bytes.new ≡ bytes.old) (λ r. bytes_in bytes.old ≡ (r.items, bytes.new))) }
     ensures range { IfOk result (λ read. IfSome read (λ r. All (λ byte. byte < 256) r.items)) }
 {
     let read = decoded(alloc, bytes.line())?;

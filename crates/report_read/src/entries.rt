@@ -79,7 +79,8 @@ pub fn read_entries(
     node: u32,
     bytes: &mut Bytes<'_>,
 ) -> Result<Option<Vec<Entry>>, NoMemory>
-    ensures value { IfOk result (λ entries. Reads (option_map (λ v. map told_entry v.items) entries) bytes.new (all_in begins_number (entry_in node) bytes.old)) }
+    ensures value { IfOk result (λ entries. Reads (option_map (λ v. map told_entry v.items) entries) bytes.new
+        (all_in begins_number (entry_in node) bytes.old)) }
     ensures range { IfOk result (λ entries. IfSome entries (λ v. All (IsEntryOf node) (map told_entry v.items))) }
 {
     let mut entries = Vec::new(alloc);
@@ -113,7 +114,8 @@ fn is_same(these: &[u8], those: &[u8]) -> bool
 /// `NoMemory` where memory for the entry or its text was refused.
 #[tactic(auto, using(crate::proofs::Again::not_read, crate::proofs::Again::not_same))]
 pub fn read_line(alloc: Global, node: u32, line: &[u8]) -> Result<Option<Entry>, NoMemory>
-    ensures { IfOk result (λ told. MatchOption told (IsNoLine node line.now) (λ e. IsEntryOf node (told_entry e) × (line.now ≡ entry_text (told_entry e)))) }
+    ensures { IfOk result (λ told. MatchOption told (IsNoLine node line.now) (λ e. IsEntryOf node (told_entry e)
+        × (line.now ≡ entry_text (told_entry e)))) }
 {
     let mut bytes = Bytes::of(line);
     let Some(entry) = read_entry(alloc, node, &mut bytes)? else {

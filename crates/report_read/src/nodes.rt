@@ -38,8 +38,11 @@ fn read_node_line(bytes: &mut Bytes<'_>) -> Option<u32>
 // A node with its entries.
 #[tactic(auto, unfolding(crate::specs::Inside::Whole::node_in))]
 fn read_node(alloc: Global, bytes: &mut Bytes<'_>) -> Result<Option<(u32, Vec<Entry>)>, NoMemory>
-    ensures value { IfOk result (λ node. Reads (option_map (λ n. record { node = n.0; entries = map told_entry n.1.items }) node) bytes.new (node_in bytes.old)) }
-    ensures range { IfOk result (λ node. IfSome node (λ n. IsNodeInRange (record { node = n.0; entries = map told_entry n.1.items }))) }
+    ensures value { IfOk result
+        (λ node. Reads (option_map (λ n. record { node = n.0; entries = map told_entry n.1.items }) node) bytes.new
+        (node_in bytes.old)) }
+    ensures range { IfOk result
+        (λ node. IfSome node (λ n. IsNodeInRange (record { node = n.0; entries = map told_entry n.1.items }))) }
 {
     let Some(node) = read_node_line(bytes) else {
         return Ok(None);
@@ -56,8 +59,12 @@ pub fn read_nodes(
     alloc: Global,
     bytes: &mut Bytes<'_>,
 ) -> Result<Option<Vec<(u32, Vec<Entry>)>>, NoMemory>
-    ensures value { IfOk result (λ nodes. Reads (option_map (λ v. map (λ n. record { node = n.0; entries = map told_entry n.1.items }) v.items) nodes) bytes.new (nodes_in bytes.old)) }
-    ensures range { IfOk result (λ nodes. IfSome nodes (λ v. All IsNodeInRange (map (λ n. record { node = n.0; entries = map told_entry n.1.items }) v.items))) }
+    ensures value { IfOk result
+        (λ nodes. Reads (option_map (λ v. map (λ n. record { node = n.0; entries = map told_entry n.1.items }) v.items) nodes)
+        bytes.new (nodes_in bytes.old)) }
+    ensures range { IfOk result
+        (λ nodes. IfSome nodes (λ v. All IsNodeInRange
+        (map (λ n. record { node = n.0; entries = map told_entry n.1.items }) v.items))) }
 {
     let mut nodes = Vec::new(alloc);
     let mut left = bytes.len();

@@ -13,7 +13,8 @@ use pid_set::Pids;
 // One more PID.
 #[tactic(auto, unfolding(crate::specs::Inside::Parts::pid_step))]
 fn read_next_pid(set: &mut Pids, bytes: &mut Bytes<'_>) -> Option<()>
-    ensures { MatchOption result (pid_step set.old bytes.old ≡ None) (λ _. pid_step set.old bytes.old ≡ Some (set.new, bytes.new)) }
+    ensures { MatchOption result (pid_step set.old bytes.old ≡ None) (λ _. pid_step set.old bytes.old
+        ≡ Some (set.new, bytes.new)) }
 {
     let pid = bytes.number16()?;
     match set.add(pid) {

@@ -45,7 +45,9 @@ fn behind_nodes<'a>(
     nodes: &[(u32, Vec<Entry>)],
     first: Option<Bytes<'a>>,
 ) -> Result<Option<Bytes<'a>>, NoMemory>
-    ensures { IfOk result (λ left. left ≡ gone (flat_map told_node_text (map (λ n. record { node = n.0; entries = map told_entry n.1.items }) nodes.now)) first.entry) }
+    ensures { IfOk result (λ left. left
+        ≡ gone (flat_map told_node_text (map (λ n. record { node = n.0; entries = map told_entry n.1.items }) nodes.now))
+        first.entry) }
 {
     let mut left = first;
     'nodes: for (number, entries) in nodes {

@@ -106,7 +106,8 @@ fn add_read(out: &mut Vec<u8>, count: u32, now: u64) -> Result<(), NoMemory>
 
 // A tap of this demux node for these PIDs.
 fn add_attach(out: &mut Vec<u8>, node: u32, pids: &Pids) -> Result<(), NoMemory>
-    ensures { Appended 2780 (codes "attach node=" ++ (decimal node ++ (codes " pids=" ++ pids_text pids.now))) out.old out.new result }
+    ensures { Appended 2780 (codes "attach node=" ++ (decimal node ++ (codes " pids=" ++ pids_text pids.now)))
+        out.old out.new result }
 {
     add_field(out, b"attach node=", node as u64)?;
     add_pids(out, b" pids=", pids)

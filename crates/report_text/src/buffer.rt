@@ -47,7 +47,8 @@ impl Waiting {
 /// `Failed` where a write failed. A part of the bytes was written, from the front on, and after the failed write nothing more.
 pub fn write_all<K: Sink>(sink: &mut K, bytes: &[u8]) -> Result<(), Failed>
     ensures whole { OnOk result (Appends (K.end sink.old).written (K.end sink.new).written bytes.now) }
-    ensures front { OnErr result ((n : ℕ) × (n < length bytes.now) × Appends (K.end sink.old).written (K.end sink.new).written (take n bytes.now)) }
+    ensures front { OnErr result ((n : ℕ) × (n < length bytes.now)
+        × Appends (K.end sink.old).written (K.end sink.new).written (take n bytes.now)) }
     ensures cause { HasCause (K.end sink.old).faults (K.end sink.new).faults result }
 {
     let mut done = 0;

@@ -15,8 +15,10 @@ use emu_io::{Failed, Sink};
 // The line of a client's call.
 #[tactic(auto, using(crate::proofs::Pieces::line_added, crate::proofs::Pieces::line_failed))]
 fn write_entry<K: Sink>(sink: &mut K, waiting: &mut Waiting, entry: &Entry) -> Result<(), Failed>
-    ensures adds { OnOk result (Adds (K.end sink.old).written (K.end sink.new).written waiting.old waiting.new (entry_text (told_entry entry.now))) }
-    ensures part { OnErr result (AddsPart (K.end sink.old).written (K.end sink.new).written waiting.old (entry_text (told_entry entry.now))) }
+    ensures adds { OnOk result
+        (Adds (K.end sink.old).written (K.end sink.new).written waiting.old waiting.new (entry_text (told_entry entry.now))) }
+    ensures part { OnErr result
+        (AddsPart (K.end sink.old).written (K.end sink.new).written waiting.old (entry_text (told_entry entry.now))) }
     ensures cause { HasCause (K.end sink.old).faults (K.end sink.new).faults result }
 {
     match add_entry(&mut waiting.bytes, entry) {
@@ -35,8 +37,10 @@ fn write_turn<K: Sink>(
     place: u64,
     step: usize,
 ) -> Result<(), Failed>
-    ensures adds { OnOk result (Adds (K.end sink.old).written (K.end sink.new).written waiting.old waiting.new (entry_text (feeder_entry 0 place step (turn feeding.now step)))) }
-    ensures part { OnErr result (AddsPart (K.end sink.old).written (K.end sink.new).written waiting.old (entry_text (feeder_entry 0 place step (turn feeding.now step)))) }
+    ensures adds { OnOk result (Adds (K.end sink.old).written (K.end sink.new).written waiting.old waiting.new
+        (entry_text (feeder_entry 0 place step (turn feeding.now step)))) }
+    ensures part { OnErr result (AddsPart (K.end sink.old).written (K.end sink.new).written waiting.old
+        (entry_text (feeder_entry 0 place step (turn feeding.now step)))) }
     ensures cause { HasCause (K.end sink.old).faults (K.end sink.new).faults result }
 {
     match add_turn(&mut waiting.bytes, feeding, lines, place, step) {
@@ -59,8 +63,10 @@ fn write_turns_before<K: Sink>(
     requires told { told < 2 ^ 63 }
     requires step { step ≤ length feeding.now + 1 }
     ensures step { IfOk result (λ next. next ≤ length feeding.now + 1) }
-    ensures adds { IfOk result (λ next. AddsSome (K.end sink.old).written (K.end sink.new).written waiting.old waiting.new (Told feeding.now told place step next [])) }
-    ensures part { OnErr result (BreaksBefore feeding.now told place step (AddsPart (K.end sink.old).written (K.end sink.new).written waiting.old)) }
+    ensures adds { IfOk result (λ next. AddsSome (K.end sink.old).written (K.end sink.new).written waiting.old waiting.new
+        (Told feeding.now told place step next [])) }
+    ensures part { OnErr result
+        (BreaksBefore feeding.now told place step (AddsPart (K.end sink.old).written (K.end sink.new).written waiting.old)) }
     ensures cause { HasCause (K.end sink.old).faults (K.end sink.new).faults result }
 {
     let mut next = step;
@@ -89,8 +95,12 @@ fn write_turns_behind<K: Sink>(
 ) -> Result<(), Failed>
     requires told { told < 2 ^ 63 }
     requires step { step ≤ length feeding.now + 1 }
-    ensures adds { OnOk result ((node : ℕ) → Adds (K.end sink.old).written (K.end sink.new).written waiting.old waiting.new (flat_map entry_text (feeder_entries node (told + step) step (drop step (feeder_acts feeding.now))))) }
-    ensures part { OnErr result ((node : ℕ) → AddsPart (K.end sink.old).written (K.end sink.new).written waiting.old (flat_map entry_text (feeder_entries node (told + step) step (drop step (feeder_acts feeding.now))))) }
+    ensures adds { OnOk result ((node : ℕ)
+        → Adds (K.end sink.old).written (K.end sink.new).written waiting.old waiting.new
+        (flat_map entry_text (feeder_entries node (told + step) step (drop step (feeder_acts feeding.now))))) }
+    ensures part { OnErr result ((node : ℕ)
+        → AddsPart (K.end sink.old).written (K.end sink.new).written waiting.old
+        (flat_map entry_text (feeder_entries node (told + step) step (drop step (feeder_acts feeding.now))))) }
     ensures cause { HasCause (K.end sink.old).faults (K.end sink.new).faults result }
 {
     let mut next = step;
@@ -116,8 +126,12 @@ fn write_entries<K: Sink>(
     lines: &[FeederLine],
     calls: &[Entry],
 ) -> Result<(), Failed>
-    ensures adds { OnOk result ((node : ℕ) → Adds (K.end sink.old).written (K.end sink.new).written waiting.old waiting.new (flat_map entry_text (woven node (feeder_acts feeding.now) (map told_entry calls.now)))) }
-    ensures part { OnErr result ((node : ℕ) → AddsPart (K.end sink.old).written (K.end sink.new).written waiting.old (flat_map entry_text (woven node (feeder_acts feeding.now) (map told_entry calls.now)))) }
+    ensures adds { OnOk result ((node : ℕ)
+        → Adds (K.end sink.old).written (K.end sink.new).written waiting.old waiting.new
+        (flat_map entry_text (woven node (feeder_acts feeding.now) (map told_entry calls.now)))) }
+    ensures part { OnErr result ((node : ℕ)
+        → AddsPart (K.end sink.old).written (K.end sink.new).written waiting.old
+        (flat_map entry_text (woven node (feeder_acts feeding.now) (map told_entry calls.now)))) }
     ensures cause { HasCause (K.end sink.old).faults (K.end sink.new).faults result }
 {
     let mut step = 0;
@@ -132,8 +146,10 @@ fn write_entries<K: Sink>(
 // The line of a node.
 #[tactic(auto, using(crate::proofs::Pieces::line_added, crate::proofs::Pieces::line_failed))]
 fn write_node<K: Sink>(sink: &mut K, waiting: &mut Waiting, node: u32) -> Result<(), Failed>
-    ensures adds { OnOk result (Adds (K.end sink.old).written (K.end sink.new).written waiting.old waiting.new (codes "node " ++ (node_text node ++ codes "\n"))) }
-    ensures part { OnErr result (AddsPart (K.end sink.old).written (K.end sink.new).written waiting.old (codes "node " ++ (node_text node ++ codes "\n"))) }
+    ensures adds { OnOk result (Adds (K.end sink.old).written (K.end sink.new).written waiting.old waiting.new
+        (codes "node " ++ (node_text node ++ codes "\n"))) }
+    ensures part { OnErr result (AddsPart (K.end sink.old).written (K.end sink.new).written waiting.old
+        (codes "node " ++ (node_text node ++ codes "\n"))) }
     ensures cause { HasCause (K.end sink.old).faults (K.end sink.new).faults result }
 {
     match add_node_line(&mut waiting.bytes, node) {
@@ -151,8 +167,10 @@ fn write_history<K: Sink>(
     lines: &[FeederLine],
     calls: &[Entry],
 ) -> Result<(), Failed>
-    ensures adds { OnOk result (Adds (K.end sink.old).written (K.end sink.new).written waiting.old waiting.new (history_text node (woven node (feeder_acts feeding.now) (map told_entry calls.now)))) }
-    ensures part { OnErr result (AddsPart (K.end sink.old).written (K.end sink.new).written waiting.old (history_text node (woven node (feeder_acts feeding.now) (map told_entry calls.now)))) }
+    ensures adds { OnOk result (Adds (K.end sink.old).written (K.end sink.new).written waiting.old waiting.new
+        (history_text node (woven node (feeder_acts feeding.now) (map told_entry calls.now)))) }
+    ensures part { OnErr result (AddsPart (K.end sink.old).written (K.end sink.new).written waiting.old
+        (history_text node (woven node (feeder_acts feeding.now) (map told_entry calls.now)))) }
     ensures cause { HasCause (K.end sink.old).faults (K.end sink.new).faults result }
 {
     if !is_called(calls) {
@@ -169,8 +187,10 @@ pub fn write_histories<K: Sink>(
     lines: &[FeederLine],
     histories: &Histories,
 ) -> Result<(), Failed>
-    ensures adds { OnOk result (Adds (K.end sink.old).written (K.end sink.new).written waiting.old waiting.new (histories_text 0 histories.now)) }
-    ensures part { OnErr result (AddsPart (K.end sink.old).written (K.end sink.new).written waiting.old (histories_text 0 histories.now)) }
+    ensures adds { OnOk result
+        (Adds (K.end sink.old).written (K.end sink.new).written waiting.old waiting.new (histories_text 0 histories.now)) }
+    ensures part { OnErr result
+        (AddsPart (K.end sink.old).written (K.end sink.new).written waiting.old (histories_text 0 histories.now)) }
     ensures cause { HasCause (K.end sink.old).faults (K.end sink.new).faults result }
 {
     'nodes: for node in 0..DEMUX_NODES + 1 {

@@ -56,7 +56,9 @@ fn add_tap(out: &mut Vec<u8>, tap: &LogTap) -> Result<(), NoMemory>
 }
 
 fn add_done(out: &mut Vec<u8>, dropped: &Span, tap: &LogTap) -> Result<(), NoMemory>
-    ensures { Appended 2820 (codes "done drop=" ++ (decimal dropped.now.from ++ (codes ".." ++ (decimal dropped.now.to ++ (codes " tap=" ++ tap_text tap.now))))) out.old out.new result }
+    ensures { Appended 2820 (codes "done drop="
+        ++ (decimal dropped.now.from ++ (codes ".." ++ (decimal dropped.now.to ++ (codes " tap=" ++ tap_text tap.now)))))
+        out.old out.new result }
 {
     add_field(out, b"done drop=", dropped.from)?;
     add_field(out, b"..", dropped.to)?;
@@ -72,7 +74,8 @@ fn add_overflow(
     need: u64,
     room: u64,
 ) -> Result<(), NoMemory>
-    ensures { Appended 140 (codes "overflow " ++ (decimal lost.from ++ (codes ".." ++ (decimal lost.to ++ (codes " item=" ++ (decimal item
+    ensures { Appended 140 (codes "overflow "
+        ++ (decimal lost.from ++ (codes ".." ++ (decimal lost.to ++ (codes " item=" ++ (decimal item
         ++ (codes " need=" ++ (decimal need ++ (codes " room=" ++ decimal room))))))))) out.old out.new result }
 {
     add_field(out, b"overflow ", lost.from)?;
@@ -83,7 +86,9 @@ fn add_overflow(
 }
 
 fn add_timed_out(out: &mut Vec<u8>, started: u64, now: u64, timeout: u32) -> Result<(), NoMemory>
-    ensures { Appended 100 (codes "timedout started=" ++ (decimal started ++ (codes " now=" ++ (decimal now ++ (codes " timeout=" ++ decimal timeout))))) out.old out.new result }
+    ensures { Appended 100 (codes "timedout started="
+        ++ (decimal started ++ (codes " now=" ++ (decimal now ++ (codes " timeout=" ++ decimal timeout)))))
+        out.old out.new result }
 {
     add_field(out, b"timedout started=", started)?;
     add_field(out, b" now=", now)?;

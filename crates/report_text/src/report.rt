@@ -28,8 +28,10 @@ pub enum ReportError {
 // The first line, and the line of the whole stream.
 #[tactic(auto, using(crate::proofs::Pieces::line_added, crate::proofs::Pieces::line_failed))]
 fn write_first<K: Sink>(sink: &mut K, waiting: &mut Waiting, head: &Head) -> Result<(), Failed>
-    ensures adds { OnOk result (Adds (K.end sink.old).written (K.end sink.new).written waiting.old waiting.new (codes "dvbemu 1\n" ++ tally_text head.now.tally)) }
-    ensures part { OnErr result (AddsPart (K.end sink.old).written (K.end sink.new).written waiting.old (codes "dvbemu 1\n" ++ tally_text head.now.tally)) }
+    ensures adds { OnOk result (Adds (K.end sink.old).written (K.end sink.new).written waiting.old waiting.new
+        (codes "dvbemu 1\n" ++ tally_text head.now.tally)) }
+    ensures part { OnErr result (AddsPart (K.end sink.old).written (K.end sink.new).written waiting.old
+        (codes "dvbemu 1\n" ++ tally_text head.now.tally)) }
     ensures cause { HasCause (K.end sink.old).faults (K.end sink.new).faults result }
 {
     match add_first(&mut waiting.bytes, head) {
@@ -45,7 +47,8 @@ fn write_row<K: Sink>(
     waiting: &mut Waiting,
     row: &(u16, PidRow),
 ) -> Result<(), Failed>
-    ensures adds { OnOk result (Adds (K.end sink.old).written (K.end sink.new).written waiting.old waiting.new (row_text row.now)) }
+    ensures adds { OnOk result
+        (Adds (K.end sink.old).written (K.end sink.new).written waiting.old waiting.new (row_text row.now)) }
     ensures part { OnErr result (AddsPart (K.end sink.old).written (K.end sink.new).written waiting.old (row_text row.now)) }
     ensures cause { HasCause (K.end sink.old).faults (K.end sink.new).faults result }
 {
@@ -61,8 +64,10 @@ fn write_rows<K: Sink>(
     waiting: &mut Waiting,
     rows: &[(u16, PidRow)],
 ) -> Result<(), Failed>
-    ensures adds { OnOk result (Adds (K.end sink.old).written (K.end sink.new).written waiting.old waiting.new (flat_map row_text rows.now)) }
-    ensures part { OnErr result (AddsPart (K.end sink.old).written (K.end sink.new).written waiting.old (flat_map row_text rows.now)) }
+    ensures adds { OnOk result
+        (Adds (K.end sink.old).written (K.end sink.new).written waiting.old waiting.new (flat_map row_text rows.now)) }
+    ensures part { OnErr result
+        (AddsPart (K.end sink.old).written (K.end sink.new).written waiting.old (flat_map row_text rows.now)) }
     ensures cause { HasCause (K.end sink.old).faults (K.end sink.new).faults result }
 {
     'rows: for row in rows {
@@ -78,8 +83,10 @@ fn write_outcome<K: Sink>(
     waiting: &mut Waiting,
     outcome: &Outcome,
 ) -> Result<(), Failed>
-    ensures adds { OnOk result (Adds (K.end sink.old).written (K.end sink.new).written waiting.old waiting.new (outcome_text outcome.now)) }
-    ensures part { OnErr result (AddsPart (K.end sink.old).written (K.end sink.new).written waiting.old (outcome_text outcome.now)) }
+    ensures adds { OnOk result
+        (Adds (K.end sink.old).written (K.end sink.new).written waiting.old waiting.new (outcome_text outcome.now)) }
+    ensures part { OnErr result
+        (AddsPart (K.end sink.old).written (K.end sink.new).written waiting.old (outcome_text outcome.now)) }
     ensures cause { HasCause (K.end sink.old).faults (K.end sink.new).faults result }
 {
     match add_outcome(&mut waiting.bytes, outcome) {
@@ -94,8 +101,10 @@ fn write_outcomes<K: Sink>(
     waiting: &mut Waiting,
     outcomes: &[Outcome],
 ) -> Result<(), Failed>
-    ensures adds { OnOk result (Adds (K.end sink.old).written (K.end sink.new).written waiting.old waiting.new (flat_map outcome_text outcomes.now)) }
-    ensures part { OnErr result (AddsPart (K.end sink.old).written (K.end sink.new).written waiting.old (flat_map outcome_text outcomes.now)) }
+    ensures adds { OnOk result
+        (Adds (K.end sink.old).written (K.end sink.new).written waiting.old waiting.new (flat_map outcome_text outcomes.now)) }
+    ensures part { OnErr result
+        (AddsPart (K.end sink.old).written (K.end sink.new).written waiting.old (flat_map outcome_text outcomes.now)) }
     ensures cause { HasCause (K.end sink.old).faults (K.end sink.new).faults result }
 {
     'outcomes: for outcome in outcomes {
@@ -111,8 +120,10 @@ fn write_client_line<K: Sink>(
     waiting: &mut Waiting,
     client: usize,
 ) -> Result<(), Failed>
-    ensures adds { OnOk result (Adds (K.end sink.old).written (K.end sink.new).written waiting.old waiting.new (codes "client " ++ (decimal client ++ codes "\n"))) }
-    ensures part { OnErr result (AddsPart (K.end sink.old).written (K.end sink.new).written waiting.old (codes "client " ++ (decimal client ++ codes "\n"))) }
+    ensures adds { OnOk result (Adds (K.end sink.old).written (K.end sink.new).written waiting.old waiting.new
+        (codes "client " ++ (decimal client ++ codes "\n"))) }
+    ensures part { OnErr result (AddsPart (K.end sink.old).written (K.end sink.new).written waiting.old
+        (codes "client " ++ (decimal client ++ codes "\n"))) }
     ensures cause { HasCause (K.end sink.old).faults (K.end sink.new).faults result }
 {
     match add_client_line(&mut waiting.bytes, client) {
@@ -128,8 +139,10 @@ fn write_client<K: Sink>(
     client: usize,
     outcomes: &[Outcome],
 ) -> Result<(), Failed>
-    ensures adds { OnOk result (Adds (K.end sink.old).written (K.end sink.new).written waiting.old waiting.new (client_text client outcomes.now)) }
-    ensures part { OnErr result (AddsPart (K.end sink.old).written (K.end sink.new).written waiting.old (client_text client outcomes.now)) }
+    ensures adds { OnOk result
+        (Adds (K.end sink.old).written (K.end sink.new).written waiting.old waiting.new (client_text client outcomes.now)) }
+    ensures part { OnErr result
+        (AddsPart (K.end sink.old).written (K.end sink.new).written waiting.old (client_text client outcomes.now)) }
     ensures cause { HasCause (K.end sink.old).faults (K.end sink.new).faults result }
 {
     write_client_line(sink, waiting, client)?;
@@ -142,8 +155,10 @@ fn write_clients<K: Sink>(
     waiting: &mut Waiting,
     outcomes: &[Vec<Outcome>],
 ) -> Result<(), Failed>
-    ensures adds { OnOk result (Adds (K.end sink.old).written (K.end sink.new).written waiting.old waiting.new (clients_text 0 (map (λ o. o.items) outcomes.now))) }
-    ensures part { OnErr result (AddsPart (K.end sink.old).written (K.end sink.new).written waiting.old (clients_text 0 (map (λ o. o.items) outcomes.now))) }
+    ensures adds { OnOk result (Adds (K.end sink.old).written (K.end sink.new).written waiting.old waiting.new
+        (clients_text 0 (map (λ o. o.items) outcomes.now))) }
+    ensures part { OnErr result (AddsPart (K.end sink.old).written (K.end sink.new).written waiting.old
+        (clients_text 0 (map (λ o. o.items) outcomes.now))) }
     ensures cause { HasCause (K.end sink.old).faults (K.end sink.new).faults result }
 {
     'clients: for client in 0..outcomes.len() {
@@ -155,7 +170,8 @@ fn write_clients<K: Sink>(
 // The last line, and all that waits.
 #[tactic(auto, using(crate::proofs::Pieces::line_added, crate::proofs::Pieces::line_failed))]
 fn write_end<K: Sink>(sink: &mut K, waiting: &mut Waiting, read_fault: bool) -> Result<(), Failed>
-    ensures adds { OnOk result (Adds (K.end sink.old).written (K.end sink.new).written waiting.old waiting.new (end_text read_fault)) }
+    ensures adds { OnOk result
+        (Adds (K.end sink.old).written (K.end sink.new).written waiting.old waiting.new (end_text read_fault)) }
     ensures part { OnErr result (AddsPart (K.end sink.old).written (K.end sink.new).written waiting.old (end_text read_fault)) }
     ensures none { OnOk result (waiting.new ≡ []) }
     ensures cause { HasCause (K.end sink.old).faults (K.end sink.new).faults result }
@@ -175,8 +191,10 @@ fn write_lines<K: Sink>(
     outcomes: &[Vec<Outcome>],
     histories: &Histories,
 ) -> Result<(), Failed>
-    ensures adds { OnOk result (Adds (K.end sink.old).written (K.end sink.new).written waiting.old [] (report_of (told_head head.now) (map (λ o. o.items) outcomes.now) histories.now)) }
-    ensures part { OnErr result (AddsPart (K.end sink.old).written (K.end sink.new).written waiting.old (report_of (told_head head.now) (map (λ o. o.items) outcomes.now) histories.now)) }
+    ensures adds { OnOk result (Adds (K.end sink.old).written (K.end sink.new).written waiting.old []
+        (report_of (told_head head.now) (map (λ o. o.items) outcomes.now) histories.now)) }
+    ensures part { OnErr result (AddsPart (K.end sink.old).written (K.end sink.new).written waiting.old
+        (report_of (told_head head.now) (map (λ o. o.items) outcomes.now) histories.now)) }
     ensures cause { HasCause (K.end sink.old).faults (K.end sink.new).faults result }
 {
     write_first(sink, waiting, head)?;
@@ -201,10 +219,13 @@ pub fn write_report<K: Sink>(
     outcomes: &[Vec<Outcome>],
     histories: &Histories,
 ) -> Result<(), ReportError>
-    ensures whole { OnOk result (Appends (K.end sink.old).written (K.end sink.new).written (report_of (told_head head.now) (map (λ o. o.items) outcomes.now) histories.now)) }
+    ensures whole { OnOk result (Appends (K.end sink.old).written (K.end sink.new).written
+        (report_of (told_head head.now) (map (λ o. o.items) outcomes.now) histories.now)) }
     ensures steady { OnOk result ((K.end sink.new).faults ≡ (K.end sink.old).faults) }
     ensures refused { IsErrOf result ReportError.NoMemory → sink.new ≡ sink.old }
-    ensures part { IsErrOf result ReportError.Failed → AddsPart (K.end sink.old).written (K.end sink.new).written [] (report_of (told_head head.now) (map (λ o. o.items) outcomes.now) histories.now) }
+    ensures part { IsErrOf result ReportError.Failed
+        → AddsPart (K.end sink.old).written (K.end sink.new).written []
+        (report_of (told_head head.now) (map (λ o. o.items) outcomes.now) histories.now) }
     ensures rose { IsErrOf result ReportError.Failed → (K.end sink.new).faults ≡ (K.end sink.old).faults + 1 }
 {
     let Ok(mut waiting) = Waiting::new(alloc) else {

@@ -119,7 +119,8 @@ fn add_sum(out: &mut Vec<u8>, name: &[u8], sum: u128) -> Result<(), NoMemory>
 
 // The line of these sums: of all nodes, of the demux nodes and of the dvr node.
 fn add_line(out: &mut Vec<u8>, all: &Sums, demux: u128, dvr: u128) -> Result<(), NoMemory>
-    ensures { OnOk result (out.new.items ≡ out.old.items ++ (codes " entries=" ++ (decimal all.now.entries ++ (codes " demux=" ++ (decimal demux
+    ensures { OnOk result (out.new.items
+        ≡ out.old.items ++ (codes " entries=" ++ (decimal all.now.entries ++ (codes " demux=" ++ (decimal demux
         ++ (codes " dvr=" ++ (decimal dvr ++ (codes " overflows=" ++ (decimal all.now.overflows ++ codes "\n"))))))))) }
 {
     add_sum(out, b" entries=", all.entries)?;

@@ -114,7 +114,8 @@ pub fn add_end(out: &mut Vec<u8>, read_fault: bool) -> Result<(), NoMemory>
 
 /// The first line, the stream and its PIDs.
 pub fn add_head(out: &mut Vec<u8>, head: &Head) -> Result<(), NoMemory>
-    ensures { OnOk result (out.new.items ≡ out.old.items ++ (codes "dvbemu 1\n" ++ (tally_text head.now.tally ++ flat_map row_text head.now.rows.items))) }
+    ensures { OnOk result (out.new.items
+        ≡ out.old.items ++ (codes "dvbemu 1\n" ++ (tally_text head.now.tally ++ flat_map row_text head.now.rows.items))) }
 {
     out.extend_from_slice(b"dvbemu 1\n")?;
     add_tally(out, &head.tally)?;

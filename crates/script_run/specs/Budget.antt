@@ -21,7 +21,8 @@ most_calls commands bytes = 33 * (commands + 2 * bytes + 1)
 abbrev pub IsTooLong : (script : Scripted) → (start turns : ℕ) → (ahead taken : List ℕ) → Type 0
 IsTooLong script start turns ahead taken =
     ((turns ≡ 2 ^ 32) × (2 ^ 32 ≤ start + length taken))
-    ⊎ ((turns ≡ MOST_CALLS) × (MOST_CALLS ≤ most_calls (all_commands script.lines) (length ahead + length taken + bytes_written script)))
+    ⊎ ((turns ≡ MOST_CALLS) × (MOST_CALLS
+    ≤ most_calls (all_commands script.lines) (length ahead + length taken + bytes_written script)))
 
 -- the bytes that a reply gives, or names as lost
 abbrev pub bytes_in : Response → ℕ

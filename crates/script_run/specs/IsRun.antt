@@ -40,7 +40,8 @@ StandsIn hs e = (h : List LogEntry) × (slice_get hs e.node ≡ Some h) × (slic
 -- the entry is that event of a client that plays these batches, at some moment
 abbrev pub IsEvent : Batches → Option Event → LogEntry → Type 0
 IsEvent batches None e = ⊥
-IsEvent batches (Some event) e = (e.node ≡ event.node) × ((moment : ℕ) × (e.act ≡ act_of (call_of batches event.want moment)))
+IsEvent batches (Some event) e = (e.node ≡ event.node)
+    × ((moment : ℕ) × (e.act ≡ act_of (call_of batches event.want moment)))
 
 -- the replies to these calls
 abbrev pub replies : List LogEntry → List Response
@@ -102,6 +103,7 @@ pub record IsRun (script : Scripted) (most : ℕ) (stream : List (List ℕ)) (hs
   pub nodes : length hs ≡ DEMUX_NODES + 1
   pub places : ArePlaced script hs
   -- each response is the one that the entries before it give
-  pub legal : (node : ℕ) (h : List LogEntry) → slice_get hs node ≡ Some h → IsLegalFor (rules_at node) (filled (sources script stream) h)
+  pub legal : (node : ℕ) (h : List LogEntry) → slice_get hs node ≡ Some h
+      → IsLegalFor (rules_at node) (filled (sources script stream) h)
   pub fed : IsFed most (length stream) hs
   pub clients_done : (c : ℕ) → c < clients_in script → HasDone script c hs

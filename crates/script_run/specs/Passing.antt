@@ -20,6 +20,7 @@ batches_by who packets h = flat_map (λ e. from_the_dvr (filled_act (packets e.w
 abbrev pub WritesPass : Type 0
 WritesPass =
     (script : Scripted) (most : ℕ) (stream : List (List ℕ)) (hs : List (List LogEntry)) (run : IsRun script most stream hs)
-    (client : ℕ) (is : client < clients_in script) (node : ℕ) (h : List LogEntry) → node < DEMUX_NODES → slice_get hs node ≡ Some h
+    (client : ℕ) (is : client < clients_in script) (node : ℕ) (h : List LogEntry) → node < DEMUX_NODES
+    → slice_get hs node ≡ Some h
     → batches_by (client + 1) (sources script stream) h
     ≡ filter_map (batch_at (plays_of client script)) (played_writes client script (replies (run.clients_done client is).made))

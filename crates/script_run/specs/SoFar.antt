@@ -49,7 +49,8 @@ pub record IsSoFar (payers : Payers) (script : Scripted) (most : ℕ) (stream : 
     (hs : List (List LogEntry)) : Type 0 where
   pub nodes : length hs ≡ DEMUX_NODES + 1
   pub places : ArePlaced script hs
-  pub legal : (node : ℕ) (h : List LogEntry) → slice_get hs node ≡ Some h → IsLegalFor (rules_at node) (filled (sources script stream) h)
+  pub legal : (node : ℕ) (h : List LogEntry) → slice_get hs node ≡ Some h
+      → IsLegalFor (rules_at node) (filled (sources script stream) h)
   pub fed : IsFedSoFar most (length stream) hs
   pub clients : (c : ℕ) → c < clients_in script → HasDoneSoFar payers script c hs
 
@@ -88,4 +89,5 @@ CallsArePaid =
 abbrev pub RunsAreAccounted : Type 0
 RunsAreAccounted =
     (script : Scripted) (most : ℕ) (stream : List (List ℕ)) (hs : List (List LogEntry)) → IsRun script most stream hs
-    → (node : ℕ) (h : List LogEntry) → slice_get hs node ≡ Some h → IsAccounted (rules_at node) (filled (sources script stream) h)
+    → (node : ℕ) (h : List LogEntry) → slice_get hs node ≡ Some h
+    → IsAccounted (rules_at node) (filled (sources script stream) h)

@@ -56,12 +56,13 @@ IsClosing node ds = (ds ≡ []) ⊎ ((now : ℕ) → IsOneCommand now (target_of
 abbrev pub AreClosings : (nodes : ℕ) → List DoneCommand → Type 0
 AreClosings zero ds = ds ≡ []
 AreClosings (suc n) ds =
-    (before : List DoneCommand) × (mine : List DoneCommand) × (ds ≡ before ++ mine) × AreClosings n before × IsClosing n mine
+    (before : List DoneCommand) × (mine : List DoneCommand) × (ds ≡ before ++ mine) × AreClosings n before
+    × IsClosing n mine
 
 -- ------ requests
 
--- What is asked at this moment is answered by these commands, and this is told: to open a demux node is the `open` of a slot, which
--- tries one after another; any other call is that one command on its node; and to leave is a `close` of each node.
+-- What is asked at this moment is answered by these commands, and this is told: to open a demux node is the `open` of a slot,
+-- which tries one after another; any other call is that one command on its node; and to leave is a `close` of each node.
 abbrev pub IsAnsweredBy : Ask → (now : ℕ) → List DoneCommand → Tell → (bytes : List ℕ) → Type 0
 IsAnsweredBy OpenDemux now ds t bytes = IsOneCommand now (Slot 0) Open (λ calls. IsOpenTold (first_free calls) t bytes) ds
 IsAnsweredBy (Call node want) now ds t bytes = IsOneCommand now (target_of node) want (λ calls. IsFirstTold calls t bytes) ds

@@ -62,7 +62,8 @@ KeepsOne kind old new =
     (new.handed ≡ old.handed)
     × (new.outcomes.items ≡ old.outcomes.items ++ outcome_at (commands_done old) (calls_made old) (calls_made new) kind ∷ [])
 
--- It has done commands of which this holds: its log has grown by their calls, and what is told of commands by what became of them.
+-- It has done commands of which this holds: its log has grown by their calls, and what is told of commands by what became of
+-- them.
 pub record HasDone (P : List DoneCommand → Type 0) (old new : Seat) : Type 0 where
   pub commands : List DoneCommand
   pub handed : new.handed ≡ old.handed

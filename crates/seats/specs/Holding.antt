@@ -33,8 +33,8 @@ pub record GivesBack (before calls : List LogEntry) (c : Caller) : Type 0 where
 abbrev pub AreMarked : List LogEntry → (held : List Bool) → Type 0
 AreMarked calls held = (node : ℕ) → node ≤ DEMUX_NODES → slice_get held node ≡ Some (holds calls node)
 
--- A caller gives back what it has by these calls, which come behind those of a log, whatever calls come before these: where it has
--- marked just the nodes that are held behind all of them.
+-- A caller gives back what it has by these calls, which come behind those of a log, whatever calls come before these: where it
+-- has marked just the nodes that are held behind all of them.
 abbrev pub GivesBackMarked : (held : List Bool) → (log calls : List LogEntry) → Caller → Type 0
 GivesBackMarked held log calls c = (gone : List LogEntry) → AreMarked (gone ++ log) held → GivesBack (gone ++ log) calls c
 

@@ -7,7 +7,8 @@ use Rattle.seats.specs.Turns.{Turn, IsTurn, spelled}
 
 -- These calls are those that the commands of a client of a script ask for, one after another, by the replies to the calls before;
 -- behind them its commands are through, and ended so.
-pub record IsPlayed (may : ℕ → Bool) (client : ℕ) (script : Scripted) (calls : List LogEntry) (told : List Outcome) : Type 0 where
+pub record IsPlayed (may : ℕ → Bool) (client : ℕ) (script : Scripted) (calls : List LogEntry)
+    (told : List Outcome) : Type 0 where
   pub events : AreAsked script client calls
   pub ends : next_event client script (replies calls) ≡ None
   pub outcomes : told ≡ outcomes client script (replies calls)

@@ -80,8 +80,8 @@ pub record AreReady (locks : List TableId) (clients : List Caller) (seats : List
   pub are : map (λ s. s.client) seats ≡ clients
   pub each : (c : ℕ) (s : Seat) → slice_get seats c ≡ Some s → IsReadyToHand locks s
 
--- The log has grown by just the calls that the client has made, in their order. Whatever calls come before those of the log: where
--- just the nodes that are held behind all of them were marked, they are.
+-- The log has grown by just the calls that the client has made, in their order. Whatever calls come before those of the log:
+-- where just the nodes that are held behind all of them were marked, they are.
 pub record GoesOn (old new : Seat) : Type 0 where
   pub calls : List LogEntry
   pub handed : new.handed ≡ old.handed

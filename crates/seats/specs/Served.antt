@@ -14,8 +14,8 @@ pub record HaveSat {D : Type 0} (sat : D → D → Type 0) (old new : List D) : 
   pub long : length new ≡ length old
   pub each : (i : ℕ) (d : D) → i < length old → sat (slice_index_or old i d) (slice_index_or new i d)
 
--- A line tells what is left of it to be read, and what was written to it; or it tells none of these. A journal says whether it was
--- given these calls, and what became of these commands, and no others, between one state and another.
+-- A line tells what is left of it to be read, and what was written to it; or it tells none of these. A journal says whether it
+-- was given these calls, and what became of these commands, and no others, between one state and another.
 module _ {T J : Type 0} (source : T → SourceEnd) (sink : T → SinkEnd) (may : ℕ → Bool)
     (took : List LogEntry → List Outcome → J → J → Type 0) where
   -- A seat has served its line: its client has made just these calls, which are those that the requests of the line ask for and

@@ -49,7 +49,8 @@ spelled turns leaving = spelled_by turns ++ leaving
 abbrev pub MakesTurns : (before : List LogEntry) → Caller → List Turn → Caller → Type 0
 MakesTurns before c [] d = d ≡ c
 MakesTurns before c (t ∷ ts) d =
-    (m : Caller) × MakesCalls (length before) c (calls_in t.commands) m × (IsLeaving t → GivesBack before (calls_in t.commands) m)
+    (m : Caller) × MakesCalls (length before) c (calls_in t.commands) m
+    × (IsLeaving t → GivesBack before (calls_in t.commands) m)
     × MakesTurns (before ++ calls_in t.commands) m ts d
 
 -- The client of a seat makes the calls of this turn, and is d then. By a request to leave it gives back what it has, by the nodes
@@ -93,19 +94,21 @@ module _ {T : Type 0} (source : T → SourceEnd) (sink : T → SinkEnd) (may : �
   IsLast line (t ∷ []) end = IsCutOff t line end
   IsLast line (t ∷ u ∷ ts) end = ⊥
 
-  -- The next request is answered: by these calls, which the client makes, the seat's log has grown, and what is told of commands by
-  -- those that it spells. Where that is the end, no request was read, or the reply wasn't written whole.
+  -- The next request is answered: by these calls, which the client makes, the seat's log has grown, and what is told of commands
+  -- by those that it spells. Where that is the end, no request was read, or the reply wasn't written whole.
   abbrev pub HasTurned : (on : Bool) → (before after : T) → (old new : Seat) → Type 0
   HasTurned true before after old new =
       (t : Turn) × IsTold t before after × (log_of new ≡ log_of old ++ calls_in t.commands)
-      × AreKept (commands_done old) (calls_made old) t.commands old.outcomes.items new.outcomes.items × MakesTurn old t new.client
+      × AreKept (commands_done old) (calls_made old) t.commands old.outcomes.items new.outcomes.items
+      × MakesTurn old t new.client
   HasTurned false before after old new =
       (ts : List Turn) × IsLast before ts after × (log_of new ≡ log_of old ++ calls_of ts)
-      × AreKept (commands_done old) (calls_made old) (spelled_by ts) old.outcomes.items new.outcomes.items × MakesLast old ts new.client
+      × AreKept (commands_done old) (calls_made old) (spelled_by ts) old.outcomes.items new.outcomes.items
+      × MakesLast old ts new.client
 
-  -- The requests of a line were answered, one after another, up to the line's end or the first read or write that fails, and then all
-  -- nodes closed: by the calls for these, which the client makes, the log has grown, and what is told of commands by those that the
-  -- requests spell. The line became this, and the client, which was c before, is d then.
+  -- The requests of a line were answered, one after another, up to the line's end or the first read or write that fails, and then
+  -- all nodes closed: by the calls for these, which the client makes, the log has grown, and what is told of commands by those
+  -- that the requests spell. The line became this, and the client, which was c before, is d then.
   pub record HasAnsweredAll (line end : T) (c d : Caller) (old new : List LogEntry) (was now : List Outcome) : Type 0 where
     pub turns : List Turn
     pub after : T

@@ -67,7 +67,8 @@ impl Seat {
     fn told_at(&self, at: usize) -> Answered
         requires at { at < length self.now.made.items }
         ensures at { result.at ≡ Some at }
-        ensures told { (m : Made) → slice_get self.now.made.items at ≡ Some m → result.tell ≡ told_of (response_of m.reply) m.place }
+        ensures told { (m : Made) → slice_get self.now.made.items at ≡ Some m
+            → result.tell ≡ told_of (response_of m.reply) m.place }
     {
         let call = &self.made[at];
         Answered {
@@ -80,7 +81,8 @@ impl Seat {
     fn told_open(&self, at: usize, node: u32) -> Answered
         requires at { at < length self.now.made.items }
         ensures at { result.at ≡ Some at }
-        ensures told { (m : Made) → slice_get self.now.made.items at ≡ Some m → result.tell ≡ told_opened node (response_of m.reply) m.place }
+        ensures told { (m : Made) → slice_get self.now.made.items at ≡ Some m
+            → result.tell ≡ told_opened node (response_of m.reply) m.place }
     {
         let call = &self.made[at];
         let told = Tell::of(&call.reply, call.place);
@@ -110,12 +112,15 @@ impl Seat {
         ensures fit { IsFit adapter.now self.new }
         ensures goes { GoesOn self.old self.new }
         ensures at { result < length self.new.made.items }
-        ensures few { (length self.new.made.items ≤ length self.old.made.items + 2) × (self.old.client.left ≤ self.new.client.left + 2) }
+        ensures few { (length self.new.made.items ≤ length self.old.made.items + 2)
+            × (self.old.client.left ≤ self.new.client.left + 2) }
         ensures one { length self.new.outcomes.items ≡ length self.old.outcomes.items + 1 }
-        ensures room { (vec_capacity self.new.made ≡ vec_capacity self.old.made) × (vec_capacity self.new.outcomes ≡ vec_capacity self.old.outcomes) }
+        ensures room { (vec_capacity self.new.made ≡ vec_capacity self.old.made)
+            × (vec_capacity self.new.outcomes ≡ vec_capacity self.old.outcomes) }
         ensures did { DoesCommand node (act_of (invocation_of call)) result self.old self.new }
         ensures kept { KeepsOne WasDone self.old self.new }
-        ensures left { invocation_of call ≢ asks.Open → (i : ℕ) → HasLeft i self.old.client → HasLeft i self.new.client }
+        ensures left { invocation_of call ≢ asks.Open → (i : ℕ) → HasLeft i self.old.client
+            → HasLeft i self.new.client }
         ensures closed { invocation_of call ≡ asks.Close → HasLeft node self.new.client }
         ensures fewer { invocation_of call ≢ asks.Open → MarksNoMore self.old self.new }
         ensures free { invocation_of call ≡ asks.Close → slice_get self.new.held node ≢ Some true }
@@ -139,7 +144,9 @@ impl Seat {
         ensures room { HasRoom 66 self.new }
         ensures goes { GoesOn self.old self.new }
         ensures at { IfSome result.at (λ i. i < length self.new.made.items) }
-        ensures did { (now : ℕ) → HasDone (λ ds. IsAnsweredBy OpenAsk now ds result.tell (data_read (call_at self.new.made.items result.at))) self.old self.new }
+        ensures did { (now : ℕ) → HasDone
+            (λ ds. IsAnsweredBy OpenAsk now ds result.tell (data_read (call_at self.new.made.items result.at)))
+            self.old self.new }
     {
         let from = self.count();
         'nodes: for node in 0..DEMUX_NODES {
@@ -167,9 +174,11 @@ impl Seat {
         requires room { slice_get self.old.held node ≡ Some true → HasRoom 2 self.old }
         ensures fit { IsFit adapter.now self.new }
         ensures goes { GoesOn self.old self.new }
-        ensures few { (length self.new.made.items ≤ length self.old.made.items + 2) × (self.old.client.left ≤ self.new.client.left + 2) }
+        ensures few { (length self.new.made.items ≤ length self.old.made.items + 2)
+            × (self.old.client.left ≤ self.new.client.left + 2) }
         ensures told { length self.new.outcomes.items ≤ length self.old.outcomes.items + 1 }
-        ensures room { (vec_capacity self.new.made ≡ vec_capacity self.old.made) × (vec_capacity self.new.outcomes ≡ vec_capacity self.old.outcomes) }
+        ensures room { (vec_capacity self.new.made ≡ vec_capacity self.old.made)
+            × (vec_capacity self.new.outcomes ≡ vec_capacity self.old.outcomes) }
         ensures did { HasDone (IsClosing node) self.old self.new }
         ensures held { ClosesHeld self.old self.new }
         ensures fewer { MarksNoMore self.old self.new }
@@ -189,9 +198,11 @@ impl Seat {
         requires room { MayLeave self.old }
         ensures fit { IsFit adapter.now self.new }
         ensures goes { GoesOn self.old self.new }
-        ensures few { (length self.new.made.items ≤ length self.old.made.items + 66) × (self.old.client.left ≤ self.new.client.left + 66) }
+        ensures few { (length self.new.made.items ≤ length self.old.made.items + 66)
+            × (self.old.client.left ≤ self.new.client.left + 66) }
         ensures told { length self.new.outcomes.items ≤ length self.old.outcomes.items + 33 }
-        ensures room { (vec_capacity self.new.made ≡ vec_capacity self.old.made) × (vec_capacity self.new.outcomes ≡ vec_capacity self.old.outcomes) }
+        ensures room { (vec_capacity self.new.made ≡ vec_capacity self.old.made)
+            × (vec_capacity self.new.outcomes ≡ vec_capacity self.old.outcomes) }
         ensures did { HasDone (AreClosings (nodes + 1)) self.old self.new }
         ensures held { ClosesHeld self.old self.new }
         ensures free { (node : ℕ) → node ≤ nodes → slice_get self.new.held node ≢ Some true }
@@ -219,7 +230,8 @@ impl Seat {
         ensures room { HasRoom 66 self.new }
         ensures goes { GoesOn self.old self.new }
         ensures at { IfSome result.at (λ i. i < length self.new.made.items) }
-        ensures did { HasDone (λ ds. IsAnswered ask now ds result.tell (data_read (call_at self.new.made.items result.at))) self.old self.new }
+        ensures did { HasDone (λ ds. IsAnswered ask now ds result.tell (data_read (call_at self.new.made.items result.at)))
+            self.old self.new }
         ensures gone { ask ≡ Leave → HasGone self.old self.new }
     {
         match ask {

@@ -21,7 +21,8 @@ impl Seat {
         requires few { (calls_made self.old ≤ 2 ^ 40) × (commands_done self.old ≤ 2 ^ 40) }
         ensures took { OnOk result (J.took (log_of self.old) self.old.outcomes.items journal.old journal.new) }
         ensures none { OnOk result ((log_of self.new ≡ []) × (self.new.outcomes.items ≡ [])) }
-        ensures kept { OnErr result (J.took [] [] journal.old journal.new × (log_of self.new ≡ log_of self.old) × (self.new.outcomes.items ≡ self.old.outcomes.items) × (self.new.handed ≡ self.old.handed)) }
+        ensures kept { OnErr result (J.took [] [] journal.old journal.new × (log_of self.new ≡ log_of self.old)
+            × (self.new.outcomes.items ≡ self.old.outcomes.items) × (self.new.handed ≡ self.old.handed)) }
         ensures count { (calls_made self.new ≡ calls_made self.old) × (commands_done self.new ≡ commands_done self.old) }
         ensures client { self.new.client ≡ self.old.client }
         ensures fit { (locks : List TableId) → IsFit locks self.old → IsFit locks self.new }

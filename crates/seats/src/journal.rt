@@ -33,7 +33,8 @@ pub trait Journal {
     ghost took_none: { (j : Self) → took [] [] j j };
 
     /// What it is given later stands behind what it was given before.
-    ghost took_both: { (a b c : Self) (xs ys : List LogEntry) (os ps : List ToldOutcome) → took xs os a b → took ys ps b c → took (xs ++ ys) (os ++ ps) a c };
+    ghost took_both: { (a b c : Self) (xs ys : List LogEntry) (os ps : List ToldOutcome) → took xs os a b → took ys ps b c
+        → took (xs ++ ys) (os ++ ps) a c };
 }
 
 /// The journal that keeps nothing.

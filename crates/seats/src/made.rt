@@ -103,7 +103,8 @@ pub fn keep_all(
     calls: &[Made],
     log: &mut Vec<Entry>,
 ) -> Result<(), NoMemory>
-    ensures { (rest : List ToldEntry) × (log.new.items ≡ log.old.items ++ rest) × OnOk result (map told_entry rest ≡ map (told_made who) calls.now) }
+    ensures { (rest : List ToldEntry) × (log.new.items ≡ log.old.items ++ rest)
+        × OnOk result (map told_entry rest ≡ map (told_made who) calls.now) }
 {
     'calls: for made in calls {
         let entry = entry_of(alloc, who, log.last().or(last), made)?;

@@ -22,7 +22,8 @@ pub fn desks_of<T: Drop>(
     requires few { length clients.items ≤ 8 }
     requires lines { length lines.items ≡ length clients.items }
     ensures lines { IfOk result (λ desks. map (λ d. d.line) desks.items ≡ reverse lines.items) }
-    ensures ready { IfOk result (λ desks. (locks : List TableId) (feeder : Caller) → AreFreshCallers locks (length clients.items) feeder clients.items
+    ensures ready { IfOk result (λ desks. (locks : List TableId) (feeder : Caller)
+        → AreFreshCallers locks (length clients.items) feeder clients.items
         → AreReady locks clients.items (map (λ d. d.seat) desks.items)) }
 {
     let mut desks = Vec::with_capacity(alloc, clients.len())?;

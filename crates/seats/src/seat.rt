@@ -51,7 +51,8 @@ pub struct Seat {
 // What the dvr node is to be told behind this reply of a node.
 fn told_dvr(node: u32, reply: &Reply) -> Option<Call>
     ensures bare { IfSome result (λ call. PassesNone (act_of (invocation_of call)) × (invocation_of call ≢ asks.Open)) }
-    ensures acts { option_map (λ call. act_of (invocation_of call)) result ≡ act_by_tap node (tap_by node (response_of reply.now)) }
+    ensures acts { option_map (λ call. act_of (invocation_of call)) result
+        ≡ act_by_tap node (tap_by node (response_of reply.now)) }
 {
     if node >= DEMUX_NODES {
         return None;
@@ -143,12 +144,15 @@ impl Seat {
         requires room { HasRoom 1 self.old }
         ensures fit { IsFit adapter.now self.new }
         ensures goes { GoesOn self.old self.new }
-        ensures one { (length self.new.made.items ≡ length self.old.made.items + 1) × (self.new.client.left + 1 ≡ self.old.client.left) }
+        ensures one { (length self.new.made.items ≡ length self.old.made.items + 1)
+            × (self.new.client.left + 1 ≡ self.old.client.left) }
         ensures room { vec_capacity self.new.made ≡ vec_capacity self.old.made }
         ensures rest { self.new.outcomes ≡ self.old.outcomes }
         ensures next { IfSome result (λ next. PassesNone (act_of (invocation_of next)) × (invocation_of next ≢ asks.Open)) }
-        ensures did { MakesOne node (act_of (invocation_of call)) (option_map (λ next. act_of (invocation_of next)) result) self.old self.new }
-        ensures left { invocation_of call ≢ asks.Open → (i : ℕ) → HasLeft i self.old.client → HasLeft i self.new.client }
+        ensures did { MakesOne node (act_of (invocation_of call))
+            (option_map (λ next. act_of (invocation_of next)) result) self.old self.new }
+        ensures left { invocation_of call ≢ asks.Open → (i : ℕ) → HasLeft i self.old.client
+            → HasLeft i self.new.client }
         ensures closed { invocation_of call ≡ asks.Close → HasLeft node self.new.client }
         ensures fewer { invocation_of call ≢ asks.Open → MarksNoMore self.old self.new }
         ensures free { invocation_of call ≡ asks.Close → slice_get self.new.held node ≢ Some true }
@@ -186,11 +190,13 @@ impl Seat {
         ensures fit { IsFit adapter.now self.new }
         ensures goes { GoesOn self.old self.new }
         ensures at { (result ≡ length self.old.made.items) × (result < length self.new.made.items) }
-        ensures few { (length self.new.made.items ≤ length self.old.made.items + 2) × (self.old.client.left ≤ self.new.client.left + 2) }
+        ensures few { (length self.new.made.items ≤ length self.old.made.items + 2)
+            × (self.old.client.left ≤ self.new.client.left + 2) }
         ensures room { vec_capacity self.new.made ≡ vec_capacity self.old.made }
         ensures rest { self.new.outcomes ≡ self.old.outcomes }
         ensures did { DoesCommand node (act_of (invocation_of call)) result self.old self.new }
-        ensures left { invocation_of call ≢ asks.Open → (i : ℕ) → HasLeft i self.old.client → HasLeft i self.new.client }
+        ensures left { invocation_of call ≢ asks.Open → (i : ℕ) → HasLeft i self.old.client
+            → HasLeft i self.new.client }
         ensures closed { invocation_of call ≡ asks.Close → HasLeft node self.new.client }
         ensures fewer { invocation_of call ≢ asks.Open → MarksNoMore self.old self.new }
         ensures free { invocation_of call ≡ asks.Close → slice_get self.new.held node ≢ Some true }
@@ -205,14 +211,18 @@ impl Seat {
     /// Keeps how a command ended, for which there is room; so many calls were made before its first.
     pub fn keep(&mut self, from: u64, kind: OutcomeKind)
         requires few { self.old.handed.calls + (length self.old.log.items + length self.old.made.items) ≤ 2 ^ 40 }
-        requires paid { self.old.handed.commands + length self.old.outcomes.items + 1 ≤ self.old.handed.calls + (length self.old.log.items + length self.old.made.items) }
+        requires paid { self.old.handed.commands + length self.old.outcomes.items + 1
+            ≤ self.old.handed.calls + (length self.old.log.items + length self.old.made.items) }
         requires room { length self.old.outcomes.items + 1 ≤ vec_capacity self.old.outcomes }
         ensures fit { (locks : List TableId) → IsFit locks self.old → IsFit locks self.new }
         ensures goes { GoesOn self.old self.new }
         ensures one { length self.new.outcomes.items ≡ length self.old.outcomes.items + 1 }
-        ensures told { self.new.outcomes.items ≡ self.old.outcomes.items ++ outcome_at (self.old.handed.commands + length self.old.outcomes.items) from (self.old.handed.calls + (length self.old.log.items + length self.old.made.items)) kind ∷ [] }
+        ensures told { self.new.outcomes.items
+            ≡ self.old.outcomes.items ++ outcome_at (self.old.handed.commands + length self.old.outcomes.items) from
+            (self.old.handed.calls + (length self.old.log.items + length self.old.made.items)) kind ∷ [] }
         ensures room { vec_capacity self.new.outcomes ≡ vec_capacity self.old.outcomes }
-        ensures rest { (self.new.client ≡ self.old.client) × (self.new.who ≡ self.old.who) × (self.new.log ≡ self.old.log) × (self.new.made ≡ self.old.made) × (self.new.held ≡ self.old.held) × (self.new.handed ≡ self.old.handed) }
+        ensures rest { (self.new.client ≡ self.old.client) × (self.new.who ≡ self.old.who) × (self.new.log ≡ self.old.log)
+            × (self.new.made ≡ self.old.made) × (self.new.held ≡ self.old.held) × (self.new.handed ≡ self.old.handed) }
     {
         let line = line_behind(self.handed.commands as usize + self.outcomes.len());
         let to = self.count();
@@ -230,7 +240,9 @@ impl Seat {
         ensures same { log_of self.new ≡ log_of self.old }
         ensures room { vec_capacity self.new.made ≡ vec_capacity self.old.made }
         ensures more { length self.new.made.items ≤ length self.old.made.items }
-        ensures rest { (self.new.client ≡ self.old.client) × (self.new.who ≡ self.old.who) × (self.new.outcomes ≡ self.old.outcomes) × (self.new.held ≡ self.old.held) × (self.new.handed ≡ self.old.handed) }
+        ensures rest { (self.new.client ≡ self.old.client) × (self.new.who ≡ self.old.who)
+            × (self.new.outcomes ≡ self.old.outcomes) × (self.new.held ≡ self.old.held)
+            × (self.new.handed ≡ self.old.handed) }
     {
         let before = self.log.len();
         match keep_all(alloc, self.who, last, &self.made, &mut self.log) {

@@ -62,8 +62,11 @@ impl Seat {
     // Writes a reply.
     fn tell<K: Sink>(&self, sink: &mut K, answered: &Answered) -> Result<(), Failed>
         requires at { IfSome answered.now.at (λ i. i < length self.now.made.items) }
-        ensures whole { OnOk result (Writes (K.end sink.old) (K.end sink.new) (reply_bytes answered.now.tell (data_read (call_at self.now.made.items answered.now.at)))) }
-        ensures cut { OnErr result (BreaksOff (K.end sink.old) (K.end sink.new) (reply_bytes answered.now.tell (data_read (call_at self.now.made.items answered.now.at)))) }
+        ensures whole { OnOk result
+            (Writes (K.end sink.old) (K.end sink.new)
+            (reply_bytes answered.now.tell (data_read (call_at self.now.made.items answered.now.at)))) }
+        ensures cut { OnErr result (BreaksOff (K.end sink.old) (K.end sink.new)
+            (reply_bytes answered.now.tell (data_read (call_at self.now.made.items answered.now.at)))) }
     {
         let data = self.data_at(answered.at);
         let head = answered.tell.head(data.len() as u32);

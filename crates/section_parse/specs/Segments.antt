@@ -8,7 +8,8 @@ use Rattle.ts_packet.specs.Clean.{carried, joins}
 abbrev pub in_front : List ℕ → List (List (List ℕ)) → List (List (List ℕ))
 in_front p [] = (p ∷ []) ∷ []
 in_front p ([] ∷ runs) = (p ∷ []) ∷ runs
-in_front p ((next ∷ run) ∷ runs) = if joins p next then (p ∷ next ∷ run) ∷ runs else (p ∷ []) ∷ (next ∷ run) ∷ runs
+in_front p ((next ∷ run) ∷ runs) = if joins p next then (p ∷ next ∷ run) ∷ runs
+    else (p ∷ []) ∷ (next ∷ run) ∷ runs
 
 -- the packets, cut before each that doesn't join its neighbour
 unfoldable pub runs : List (List ℕ) → List (List (List ℕ))

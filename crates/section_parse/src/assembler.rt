@@ -44,14 +44,16 @@ impl Model for Assembler {
     ghost use Rattle.std.specs.Prelude.{◌≡◌, true, None, length, MatchOption};
     ghost use Rattle.ts_packet.specs.Fields.{has_payload};
 
-    ghost invariant = { λ a. MatchOption a.last ((a.closing.begun ≡ None) × (a.open_now.begun ≡ None)) (λ p. (has_payload p ≡ true) × (length p ≡ 188)) };
+    ghost invariant = { λ a. MatchOption a.last ((a.closing.begun ≡ None) × (a.open_now.begun ≡ None))
+        (λ p. (has_payload p ≡ true) × (length p ≡ 188)) };
 }
 
 // The first place of the payload of a packet of the PID that has one, and no error.
 fn usable_payload(pid: u16, packet: &Packet) -> Option<usize>
     ensures { MatchOption result
         (is_usable pid packet.now ≡ false)
-        (λ first. (is_usable pid packet.now ≡ true) × (first ≡ payload_start packet.now) × (first < 188) × (4 ≤ first) × (length packet.now ≡ 188)) }
+        (λ first. (is_usable pid packet.now ≡ true) × (first ≡ payload_start packet.now) × (first < 188) × (4 ≤ first)
+        × (length packet.now ≡ 188)) }
 {
     if packet.pid() != pid || packet.error() {
         return None;
@@ -98,7 +100,8 @@ fn last_bytes(last: &Option<Packet>) -> &[u8]
 fn pointed_place(packet: &Packet, first: usize) -> Option<usize>
     requires first { first ≡ payload_start packet.now }
     requires below { first < 188 }
-    ensures place { MatchOption result (is_pointed packet.now ≡ false) (λ place. (is_pointed packet.now ≡ true) × (place ≡ first + 1 + pointer_field packet.now)) }
+    ensures place { MatchOption result (is_pointed packet.now ≡ false) (λ place. (is_pointed packet.now ≡ true)
+        × (place ≡ first + 1 + pointer_field packet.now)) }
     ensures fits { IfSome result (λ place. place ≤ 188) }
 {
     let place = first + 1 + usize::from(packet.bytes()[first]);
@@ -113,7 +116,8 @@ fn pointed_place(packet: &Packet, first: usize) -> Option<usize>
 fn start_of_segment(packet: &Packet, first: usize) -> Option<usize>
     requires first { first ≡ payload_start packet.now }
     requires below { first < 188 }
-    ensures start { MatchOption result (opened packet.now ≡ None) (λ start. opened packet.now ≡ Some (drop start packet.now)) }
+    ensures start { MatchOption result (opened packet.now ≡ None) (λ start. opened packet.now
+        ≡ Some (drop start packet.now)) }
     ensures fits { IfSome result (λ start. start ≤ 188) }
 {
     if packet.unit_start() {
@@ -167,7 +171,8 @@ impl Assembler {
         requires drained { self.old.ready ≡ [] }
         ensures value { self.new ≡ after_packet self.old packet.now }
         ensures pid { self.new.pid ≡ self.old.pid }
-        ensures stands { (packets given : List (List ℕ)) → Assembled packets given self.old → Assembled (packets ++ packet.now ∷ []) given self.new }
+        ensures stands { (packets given : List (List ℕ)) → Assembled packets given self.old
+            → Assembled (packets ++ packet.now ∷ []) given self.new }
         ensures bytes { bytes_kept self.new ≤ bytes_kept self.old + 184 }
     {
         if let Some(first) = usable_payload(self.pid, packet) {
@@ -210,7 +215,8 @@ impl Assembler {
         ensures section { option_map (λ s. s.now) result ≡ slice_get self.old.ready 0 }
         ensures drained { IsNone result ↔ (self.old.ready ≡ []) }
         ensures whole { IfSome result (λ s. IsSection s.now) }
-        ensures none { (packets given : List (List ℕ)) → Assembled packets given self.old → (IsNone result ↔ (sections packets self.old.pid ≡ given)) }
+        ensures none { (packets given : List (List ℕ)) → Assembled packets given self.old
+            → (IsNone result ↔ (sections packets self.old.pid ≡ given)) }
         ensures* after { sem 𝓛 (Rests the_row self.entry (λ left. Gave self.old (option_map (λ s. s.now) result) left)) }
     {
         match self.closing.advance(last_bytes(&self.last)) {

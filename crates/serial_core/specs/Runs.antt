@@ -20,5 +20,6 @@ SerialRunsAreRuns = (script : Scripted) (batch : ℕ) (packets : List (List ℕ)
 
 -- A script and a stream have a serial run, where a batch has at least one packet: each command ends.
 abbrev pub HaveSerialRuns : Type 0
-HaveSerialRuns = (script : Scripted) (batch : ℕ) (packets : List (List ℕ)) → All IsInRange script.lines → All IsPacket packets
+HaveSerialRuns = (script : Scripted) (batch : ℕ) (packets : List (List ℕ)) → All IsInRange script.lines
+    → All IsPacket packets
     → 1 ≤ batch → (r : Run) × IsSerialRun script batch packets r

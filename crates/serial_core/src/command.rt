@@ -23,7 +23,8 @@ impl Runner {
         requires ready { IsReady batch self.old }
         requires made { MadeAtMost self.old (2 ^ 43) }
         ensures moves { OnOk result (Moves (S.end source.old) (S.end source.new) self.old self.new
-            (λ r s. (client : ℕ) (script : Scripted) → IsAfter client script (replies_of client r) core.now → s ≡ after_waiting script batch client r)) }
+            (λ r s. (client : ℕ) (script : Scripted) → IsAfter client script (replies_of client r) core.now
+            → s ≡ after_waiting script batch client r)) }
         ensures draws { OnErr result (HasDrawn (S.end source.old) (S.end source.new) self.old.puller self.new.puller) }
         ensures moment { OnOk result (self.new.moment ≡ self.old.moment) }
         ensures made { OnOk result ((calls : ℕ) → MadeAtMost self.old calls → MadeAtMost self.new calls) }
@@ -53,8 +54,10 @@ impl Runner {
         requires begun { IsSome core.old.current }
         requires taken { core.old.step < 2 ^ 46 }
         ensures moves { OnOk result (Moves (S.end source.old) (S.end source.new) self.old self.new
-            (λ r s. (script : Scripted) → IsAfter client script (replies_of client r) core.old → (s ≡ called client core.old.plays event (after_waiting script batch client r))
-            × IsAfter client script (replies_of client r ++ reply_to client core.old.plays event (after_waiting script batch client r) ∷ []) core.new)) }
+            (λ r s. (script : Scripted) → IsAfter client script (replies_of client r) core.old
+            → (s ≡ called client core.old.plays event (after_waiting script batch client r))
+            × IsAfter client script (replies_of client r
+            ++ reply_to client core.old.plays event (after_waiting script batch client r) ∷ []) core.new)) }
         ensures draws { OnErr result (HasDrawn (S.end source.old) (S.end source.new) self.old.puller self.new.puller) }
         ensures moment { OnOk result (self.new.moment ≡ self.old.moment) }
         ensures made { OnOk result ((calls : ℕ) → MadeAtMost self.old calls → MadeAtMost self.new (calls + 1)) }
@@ -79,12 +82,15 @@ impl Runner {
         requires made { MadeAtMost self.old (core.old.step + 2 ^ 42) }
         requires client { client < 8 }
         requires calls { core.old.step ≤ 2 ^ 39 }
-        ensures moves { OnOk result (Moves (S.end source.old) (S.end source.new) self.old self.new (IsDoneBy batch client line core.old core.new)) }
+        ensures moves { OnOk result
+            (Moves (S.end source.old) (S.end source.new) self.old self.new (IsDoneBy batch client line core.old core.new)) }
         ensures draws { OnErr result (HasDrawn (S.end source.old) (S.end source.new) self.old.puller self.new.puller) }
-        ensures too_long { (turns : ℕ) → IsErrOf result (Stop.TooLong turns) → (turns ≡ 2 ^ 39) × (2 ^ 39 ≤ core.new.step)
+        ensures too_long { (turns : ℕ) → IsErrOf result (Stop.TooLong turns)
+            → (turns ≡ 2 ^ 39) × (2 ^ 39 ≤ core.new.step)
             × Moves (S.end source.old) (S.end source.new) self.old self.new (ComesBy batch client line core.old core.new) }
         ensures moment { OnOk result (self.new.moment ≡ self.old.moment) }
-        ensures made { OnOk result ((calls : ℕ) → MadeAtMost self.old (core.old.step + calls) → MadeAtMost self.new (core.new.step + calls)) }
+        ensures made { OnOk result ((calls : ℕ) → MadeAtMost self.old (core.old.step + calls)
+            → MadeAtMost self.new (core.new.step + calls)) }
         ensures calls { OnOk result (core.new.step ≤ 2 ^ 39) }
     {
         'calls: while let Some(event) = core.next_at(line) {

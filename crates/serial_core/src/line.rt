@@ -27,7 +27,8 @@ impl Runner {
         requires clients { length cores.old ≤ 8 }
         requires client { clients_of asked ≤ length cores.old }
         requires calls { AreInBudget cores.old }
-        ensures moves { OnOk result (Moves (S.end source.old) (S.end source.new) self.old self.new (IsLineBy batch asked cores.old cores.new)) }
+        ensures moves { OnOk result
+            (Moves (S.end source.old) (S.end source.new) self.old self.new (IsLineBy batch asked cores.old cores.new)) }
         ensures draws { OnErr result (HasDrawn (S.end source.old) (S.end source.new) self.old.puller self.new.puller) }
         ensures too_long { (turns : ℕ) → IsErrOf result (Stop.TooLong turns) → (turns ≡ 2 ^ 39)
             × Moves (S.end source.old) (S.end source.new) self.old self.new (OverrunsBy batch asked cores.old) }
@@ -63,7 +64,9 @@ impl Runner {
     ) -> Result<(), Stop>
         requires ready { IsReady batch self.old }
         requires begins { MayBegin lines.now cores.old self.old }
-        ensures moves { OnOk result (Moves (S.end source.old) (S.end source.new) self.old self.new (IsFrontBy batch lines.now (length lines.now) cores.old cores.new)) }
+        ensures moves { OnOk result
+            (Moves (S.end source.old) (S.end source.new) self.old self.new
+            (IsFrontBy batch lines.now (length lines.now) cores.old cores.new)) }
         ensures draws { OnErr result (HasDrawn (S.end source.old) (S.end source.new) self.old.puller self.new.puller) }
         ensures too_long { (turns : ℕ) → IsErrOf result (Stop.TooLong turns) → (turns ≡ 2 ^ 39)
             × Moves (S.end source.old) (S.end source.new) self.old self.new (AllOverrunBy batch lines.now cores.old) }
@@ -86,7 +89,8 @@ impl Runner {
     ) -> Result<(), Stop>
         requires ready { IsReady batch self.old }
         requires begins { MayBegin lines.now cores.old self.old }
-        ensures moves { OnOk result (Moves (S.end source.old) (S.end source.new) self.old self.new (IsWholeBy batch lines.now cores.old cores.new)) }
+        ensures moves { OnOk result
+            (Moves (S.end source.old) (S.end source.new) self.old self.new (IsWholeBy batch lines.now cores.old cores.new)) }
         ensures draws { OnErr result (HasDrawn (S.end source.old) (S.end source.new) self.old.puller self.new.puller) }
         ensures too_long { (turns : ℕ) → IsErrOf result (Stop.TooLong turns) → (turns ≡ 2 ^ 39)
             × Moves (S.end source.old) (S.end source.new) self.old self.new (AllOverrunBy batch lines.now cores.old) }

@@ -109,7 +109,8 @@ impl Nodes {
         requires few { self.old.made < 2 ^ 50 - 1 }
         requires counted { AreCounted self.old }
         requires open { self.old.has_ended ≡ false }
-        ensures at { OnOk result ((r : Run) → IsNodes self.old r → IsNodes self.new (fed_to_all (asks.Pass Frontend batch.value.first batch.value.packets now) r)) }
+        ensures at { OnOk result ((r : Run) → IsNodes self.old r
+            → IsNodes self.new (fed_to_all (asks.Pass Frontend batch.value.first batch.value.packets now) r)) }
         ensures counted { OnOk result (AreCounted self.new) }
         ensures made { OnOk result (self.new.made ≡ self.old.made + 1) }
         ensures open { OnOk result (self.new.has_ended ≡ false) }
@@ -158,9 +159,12 @@ impl Nodes {
         requires played { IsRequestOf core.old.plays event.want }
         requires some { IsSome core.old.current }
         requires taken { core.old.step < 2 ^ 46 }
-        ensures at { OnOk result ((r : Run) → now ≡ r.moment → IsNodes self.old r → IsNodes self.new (made client core.old.plays event r)) }
-        ensures core { OnOk result ((r : Run) (script : Scripted) (replies : List Response) → now ≡ r.moment → IsNodes self.old r
-            → IsAfter client script replies core.old → IsAfter client script (replies ++ reply_to client core.old.plays event r ∷ []) core.new) }
+        ensures at { OnOk result ((r : Run) → now ≡ r.moment → IsNodes self.old r
+            → IsNodes self.new (made client core.old.plays event r)) }
+        ensures core { OnOk result ((r : Run) (script : Scripted) (replies : List Response) → now ≡ r.moment
+            → IsNodes self.old r
+            → IsAfter client script replies core.old
+            → IsAfter client script (replies ++ reply_to client core.old.plays event r ∷ []) core.new) }
         ensures step { OnOk result (core.new.step ≡ core.old.step + 1) }
         ensures counted { OnOk result (AreCounted self.new) }
         ensures made { OnOk result (self.new.made ≡ self.old.made + 1) }
@@ -177,7 +181,8 @@ impl Nodes {
     /// The histories of all nodes. End has passed.
     pub fn into_histories(self) -> Result<Histories, NoMemory>
         requires counted { AreCounted self }
-        ensures { IfOk result (λ all. all ≡ histories_of self.feeding.items (map (λ seat. seat.entries.items) self.seats.items)) }
+        ensures { IfOk result (λ all. all
+            ≡ histories_of self.feeding.items (map (λ seat. seat.entries.items) self.seats.items)) }
     {
         let Nodes {
             alloc,

@@ -45,7 +45,8 @@ fn cores_of(alloc: Global, script: &Script) -> Result<Vec<ClientCore>, NoMemory>
 // What became of the commands of each client.
 fn outcomes_of(alloc: Global, cores: &[ClientCore]) -> Result<Vec<Vec<Outcome>>, NoMemory>
     ensures { IfOk result (λ all. (script : Scripted) (r : Run) → AreAfter script r cores.now
-        → map (λ those. those.items) all.items ≡ map (λ client. outcomes client script (replies_of client r)) (range_with_len 0 (length cores.now))) }
+        → map (λ those. those.items) all.items
+        ≡ map (λ client. outcomes client script (replies_of client r)) (range_with_len 0 (length cores.now))) }
 {
     let mut all = Vec::new(alloc);
     'cores: for core in cores {
@@ -58,13 +59,18 @@ fn outcomes_of(alloc: Global, cores: &[ClientCore]) -> Result<Vec<Vec<Outcome>>,
 fn left_by(alloc: Global, runner: Runner, cores: &[ClientCore]) -> Result<Left, Stop>
     requires sound { IsSound runner }
     requires ended { runner.nodes.has_ended ≡ true }
-    ensures histories { IfOk result (λ left. (r : Run) → IsNodes runner.nodes r → AreInOrder r → left.histories ≡ histories_in r) }
+    ensures histories { IfOk result (λ left. (r : Run) → IsNodes runner.nodes r → AreInOrder r
+        → left.histories ≡ histories_in r) }
     ensures outcomes { IfOk result (λ left. (script : Scripted) (r : Run) → AreAfter script r cores.now
-        → map (λ those. those.items) left.outcomes.items ≡ map (λ client. outcomes client script (replies_of client r)) (range_with_len 0 (length cores.now))) }
-    ensures head { IfOk result (λ left. (ahead taken : List ℕ) (given : List (List ℕ)) → Pulls ahead taken given runner.puller → told_head left.head ≡ head_of runner.puller.cutting.size (ahead ++ taken) left.head.read_fault) }
+        → map (λ those. those.items) left.outcomes.items
+        ≡ map (λ client. outcomes client script (replies_of client r)) (range_with_len 0 (length cores.now))) }
+    ensures head { IfOk result (λ left. (ahead taken : List ℕ) (given : List (List ℕ))
+        → Pulls ahead taken given runner.puller
+        → told_head left.head ≡ head_of runner.puller.cutting.size (ahead ++ taken) left.head.read_fault) }
     ensures fault { IfOk result (λ left. left.head.read_fault ≡ has_failed runner.puller.reading) }
     ensures well { IfOk result (λ left. runner.puller.reading ≢ TooMany) }
-    ensures too_long { (turns : ℕ) → IsErrOf result (Stop.TooLong turns) → (turns ≡ 2 ^ 32) × (2 ^ 32 ≤ runner.puller.start + runner.puller.taken) }
+    ensures too_long { (turns : ℕ) → IsErrOf result (Stop.TooLong turns)
+        → (turns ≡ 2 ^ 32) × (2 ^ 32 ≤ runner.puller.start + runner.puller.taken) }
 {
     if let Some(PullFault::TooLong { turns }) = runner.puller.fault() {
         return Err(Stop::TooLong { turns });
@@ -97,13 +103,17 @@ fn run_over<S: Source, L: Ledger>(
     requires begun { IsFreshRunner runner }
     requires fresh { AreFreshCores script.now cores.old }
     requires going { runner.puller.reading ≡ Going }
-    ensures left { IfOk result (λ left. OfStream (S.end source.old) (S.end source.new) runner.puller (λ ahead taken. IsLeftBy script.now batch runner.puller.cutting.size (ahead ++ taken) left)) }
-    ensures rose { IfOk result (λ left. IsTrue left.head.read_fault ↔ ((S.end source.old).faults < (S.end source.new).faults)) }
+    ensures left { IfOk result (λ left. OfStream (S.end source.old) (S.end source.new) runner.puller
+        (λ ahead taken. IsLeftBy script.now batch runner.puller.cutting.size (ahead ++ taken) left)) }
+    ensures rose { IfOk result
+        (λ left. IsTrue left.head.read_fault ↔ ((S.end source.old).faults < (S.end source.new).faults)) }
     ensures later { IfOk result (λ _. (S.end source.old).faults ≤ (S.end source.new).faults) }
     ensures once { (S.end source.new).faults ≤ (S.end source.old).faults + 1 }
     ensures end { IfOk result (λ left. left.head.read_fault ≡ false → IsAtEnd (S.end source.new).left) }
-    ensures too_long { (turns : ℕ) → IsErrOf result (Stop.TooLong turns) → OfStream (S.end source.old) (S.end source.new) runner.puller (IsTooLong script.now runner.puller.start turns) }
-    ensures draws { OnErr result ((packets : List (List ℕ)) × ((last : Pulling) × Draws (S.end source.old) (S.end source.new) runner.puller last packets)) }
+    ensures too_long { (turns : ℕ) → IsErrOf result (Stop.TooLong turns)
+        → OfStream (S.end source.old) (S.end source.new) runner.puller (IsTooLong script.now runner.puller.start turns) }
+    ensures draws { OnErr result ((packets : List (List ℕ))
+        × ((last : Pulling) × Draws (S.end source.old) (S.end source.new) runner.puller last packets)) }
 {
     let mut steps = Steps::<L>::new(blank);
     let mut runner = runner;
@@ -134,16 +144,20 @@ pub fn run_steps<S: Source>(
     requires going { puller.reading ≡ Going }
     requires fresh { puller.given ≡ 0 }
     // The histories, the outcomes and the head are those of the serial run, which is the only one.
-    ensures left { IfOk result (λ left. OfStream (S.end source.old) (S.end source.new) puller (λ ahead taken. IsLeftBy script.now batch puller.cutting.size (ahead ++ taken) left)) }
+    ensures left { IfOk result (λ left. OfStream (S.end source.old) (S.end source.new) puller
+        (λ ahead taken. IsLeftBy script.now batch puller.cutting.size (ahead ++ taken) left)) }
     // The source failed exactly where its count rose; else it has nothing left.
-    ensures rose { IfOk result (λ left. IsTrue left.head.read_fault ↔ ((S.end source.old).faults < (S.end source.new).faults)) }
+    ensures rose { IfOk result
+        (λ left. IsTrue left.head.read_fault ↔ ((S.end source.old).faults < (S.end source.new).faults)) }
     ensures later { IfOk result (λ _. (S.end source.old).faults ≤ (S.end source.new).faults) }
     // At most one read has failed: after it nothing more is read, however the run ends.
     ensures once { (S.end source.new).faults ≤ (S.end source.old).faults + 1 }
     ensures end { IfOk result (λ left. left.head.read_fault ≡ false → IsAtEnd (S.end source.new).left) }
-    ensures too_long { (turns : ℕ) → IsErrOf result (Stop.TooLong turns) → OfStream (S.end source.old) (S.end source.new) puller (IsTooLong script.now puller.start turns) }
+    ensures too_long { (turns : ℕ) → IsErrOf result (Stop.TooLong turns)
+        → OfStream (S.end source.old) (S.end source.new) puller (IsTooLong script.now puller.start turns) }
     // What was taken of the source where the run stopped, as the puller's pulls tell it.
-    ensures draws { OnErr result ((packets : List (List ℕ)) × ((last : Pulling) × Draws (S.end source.old) (S.end source.new) puller last packets)) }
+    ensures draws { OnErr result ((packets : List (List ℕ))
+        × ((last : Pulling) × Draws (S.end source.old) (S.end source.new) puller last packets)) }
 {
     let mut cores = match cores_of(alloc, script) {
         Ok(cores) => cores,

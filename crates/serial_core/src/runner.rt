@@ -66,7 +66,8 @@ impl Runner {
     ) -> Result<(), NoMemory>
         requires ready { IsReady batch self.old }
         requires made { MadeAtMost self.old (2 ^ 43) }
-        ensures moves { OnOk result (Moves (S.end source.old) (S.end source.new) self.old self.new (λ r s. s ≡ fed batch count r)) }
+        ensures moves { OnOk result
+            (Moves (S.end source.old) (S.end source.new) self.old self.new (λ r s. s ≡ fed batch count r)) }
         ensures draws { OnErr result (HasDrawn (S.end source.old) (S.end source.new) self.old.puller self.new.puller) }
         ensures made { OnOk result ((calls : ℕ) → MadeAtMost self.old calls → MadeAtMost self.new calls) }
         ensures moment { OnOk result (self.new.moment ≡ self.old.moment) }
@@ -91,7 +92,8 @@ impl Runner {
     ) -> Result<(), NoMemory>
         requires ready { IsReady batch self.old }
         requires made { MadeAtMost self.old (2 ^ 43) }
-        ensures moves { OnOk result (Moves (S.end source.old) (S.end source.new) self.old self.new (λ r s. s ≡ finished batch r)) }
+        ensures moves { OnOk result
+            (Moves (S.end source.old) (S.end source.new) self.old self.new (λ r s. s ≡ finished batch r)) }
         ensures draws { OnErr result (HasDrawn (S.end source.old) (S.end source.new) self.old.puller self.new.puller) }
         ensures ended { OnOk result (self.new.nodes.has_ended ≡ true) }
     {
@@ -114,7 +116,8 @@ impl Runner {
     /// The histories of all nodes. End has passed.
     pub fn into_histories(self) -> Result<Histories, NoMemory>
         requires counted { AreCounted self.nodes }
-        ensures { IfOk result (λ all. all ≡ histories_of self.nodes.feeding.items (map (λ seat. seat.entries.items) self.nodes.seats.items)) }
+        ensures { IfOk result (λ all. all
+            ≡ histories_of self.nodes.feeding.items (map (λ seat. seat.entries.items) self.nodes.seats.items)) }
     {
         self.nodes.into_histories()
     }

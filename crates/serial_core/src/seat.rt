@@ -45,7 +45,8 @@ impl SerialNode {
         requires few { entries_in self.old.core < 2 ^ 50 }
         ensures answer { IfOk result (λ reply. (n : RunNode) → StandsAt self.old.core n.number (history_of n)
             → (response_of reply ≡ answer_by who (invocation_of call) n)
-            × StandsAt self.new.core n.number (entry_of who (invocation_of call) (answer_by who (invocation_of call) n) ∷ history_of n)) }
+            × StandsAt self.new.core n.number
+            (entry_of who (invocation_of call) (answer_by who (invocation_of call) n) ∷ history_of n)) }
         ensures node { self.new.node ≡ self.old.node }
         ensures entries { self.new.entries ≡ self.old.entries }
         ensures rises { entries_in self.new.core ≡ entries_in self.old.core + 1 }

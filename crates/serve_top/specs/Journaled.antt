@@ -6,14 +6,16 @@ use Rattle.serve_top.specs.declared.journals.ReportParts.{ReportParts}
 use Rattle.serve_top.specs.Read.{HasReadTo}
 use Rattle.serve_top.specs.Reported.{every, fed_by}
 
--- A line tells what is left of it to be read, and what was written to it; or it tells none of these. A journal says whether it was
--- given these calls and what became of these commands, or these batches, and no others, between one state and another.
-module _ {T J B : Type 0} (source : T → SourceEnd) (sink : T → SinkEnd) (took : List LogEntry → List Outcome → J → J → Type 0)
+-- A line tells what is left of it to be read, and what was written to it; or it tells none of these. A journal says whether it
+-- was given these calls and what became of these commands, or these batches, and no others, between one state and another.
+module _ {T J B : Type 0} (source : T → SourceEnd) (sink : T → SinkEnd) (took : List LogEntry → List Outcome → J
+    → J → Type 0)
     (told : List Fed → B → B → Type 0) where
   -- A seat has served its line: its client has made just these calls, by which it came to what it is now; they are those that the
-  -- requests of the line ask for, one after another, each told in its reply, and then those by which all nodes were closed, as by each
-  -- request to leave; the line's journal was given just them, and what became of the commands; and by none do packets pass.
-  pub record IsHandedOver (may : ℕ → Bool) (line : JournalLine T J) (client : Caller) (book : List LogEntry) (journal : J) : Type 0 where
+  -- requests of the line ask for, one after another, each told in its reply, and then those by which all nodes were closed, as by
+  -- each request to leave; the line's journal was given just them, and what became of the commands; and by none do packets pass.
+  pub record IsHandedOver (may : ℕ → Bool) (line : JournalLine T J) (client : Caller) (book : List LogEntry)
+      (journal : J) : Type 0 where
     pub end : T
     pub first : Caller
     pub became : List Outcome
@@ -22,8 +24,10 @@ module _ {T J B : Type 0} (source : T → SourceEnd) (sink : T → SinkEnd) (too
     pub nodes : AreOnNodes book
     pub none : All (λ e. PassesNone e.act) book
 
-  -- What was read of the stream, what was called by this feeder and these clients and why, and what the journals were given: just this.
-  pub record AreServed (lines : List (JournalLine T J)) (may : ℕ → Bool) (before after : SourceEnd) (was now : B) (feeder : Caller)
+  -- What was read of the stream, what was called by this feeder and these clients and why, and what the journals were given: just
+  -- this.
+  pub record AreServed (lines : List (JournalLine T J)) (may : ℕ → Bool) (before after : SourceEnd) (was now : B)
+      (feeder : Caller)
       (clients : List Caller) (end : Handed J) : Type 0 where
     -- the bytes that were read, up to the end of the stream or the read that failed, and what is known of them
     pub taken : List ℕ
@@ -71,7 +75,8 @@ pub record IsNewFeeder (feeder : Caller) (f : FeederWorker) : Type 0 where
   pub going : f.puller.reading ≡ Going
 
 -- this is left of a feeder, and of seats with journals
-pub record IsLeftBy {T J : Type 0} (adapter : List TableId) (f : FeederWorker) (desks : List (Desk (JournalLine T J))) (end : ReportParts J) : Type 0 where
+pub record IsLeftBy {T J : Type 0} (adapter : List TableId) (f : FeederWorker) (desks : List (Desk (JournalLine T J)))
+    (end : ReportParts J) : Type 0 where
   pub locks : end.adapter ≡ adapter
   pub feeder : end.feeder ≡ f.feeder
   pub clients : end.clients.items ≡ map (λ d. d.seat.client) desks

@@ -13,4 +13,5 @@ fed_line f = decimal f.first ++ (codes " " ++ (decimal f.count ++ (codes " " ++ 
 
 -- Where it is whole, it was so before, and this text was written between.
 abbrev pub HasWritten : {K : Type 0} → (K → SinkEnd) → (text : List ℕ) → (old new : WrittenLines K) → Type 0
-HasWritten end text old new = new.whole ≡ true → (old.whole ≡ true) × Appends (end old.sink).written (end new.sink).written text
+HasWritten end text old new = new.whole ≡ true → (old.whole ≡ true)
+    × Appends (end old.sink).written (end new.sink).written text

@@ -60,7 +60,8 @@ pub record HasReported {T : Type 0} (source : T → SourceEnd) (sink : T → Sin
   pub as_many : length told ≡ length lines
   pub asked : (c : ℕ) (book : List LogEntry) → slice_get books c ≡ Some book
       → (line : T) × (slice_get (reverse lines) c ≡ Some line) × (client : Caller) × (slice_get clients c ≡ Some client)
-      × (became : List Outcome) × (slice_get told c ≡ Some became) × IsServed source sink may script c client line book became
+      × (became : List Outcome) × (slice_get told c ≡ Some became)
+      × IsServed source sink may script c client line book became
   -- and behind them it owns no node
   pub left : (c : ℕ) (client : Caller) → slice_get clients c ≡ Some client → (node : ℕ) → node ≤ DEMUX_NODES
       → HasLeft node client

@@ -82,7 +82,8 @@ fn kept_by<E: Drop>(
 ) -> Result<(Vec<Vec<Entry>>, Vec<Vec<Outcome>>), NoMemory>
     ensures whole { OnOk result (All (λ j. j.kept.whole ≡ true) journals.items) }
     ensures logs { IfOk result (λ r. map (λ log. log.items) r.0.items ≡ map (λ j. j.kept.log.items) journals.items) }
-    ensures outcomes { IfOk result (λ r. map (λ those. those.items) r.1.items ≡ map (λ j. j.kept.outcomes.items) journals.items) }
+    ensures outcomes { IfOk result (λ r. map (λ those. those.items) r.1.items
+        ≡ map (λ j. j.kept.outcomes.items) journals.items) }
 {
     let mut logs = Vec::new(alloc);
     let mut outcomes = Vec::new(alloc);
@@ -125,7 +126,8 @@ pub fn serve<
 ) -> Result<(), NoReport>
     requires few { vec_len lines ≤ 8 }
     // The report is that of the stream's bytes and of what was called, which is what the requests on the lines ask for.
-    ensures reported { OnOk result (HasReported T.Source.end T.Sink.end lines.items (C.may_give clock.now) (S.end source.old) (S.end source.new) (K.end sink.old).written (K.end sink.new).written) }
+    ensures reported { OnOk result (HasReported T.Source.end T.Sink.end lines.items (C.may_give clock.now) (S.end source.old)
+        (S.end source.new) (K.end sink.old).written (K.end sink.new).written) }
     ensures memory { IsErrOf result NoReport.NoMemory → sink.new ≡ sink.old }
     ensures too_long { IsErrOf result NoReport.TooLong → sink.new ≡ sink.old }
     ensures reads { IsErrOf result NoReport.TooLong → HasReadTooOften (S.end source.old) (S.end source.new) }

@@ -62,7 +62,8 @@ impl<K: Sink + Drop> WrittenLines<K> {
 
     // Writes the line that was made last, if it was made.
     fn write(&mut self, made: Result<(), NoMemory>)
-        ensures { self.new.whole ≡ true → IsOk made × (self.old.whole ≡ true) × Appends (K.end self.old.sink).written (K.end self.new.sink).written self.old.line.items }
+        ensures { self.new.whole ≡ true → IsOk made × (self.old.whole ≡ true)
+            × Appends (K.end self.old.sink).written (K.end self.new.sink).written self.old.line.items }
     {
         if self.whole {
             self.whole = made.is_ok() && write_all(&mut self.sink, &self.line).is_ok();
@@ -147,7 +148,8 @@ fn head_text(alloc: Global, head: &Head) -> Result<Vec<u8>, NoMemory>
 ///
 /// `NoMemory` where memory was refused, and nothing was written; `Failed` where a write failed.
 pub fn write_head<K: Sink>(alloc: Global, sink: &mut K, head: &Head) -> Result<(), NoReport>
-    ensures { OnOk result (Appends (K.end sink.old).written (K.end sink.new).written (text_of (record { head = told_head head.now; outcomes = []; nodes = [] }))) }
+    ensures { OnOk result (Appends (K.end sink.old).written (K.end sink.new).written
+        (text_of (record { head = told_head head.now; outcomes = []; nodes = [] }))) }
 {
     let text = head_text(alloc, head)?;
     match write_all(sink, &text) {

@@ -34,7 +34,8 @@ pub fn hex_byte(high: u8, low: u8) -> Option<u8>
 #[tactic(auto, using(crate::proofs::HexWords::pair_steps))]
 fn first_pair(digits: &[u8]) -> Option<(u8, &[u8])>
     ensures none { result ≡ None → digits.now ≢ [] → (most : ℕ) → bytes_of_digits most digits.now ≡ None }
-    ensures some { IfSome result (λ r. (left : ℕ) → bytes_of_digits (suc left) digits.now ≡ option_map (λ bytes. r.0 ∷ bytes) (bytes_of_digits left r.1.now)) }
+    ensures some { IfSome result (λ r. (left : ℕ)
+        → bytes_of_digits (suc left) digits.now ≡ option_map (λ bytes. r.0 ∷ bytes) (bytes_of_digits left r.1.now)) }
     ensures two { IfSome result (λ r. length r.1.now + 2 ≡ length digits.now) }
 {
     let [high, low, rest @ ..] = digits else {
@@ -46,7 +47,8 @@ fn first_pair(digits: &[u8]) -> Option<(u8, &[u8])>
 
 /// The bytes that a word spells in two lower-case hexadecimal digits each, where they are at most `MOST`.
 pub fn hex_bytes<const MOST: usize>(word: &[u8]) -> Option<ArrayVec<u8, MOST>>
-    ensures value { MatchOption result (bytes_of_digits MOST word.now ≡ None) (λ bytes. bytes_of_digits MOST word.now ≡ Some bytes.items) }
+    ensures value { MatchOption result (bytes_of_digits MOST word.now ≡ None) (λ bytes. bytes_of_digits MOST word.now
+        ≡ Some bytes.items) }
     ensures half { IfSome result (λ bytes. 2 * length bytes.items ≡ length word.now) }
 {
     let mut bytes = ArrayVec::new();

@@ -9,13 +9,15 @@ ghost use Rattle.text_forms.specs.Words.{input_named, output_named};
 
 /// Reading a number of 64 bits from its digits gives it again, where it is in the range that is asked for.
 pub fn numbers_are_read_again()
-    ensures { (least most n : ℕ) → n < 2 ^ 64 → least ≤ n → n ≤ most → number_between least most (decimal n) ≡ Some n }
+    ensures { (least most n : ℕ) → n < 2 ^ 64 → least ≤ n → n ≤ most
+        → number_between least most (decimal n) ≡ Some n }
 {}
 
 /// Reading a byte from its two digits gives it again, and so does reading several from a word.
 pub fn bytes_are_read_again()
     ensures one { (byte : ℕ) → byte < 256 → hex_byte (digit_text (byte / 16)) (digit_text (byte % 16)) ≡ Some byte }
-    ensures word { (most : ℕ) (bytes : List ℕ) → length bytes ≤ most → All (λ byte. byte < 256) bytes → hex_bytes most (hex_text bytes) ≡ Some bytes }
+    ensures word { (most : ℕ) (bytes : List ℕ) → length bytes ≤ most → All (λ byte. byte < 256) bytes
+        → hex_bytes most (hex_text bytes) ≡ Some bytes }
 {}
 
 /// Reading the name of a client, a demux node or a slot gives it again.
@@ -39,11 +41,14 @@ pub fn words_are_read_again()
 
 /// Reading a place of a filter gives it again.
 pub fn places_are_read_again()
-    ensures { (least : ℕ) (p : Place) → least ≤ p.number → p.number ≤ 15 → HasBytes p → place_named least (place_text p) ≡ Some p }
+    ensures { (least : ℕ) (p : Place) → least ≤ p.number → p.number ≤ 15 → HasBytes p
+        → place_named least (place_text p) ≡ Some p }
 {}
 
 /// The text of a filter is its words, each behind a space, and reading these words gives the filter again.
 pub fn filters_are_read_again()
-    ensures words { (filter : SectionFilter) → filter_text filter ≡ flat_map (λ word. codes " " ++ word) (filter_words filter) }
-    ensures read { (filter : SectionFilter) → IsFilter filter → option_map filter_with (places_named 0 (filter_words filter)) ≡ Some filter }
+    ensures words { (filter : SectionFilter) → filter_text filter
+        ≡ flat_map (λ word. codes " " ++ word) (filter_words filter) }
+    ensures read { (filter : SectionFilter) → IsFilter filter
+        → option_map filter_with (places_named 0 (filter_words filter)) ≡ Some filter }
 {}

@@ -55,7 +55,8 @@ impl Index {
     fn list(&mut self, pid: u16, packets: &[Packet]) -> Result<(), NoMemory>
         requires { length packets.now ≤ 64 }
         ensures places { OnOk result (self.new.places.items ≡ self.old.places.items ++ places_of pid packets.now) }
-        ensures runs { OnOk result (self.new.runs.items ≡ self.old.runs.items ++ record { pid = pid; from = length self.old.places.items; to = length self.new.places.items } ∷ []) }
+        ensures runs { OnOk result (self.new.runs.items ≡ self.old.runs.items
+            ++ record { pid = pid; from = length self.old.places.items; to = length self.new.places.items } ∷ []) }
     {
         let from = self.places.len();
         put_places(&mut self.places, pid, packets)?;

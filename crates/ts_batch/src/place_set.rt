@@ -39,7 +39,8 @@ impl PlaceSet {
 
     /// Adds the places of the packets that a PID names.
     pub fn add(&mut self, batch: &Batch, pid: u16)
-        ensures { (i : ℕ) (packet : List ℕ) → slice_get batch.now.packets i ≡ Some packet → is_in i self.new ≡ (is_in i self.old || names pid packet) }
+        ensures { (i : ℕ) (packet : List ℕ) → slice_get batch.now.packets i ≡ Some packet
+            → is_in i self.new ≡ (is_in i self.old || names pid packet) }
     {
         let places = batch.places(pid);
         'places: for place in places {
@@ -50,7 +51,8 @@ impl PlaceSet {
 
     /// Adds the places of the packets that these PIDs name, each once.
     pub fn add_all(&mut self, batch: &Batch, pids: &Pids)
-        ensures { (i : ℕ) (packet : List ℕ) → slice_get batch.now.packets i ≡ Some packet → is_in i self.new ≡ (is_in i self.old || names_pid pids.now (pid_of packet)) }
+        ensures { (i : ℕ) (packet : List ℕ) → slice_get batch.now.packets i ≡ Some packet
+            → is_in i self.new ≡ (is_in i self.old || names_pid pids.now (pid_of packet)) }
     {
         'pids: for i in 0..pids.len() {
             if let Some(pid) = pids.get(i) {

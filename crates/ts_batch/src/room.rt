@@ -24,7 +24,8 @@ impl Model for BatchRoom {
 
     ghost view = { λ r. record { packets = r.packets.items; most = r.most } };
 
-    ghost invariant = { λ r. IsGathered (record { packets = r.packets.items; most = r.most }) × (r.most ≤ vec_capacity r.packets) };
+    ghost invariant = { λ r. IsGathered (record { packets = r.packets.items; most = r.most })
+        × (r.most ≤ vec_capacity r.packets) };
 }
 
 impl BatchRoom {

@@ -77,7 +77,8 @@ fn put_section_packet(
 ) -> Result<(), NoMemory>
     requires pid { pid < 8192 }
     requires counter { counter < 16 }
-    ensures { OnOk result (out.new.items ≡ out.old.items ++ (header true pid counter ++ (0x00 ∷ (section table_id place ++ replicate 163 0xff)))) }
+    ensures { OnOk result (out.new.items
+        ≡ out.old.items ++ (header true pid counter ++ (0x00 ∷ (section table_id place ++ replicate 163 0xff)))) }
 {
     put_header(out, true, pid, counter)?;
     out.push(0)?;

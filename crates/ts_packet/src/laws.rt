@@ -11,10 +11,12 @@ use crate::PacketSize;
 pub fn cutting_law()
     // Each stream is pieces one after another and then a rest, and its cutting has the packets, the number of skipped
     // bytes and the rest of these.
-    ensures made { (size : PacketSize) (stream : List ℕ) → (pieces : List Piece) × (rest : List ℕ) × IsMadeOf size stream pieces rest × IsCutOf pieces rest (cut size stream) }
+    ensures made { (size : PacketSize) (stream : List ℕ) → (pieces : List Piece) × (rest : List ℕ)
+        × IsMadeOf size stream pieces rest × IsCutOf pieces rest (cut size stream) }
     // No stream is made of pieces and a rest in two ways.
     ensures unique { (size : PacketSize) (stream : List ℕ) (pieces others : List Piece) (rest left : List ℕ)
         → IsMadeOf size stream pieces rest → IsMadeOf size stream others left → (pieces ≡ others) × (rest ≡ left) }
     // Cutting in two goes gives the same: first the one stretch, then its rest with the other behind it.
-    ensures apart { (size : PacketSize) (one other : List ℕ) → cut size (one ++ other) ≡ join (cut size one) (cut size ((cut size one).rest ++ other)) }
+    ensures apart { (size : PacketSize) (one other : List ℕ)
+        → cut size (one ++ other) ≡ join (cut size one) (cut size ((cut size one).rest ++ other)) }
 {}

@@ -31,7 +31,8 @@ impl Model for Watch {
 
     ghost view = { λ w. record { watched = w.watched; places = w.places.items; seen = w.seen.items } };
 
-    ghost invariant = { λ w. IsWatching (record { watched = w.watched; places = w.places.items; seen = w.seen.items }) × (8192 ≤ vec_capacity w.seen) };
+    ghost invariant = { λ w. IsWatching (record { watched = w.watched; places = w.places.items; seen = w.seen.items })
+        × (8192 ≤ vec_capacity w.seen) };
 }
 
 // A table without places.
@@ -81,7 +82,8 @@ impl Watch {
         requires { self.old.watched < 2 ^ 63 }
         ensures watched { self.new.watched ≡ self.old.watched + 1 }
         // Whatever packets it stood for, it stands for these with the packet behind them.
-        ensures stands { (packets : List (List ℕ)) → Watched packets self.old → Watched (packets ++ packet.now ∷ []) self.new }
+        ensures stands { (packets : List (List ℕ)) → Watched packets self.old
+            → Watched (packets ++ packet.now ∷ []) self.new }
         // What is kept of other PIDs stays.
         ensures others { (pid : ℕ) → pid ≢ pid_of packet.now → kept self.new pid ≡ kept self.old pid }
     {
@@ -105,7 +107,8 @@ impl Watch {
     /// The PIDs that have a packet, ascending, each with its counts.
     pub fn rows(&self, alloc: Global) -> Result<Vec<(u16, PidRow)>, NoMemory>
         // Whatever packets it stands for, these are their rows.
-        ensures { (packets : List (List ℕ)) → Watched packets self.now → IfOk result (λ rows. rows.items ≡ rows_below 8192 packets) }
+        ensures { (packets : List (List ℕ)) → Watched packets self.now
+            → IfOk result (λ rows. rows.items ≡ rows_below 8192 packets) }
     {
         let mut rows = Vec::with_capacity(alloc, PIDS)?;
         'pids: for pid in 0..PIDS as u16 {

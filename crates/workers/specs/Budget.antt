@@ -8,7 +8,8 @@ use Rattle.workers.specs.Feeding.{HasFed}
 -- A moment of a run by threads, or its end: the feeder has passed these packets through the nodes that are among these, with all
 -- that the script can name, and the end of the stream or not yet; each client has made the calls of its log; and each node has a
 -- legal history of just the calls of all of them. The script's lines name the writes of each client in their order.
-pub record IsRunning (script : Scripted) (among : ℕ → Bool) (most : ℕ) (may : ℕ → Bool) (packets : List (List ℕ)) (behind : List Entry)
+pub record IsRunning (script : Scripted) (among : ℕ → Bool) (most : ℕ) (may : ℕ → Bool) (packets : List (List ℕ))
+    (behind : List Entry)
     (feeder : Caller) (feeding : List Fed) (others : List Caller) (books : List (List LogEntry)) : Type 0 where
   pub numbered : AreNumbered script
   pub are_packets : All IsPacket packets

@@ -61,7 +61,8 @@ pub record HasEndedBy (p : TableId × View Entry) : Type 0 where
 pub record HasEnded (among : ℕ → Bool) (c : Caller) : Type 0 where
   pub ended : (node : ℕ) → node ≤ DEMUX_NODES → among node ≡ true
       → (p : TableId × View Entry) × (slice_get c.passes node ≡ Some p) × HasEndedBy p
-  pub idle : (node : ℕ) (p : TableId × View Entry) → slice_get c.passes node ≡ Some p → among node ≡ false → p.1.own ≡ []
+  pub idle : (node : ℕ) (p : TableId × View Entry) → slice_get c.passes node ≡ Some p → among node ≡ false
+      → p.1.own ≡ []
 
 -- The whole stream has passed the nodes that are among these, in full batches but for the last, and then its end.
 pub record HasFedAll (among : ℕ → Bool) (most : ℕ) (may : ℕ → Bool) (stream : List (List ℕ)) (c : Caller)

@@ -15,7 +15,8 @@ pub record HasWorked (script : Scripted) (client : ℕ) (may : ℕ → Bool) (c 
 
 -- The feeder has passed the whole stream through the nodes that are among these, and called no other; all that the script can
 -- name are among them. Each client of the script has done its commands to their end.
-pub record AreWorked (script : Scripted) (among : ℕ → Bool) (most : ℕ) (may : ℕ → Bool) (stream : List (List ℕ)) (feeder : Caller)
+pub record AreWorked (script : Scripted) (among : ℕ → Bool) (most : ℕ) (may : ℕ → Bool) (stream : List (List ℕ))
+    (feeder : Caller)
     (feeding : List Fed) (others : List Caller) (books : List (List LogEntry))
     (told : List (List Outcome)) : Type 0 where
   pub fed : HasFedAll among most may stream feeder feeding
@@ -31,6 +32,7 @@ pub record AreWorked (script : Scripted) (among : ℕ → Bool) (most : ℕ) (ma
 -- and in which the source failed or not; the feeder has called just the nodes that the script can name.
 pub record IsLeftBy (script : Scripted) (most : ℕ) (may : ℕ → Bool) (size : PacketSize) (stream : List ℕ)
     (left : LeftByThreads) : Type 0 where
-  pub worked : AreWorked script (is_named script.lines) most may (cut size stream).packets left.feeder left.feeding.items left.clients.items
+  pub worked : AreWorked script (is_named script.lines) most may
+      (cut size stream).packets left.feeder left.feeding.items left.clients.items
       (map (λ log. map told_entry log.items) left.logs.items) (map (λ those. those.items) left.outcomes.items)
   pub head : told_head left.head ≡ head_of size stream left.head.read_fault

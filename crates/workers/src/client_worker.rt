@@ -72,7 +72,8 @@ impl ClientWorker {
         requires played { IsRequestOf self.old.core.plays event.want }
         ensures same { IsSameCaller self.old.client self.new.client }
         ensures fit { OnOk result (IsFit adapter.now self.new) }
-        ensures works { OnOk result ((may : ℕ → Bool) (script : Scripted) (client : ℕ) → IsGiven may (act_of (call_at self.old.core.plays event.want now)) → MayCallNow script client event.node self.old
+        ensures works { OnOk result ((may : ℕ → Bool) (script : Scripted) (client : ℕ)
+            → IsGiven may (act_of (call_at self.old.core.plays event.want now)) → MayCallNow script client event.node self.old
             → IsWorking script client may self.old → IsWorking script client may self.new) }
         ensures step { OnOk result (self.new.core.step ≡ self.old.core.step + 1) }
     {
@@ -100,7 +101,8 @@ impl ClientWorker {
         requires fit { IsFit adapter.now self.old }
         requires node { node ≤ nodes }
         ensures looked { HasLooked adapter.now self.old self.new }
-        ensures past { (p : TableId × View HistoryEntry) → slice_get self.new.client.passes node ≡ Some p → place + 1 < length p.1.seen }
+        ensures past { (p : TableId × View HistoryEntry) → slice_get self.new.client.passes node ≡ Some p
+            → place + 1 < length p.1.seen }
     {
         let mut turns = 0u32;
         'looks: for _ in rt.forever() {
@@ -119,7 +121,8 @@ impl ClientWorker {
         requires fit { IsFit adapter.now self.old }
         requires node { node ≤ nodes }
         ensures looked { HasLooked adapter.now self.old self.new }
-        ensures may { (may : ℕ → Bool) (script : Scripted) (client : ℕ) → IsWorking script client may self.old → MayCallNow script client node self.new }
+        ensures may { (may : ℕ → Bool) (script : Scripted) (client : ℕ) → IsWorking script client may self.old
+            → MayCallNow script client node self.new }
     {
         if self.core.waits().is_none() {
             return;
@@ -145,7 +148,8 @@ impl ClientWorker {
         ensures fit { OnOk result (IsFit adapter.now self.new) }
         ensures works { OnOk result (GoesOn (C.may_give clock.now) self.old self.new) }
         ensures ends { OnOk result (next_of self.new.core ≡ None) }
-        ensures too_long { (turns : ℕ) → IsErrOf result (Stop.TooLong turns) → (turns ≡ most_calls) × (self.new.core.step ≡ most_calls)
+        ensures too_long { (turns : ℕ) → IsErrOf result (Stop.TooLong turns)
+            → (turns ≡ most_calls) × (self.new.core.step ≡ most_calls)
             × IsFit adapter.now self.new × GoesOn (C.may_give clock.now) self.old self.new }
     {
         'calls: while let Some(event) = self.core.next() {

@@ -29,10 +29,14 @@ pub fn histories_of_run(
     requires all { AreAllCallers adapter (clients.items ++ feeder ∷ []) }
     requires nodes { All (λ log. AreOnNodes log.items) logs.items }
     // They tell what was called, and nothing else; it needs no script.
-    ensures tells { IfOk result (λ hs. (among : ℕ → Bool) (packets : Sources) → HaveCalled among packets feeder feeding.items clients.items (map (λ log. map told_entry log.items) logs.items)
-        → TellWhatWasCalled among packets feeder feeding.items clients.items (map (λ log. map told_entry log.items) logs.items) hs) }
-    ensures run { IfOk result (λ hs. (script : Scripted) (among : ℕ → Bool) (most : ℕ) (may : ℕ → Bool) (stream : List (List ℕ)) (told : List (List Outcome))
-        → AreWorked script among most may stream feeder feeding.items clients.items (map (λ log. map told_entry log.items) logs.items) told
+    ensures tells { IfOk result (λ hs. (among : ℕ → Bool) (packets : Sources)
+        → HaveCalled among packets feeder feeding.items clients.items (map (λ log. map told_entry log.items) logs.items)
+        → TellWhatWasCalled among packets feeder feeding.items clients.items
+        (map (λ log. map told_entry log.items) logs.items) hs) }
+    ensures run { IfOk result (λ hs. (script : Scripted) (among : ℕ → Bool) (most : ℕ) (may : ℕ → Bool)
+        (stream : List (List ℕ)) (told : List (List Outcome))
+        → AreWorked script among most may stream feeder feeding.items clients.items
+        (map (λ log. map told_entry log.items) logs.items) told
         → IsWholeRun script most may stream told hs) }
 {
     adapter.gather(feeder, clients);

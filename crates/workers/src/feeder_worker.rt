@@ -50,9 +50,13 @@ impl FeederWorker {
         ensures fit { IsFitFeeder adapter.now self.new }
         ensures same { IsSameCaller self.old.feeder self.new.feeder }
         ensures others { LeavesOthers (is_in nodes.now) self.old.feeder.passes self.new.feeder.passes }
-        ensures draws { (packets : List (List ℕ)) × Draws (S.end source.old) (S.end source.new) self.old.puller self.new.puller packets }
-        ensures passed { OnOk result ((before : SourceEnd) (first : Pulling) (was : B) → HasPassed (is_in nodes.now) most (C.may_give clock.now) B.took before (S.end source.old) first was batches.old self.old
-            → HasPassed (is_in nodes.now) most (C.may_give clock.now) B.took before (S.end source.new) first was batches.new self.new) }
+        ensures draws { (packets : List (List ℕ))
+            × Draws (S.end source.old) (S.end source.new) self.old.puller self.new.puller packets }
+        ensures passed { OnOk result ((before : SourceEnd) (first : Pulling) (was : B)
+            → HasPassed (is_in nodes.now) most (C.may_give clock.now) B.took before
+            (S.end source.old) first was batches.old self.old
+            → HasPassed (is_in nodes.now) most (C.may_give clock.now) B.took before
+            (S.end source.new) first was batches.new self.new) }
         ensures done { IfOk result (λ some. some ≡ false → IsDone self.new.puller) }
         ensures rises { IfOk result (λ some. some ≡ true → self.old.puller.given < self.new.puller.given) }
     {
@@ -90,9 +94,13 @@ impl FeederWorker {
         ensures fit { IsFitFeeder adapter.now self.new }
         ensures same { IsSameCaller self.old.feeder self.new.feeder }
         ensures others { LeavesOthers (is_in nodes.now) self.old.feeder.passes self.new.feeder.passes }
-        ensures draws { (packets : List (List ℕ)) × Draws (S.end source.old) (S.end source.new) self.old.puller self.new.puller packets }
-        ensures passed { OnOk result ((before : SourceEnd) (first : Pulling) (was : B) → HasPassed (is_in nodes.now) most (C.may_give clock.now) B.took before (S.end source.old) first was batches.old self.old
-            → HasPassed (is_in nodes.now) most (C.may_give clock.now) B.took before (S.end source.new) first was batches.new self.new) }
+        ensures draws { (packets : List (List ℕ))
+            × Draws (S.end source.old) (S.end source.new) self.old.puller self.new.puller packets }
+        ensures passed { OnOk result ((before : SourceEnd) (first : Pulling) (was : B)
+            → HasPassed (is_in nodes.now) most (C.may_give clock.now) B.took before
+            (S.end source.old) first was batches.old self.old
+            → HasPassed (is_in nodes.now) most (C.may_give clock.now) B.took before
+            (S.end source.new) first was batches.new self.new) }
         ensures done { OnOk result (IsDone self.new.puller) }
     {
         'batches: while self.turn(
@@ -105,7 +113,8 @@ impl FeederWorker {
     fn stop_of(&self, passed: Result<(), NoMemory>) -> Option<Stop>
         ensures memory { result ≢ Some WantOfMemory → IsOk passed }
         ensures none { result ≡ None → self.now.puller.reading ≢ TooMany }
-        ensures too_long { (turns : ℕ) → result ≡ Some (Stop.TooLong turns) → (turns ≡ 2 ^ 32) × (2 ^ 32 ≤ self.now.puller.start + self.now.puller.taken) }
+        ensures too_long { (turns : ℕ) → result ≡ Some (Stop.TooLong turns)
+            → (turns ≡ 2 ^ 32) × (2 ^ 32 ≤ self.now.puller.start + self.now.puller.taken) }
     {
         if passed.is_err() {
             return Some(Stop::NoMemory);
@@ -132,8 +141,10 @@ impl FeederWorker {
     )
         requires ledger { (blank.name ≡ L.name) × (blank.parts ≡ L.parts) × (0 < L.parts) }
         requires may { MayPass most adapter.now self.old }
-        requires begun { HasPassed (is_in nodes.now) most (C.may_give clock.now) B.took (S.end source.old) (S.end source.old) self.old.puller batches.old batches.old self.old }
-        ensures { HasFedToEnd (is_in nodes.now) most (C.may_give clock.now) B.took (S.end source.old) (S.end source.new) batches.old batches.new self.old self.new }
+        requires begun { HasPassed (is_in nodes.now) most (C.may_give clock.now) B.took (S.end source.old)
+            (S.end source.old) self.old.puller batches.old batches.old self.old }
+        ensures { HasFedToEnd (is_in nodes.now) most (C.may_give clock.now) B.took (S.end source.old)
+            (S.end source.new) batches.old batches.new self.old self.new }
     {
         let mut steps: Steps<L> = Steps::new(blank);
         let passed = self.pass_all(
@@ -160,8 +171,10 @@ impl FeederWorker {
         gate: &G,
     )
         requires may { MayPass most adapter.now self.old }
-        requires begun { HasPassed (is_in nodes.now) most (C.may_give clock.now) B.took (S.end source.old) (S.end source.old) self.old.puller batches.old batches.old self.old }
-        ensures { HasFedToEnd (is_in nodes.now) most (C.may_give clock.now) B.took (S.end source.old) (S.end source.new) batches.old batches.new self.old self.new }
+        requires begun { HasPassed (is_in nodes.now) most (C.may_give clock.now) B.took (S.end source.old)
+            (S.end source.old) self.old.puller batches.old batches.old self.old }
+        ensures { HasFedToEnd (is_in nodes.now) most (C.may_give clock.now) B.took (S.end source.old)
+            (S.end source.new) batches.old batches.new self.old self.new }
     {
         self.work_counted::<S, B, Brand, R, C, G>(
             rt,

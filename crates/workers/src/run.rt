@@ -119,20 +119,24 @@ pub fn work<R: Threads + Wait + Sync, S: Source + Send, C: Clock + Sync, G: Gate
     requires going { puller.reading ≡ Going }
     requires given { puller.given ≡ 0 }
     // The whole stream has passed, and each client has done just its commands; the head is that of the stream.
-    ensures left { IfOk result (λ left. OfStream (S.end source.old) (S.end source.new) puller (λ ahead taken. IsLeftBy script.now batch (C.may_give clock.now) puller.cutting.size (ahead ++ taken) left)) }
+    ensures left { IfOk result (λ left. OfStream (S.end source.old) (S.end source.new) puller
+        (λ ahead taken. IsLeftBy script.now batch (C.may_give clock.now) puller.cutting.size (ahead ++ taken) left)) }
     // They are still the adapter's callers.
     ensures all { IfOk result (λ left. AreAllCallers adapter.now (left.clients.items ++ left.feeder ∷ [])) }
     ensures nodes { IfOk result (λ left. All (λ log. AreOnNodes log.items) left.logs.items) }
     // The source failed exactly where its count rose; else it has nothing left.
-    ensures rose { IfOk result (λ left. IsTrue left.head.read_fault ↔ ((S.end source.old).faults < (S.end source.new).faults)) }
+    ensures rose { IfOk result
+        (λ left. IsTrue left.head.read_fault ↔ ((S.end source.old).faults < (S.end source.new).faults)) }
     ensures later { IfOk result (λ _. (S.end source.old).faults ≤ (S.end source.new).faults) }
     // At most one read has failed: after it nothing more is read, however the run ends.
     ensures once { (S.end source.new).faults ≤ (S.end source.old).faults + 1 }
     ensures end { IfOk result (λ left. left.head.read_fault ≡ false → IsAtEnd (S.end source.new).left) }
     // So many reads were made, or the commands and the bytes allow a client so many calls.
-    ensures too_long { (turns : ℕ) → IsErrOf result (Stop.TooLong turns) → OfStream (S.end source.old) (S.end source.new) puller (IsTooLong script.now puller.start turns) }
+    ensures too_long { (turns : ℕ) → IsErrOf result (Stop.TooLong turns)
+        → OfStream (S.end source.old) (S.end source.new) puller (IsTooLong script.now puller.start turns) }
     // What was taken of the source where the run stopped, as the puller's pulls tell it.
-    ensures draws { OnErr result ((packets : List (List ℕ)) × ((last : Pulling) × Draws (S.end source.old) (S.end source.new) puller last packets)) }
+    ensures draws { OnErr result ((packets : List (List ℕ))
+        × ((last : Pulling) × Draws (S.end source.old) (S.end source.new) puller last packets)) }
 {
     let mut feeder = FeederWorker {
         feeder,

@@ -32,7 +32,11 @@ impl Model for Plays {
 
     ghost Value = { Playing };
 
-    ghost view = { λ p. record { rest = p.rest.items; count = p.count; batches = map (option_map (λ b. b.value)) p.batches.items } };
+    ghost view = { λ p. record {
+      rest = p.rest.items;
+      count = p.count;
+      batches = map (option_map (λ b. b.value)) p.batches.items;
+    } };
 
     ghost invariant = { λ p. (length p.rest.items < 188) × (p.count ≤ 64 * length p.batches.items) };
 }
@@ -120,7 +124,8 @@ impl Plays {
         ensures packets { IfOk result (λ n. n ≡ length (cut Of188 (self.old.rest ++ bytes.now)).packets) }
         ensures refused { OnErr result (self.new ≡ self.old) }
         // Over all writes: whatever was written before, these bytes are written behind it.
-        ensures tied { (writes : List (List ℕ)) → HasPlayed writes self.old → OnOk result (HasPlayed (writes ++ bytes.now ∷ []) self.new) }
+        ensures tied { (writes : List (List ℕ)) → HasPlayed writes self.old
+            → OnOk result (HasPlayed (writes ++ bytes.now ∷ []) self.new) }
     {
         let joined = joined(self.rest.as_slice(), bytes);
         let mut found = PacketBuf::new();

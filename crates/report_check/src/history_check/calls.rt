@@ -62,7 +62,8 @@ pub fn call_told(
     requires callable { IsCallable (brought_from stream.now (map (λ p. p.items) played.now) who) act.now }
     requires stream { AreFewPackets stream.now }
     requires played { All AreFewPackets (map (λ p. p.items) played.now) }
-    ensures { IfOk result (λ call. invocation_of call ≡ filled_act (brought_from stream.now (map (λ p. p.items) played.now) who) act.now) }
+    ensures { IfOk result (λ call. invocation_of call
+        ≡ filled_act (brought_from stream.now (map (λ p. p.items) played.now) who) act.now) }
 {
     Ok(match act.act() {
         Act::Open => Call::Open,

@@ -25,7 +25,8 @@ pub fn other_reply<M: Machine<Call = Call, Answer = Answer, Entry = Told>, L: Le
     requires entries { IsToldBy M.entry_of }
     requires few { M.entries core.old < 2 ^ 50 }
     ensures agrees { IfOk result (λ other. IfNone other ((response_of told.now ≢ response.NoMemory)
-        × ((h : List HistoryEntry) → M.stands_for core.old h → M.stands_for core.new (h ++ entry_of who (invocation_of call) (response_of told.now) ∷ [])))) }
+        × ((h : List HistoryEntry) → M.stands_for core.old h
+        → M.stands_for core.new (h ++ entry_of who (invocation_of call) (response_of told.now) ∷ [])))) }
     ensures differs { IfOk result (λ other. IfSome other (λ _. response_of told.now ≢ response.NoMemory
         → (rules : Rules) → PlaysBy rules M.stands_for → (h : List HistoryEntry) → M.stands_for core.old h
         → ¬ May rules (reverse h) who (invocation_of call) (response_of told.now))) }
@@ -42,8 +43,8 @@ pub fn other_reply<M: Machine<Call = Call, Answer = Answer, Entry = Told>, L: Le
 }
 
 /// Plays told entries, the oldest first, on a machine on which no call was made: None exactly where their history is legal by
-/// the machine's rules, and none of the replies is want of memory; else the machine's reply to the last call that was made. A pass
-/// of the front end brings packets of the stream, one of the dvr packets that its caller plays.
+/// the machine's rules, and none of the replies is want of memory; else the machine's reply to the last call that was made. A
+/// pass of the front end brings packets of the stream, one of the dvr packets that its caller plays.
 pub fn first_other_reply<M: Machine<Call = Call, Answer = Answer, Entry = Told>, L: Ledger>(
     alloc: Global,
     core: &mut M,
@@ -54,14 +55,18 @@ pub fn first_other_reply<M: Machine<Call = Call, Answer = Answer, Entry = Told>,
 ) -> Result<Option<Reply>, NoMemory>
     requires entries { IsToldBy M.entry_of }
     requires begun { M.stands_for core.old [] }
-    requires callable { All (λ e. IsCallable (brought_from stream.now (map (λ p. p.items) played.now) e.who) e.act) (map told_entry entries.now) }
+    requires callable { All (λ e. IsCallable (brought_from stream.now (map (λ p. p.items) played.now) e.who) e.act)
+        (map told_entry entries.now) }
     requires stream { AreFewPackets stream.now }
     requires played { All AreFewPackets (map (λ p. p.items) played.now) }
     requires few { length entries.now < 2 ^ 50 }
     ensures legal { IfOk result (λ other. IfNone other ((rules : Rules) → PlaysBy rules M.stands_for
         → IsLegalFor rules (filled (brought_from stream.now (map (λ p. p.items) played.now)) (map told_entry entries.now)))) }
-    ensures found { IfOk result (λ other. IfNone other (All (λ e. e.response ≢ response.NoMemory) (map told_entry entries.now))) }
-    ensures stands { IfOk result (λ other. IfNone other (M.stands_for core.new (played_by (brought_from stream.now (map (λ p. p.items) played.now)) (map told_entry entries.now)))) }
+    ensures found { IfOk result
+        (λ other. IfNone other (All (λ e. e.response ≢ response.NoMemory) (map told_entry entries.now))) }
+    ensures stands { IfOk result
+        (λ other. IfNone other (M.stands_for core.new
+        (played_by (brought_from stream.now (map (λ p. p.items) played.now)) (map told_entry entries.now)))) }
     ensures other { IfOk result (λ other. IfSome other (λ _. (rules : Rules) → PlaysBy rules M.stands_for
         → IsLegalFor rules (filled (brought_from stream.now (map (λ p. p.items) played.now)) (map told_entry entries.now))
         → All (λ e. e.response ≢ response.NoMemory) (map told_entry entries.now) → ⊥)) }

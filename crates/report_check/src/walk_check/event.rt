@@ -97,8 +97,10 @@ fn is_asked(core: &ClientCore, request: &ClientRequest, told: &KeptAct) -> bool
 #[tactic(auto, using(crate::proofs::Asked::asked_rules))]
 pub fn is_event(core: &ClientCore, event: &Event, entry: &Entry) -> bool
     requires played { IsRequestOf core.now.plays event.now.want }
-    ensures is { result ≡ true → IsEvent core.now.plays (Some event.now) (told_entry entry.now) × (entry.now.step ≡ event.now.step) }
-    ensures other { result ≡ false → IsEvent core.now.plays (Some event.now) (told_entry entry.now) → entry.now.step ≢ event.now.step }
+    ensures is { result ≡ true → IsEvent core.now.plays (Some event.now) (told_entry entry.now)
+        × (entry.now.step ≡ event.now.step) }
+    ensures other { result ≡ false → IsEvent core.now.plays (Some event.now) (told_entry entry.now)
+        → entry.now.step ≢ event.now.step }
 {
     entry.node == event.node && entry.step == event.step && is_asked(core, &event.want, &entry.act)
 }

@@ -17,7 +17,8 @@ fn parts(entries: &[Entry]) -> Option<(&Entry, &[Entry])>
 fn next_of(entries: &[Entry], client: u32) -> Option<(&Entry, &[Entry])>
     requires { client < 4294967295 }
     ensures next { MatchOption result (of_client client (map told_entry entries.now) ≡ [])
-        (λ r. of_client client (map told_entry entries.now) ≡ told_entry r.0.now ∷ of_client client (map told_entry r.1.now)) }
+        (λ r. of_client client (map told_entry entries.now)
+        ≡ told_entry r.0.now ∷ of_client client (map told_entry r.1.now)) }
     ensures fewer { IfSome result (λ r. length r.1.now < length entries.now) }
 {
     let mut left = entries;
@@ -38,9 +39,12 @@ pub(crate) fn take_next<'a>(
 ) -> Option<&'a Entry>
     requires node { node < length nodes.old.items }
     requires client { client < 4294967295 }
-    ensures next { MatchOption result (slice_get (queues_in client (map (λ h. map told_entry h.now) nodes.old.items)) node ≡ Some [])
-        (λ e. IsTaken node (told_entry e.now) (queues_in client (map (λ h. map told_entry h.now) nodes.old.items)) (queues_in client (map (λ h. map told_entry h.now) nodes.new.items))) }
-    ensures fewer { IfSome result (λ e. left_on (map (λ h. map told_entry h.now) nodes.new.items) < left_on (map (λ h. map told_entry h.now) nodes.old.items)) }
+    ensures next { MatchOption result (slice_get (queues_in client (map (λ h. map told_entry h.now) nodes.old.items)) node
+        ≡ Some [])
+        (λ e. IsTaken node (told_entry e.now) (queues_in client (map (λ h. map told_entry h.now) nodes.old.items))
+        (queues_in client (map (λ h. map told_entry h.now) nodes.new.items))) }
+    ensures fewer { IfSome result (λ e. left_on (map (λ h. map told_entry h.now) nodes.new.items)
+        < left_on (map (λ h. map told_entry h.now) nodes.old.items)) }
     ensures nodes { length nodes.new.items ≡ length nodes.old.items }
 {
     let entries = nodes[node as usize];

@@ -90,7 +90,8 @@ abbrev pub onto : {A : Type 0} → List A → Reading (List A) → Reading (List
 onto done reading = and_then reading (λ values bytes. Some (done ++ values, bytes))
 
 -- Values one after another, as long as one begins at the front, but no more than `left`.
-unfoldable pub many : {A : Type 0} → (begins : List ℕ → Bool) → (one : List ℕ → Reading A) → (left : ℕ) → List ℕ
+unfoldable pub many : {A : Type 0} → (begins : List ℕ → Bool) → (one : List ℕ → Reading A)
+    → (left : ℕ) → List ℕ
     → Reading (List A)
 many begins one zero bytes = Some ([], bytes)
 many begins one (suc left) bytes =
@@ -98,5 +99,6 @@ many begins one (suc left) bytes =
     else Some ([], bytes)
 
 -- The same without a bound: there are no more values than bytes.
-abbrev pub all_in : {A : Type 0} → (begins : List ℕ → Bool) → (one : List ℕ → Reading A) → List ℕ → Reading (List A)
+abbrev pub all_in : {A : Type 0} → (begins : List ℕ → Bool) → (one : List ℕ → Reading A) → List ℕ
+    → Reading (List A)
 all_in begins one bytes = many begins one (length bytes) bytes

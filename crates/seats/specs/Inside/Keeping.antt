@@ -7,7 +7,8 @@ use Rattle.seats.specs.Kept.{HasKept}
 pub kept_none : (a : KeptJournal) → HasKept [] [] a a
 kept_none a whole = (whole, sym (append-nil (map told_entry a.log.items)), sym (append-nil a.outcomes.items))
 
-pub kept_both : (a b c : KeptJournal) (xs ys : List LogEntry) (os ps : List Outcome) → HasKept xs os a b → HasKept ys ps b c → HasKept (xs ++ ys) (os ++ ps) a c
+pub kept_both : (a b c : KeptJournal) (xs ys : List LogEntry) (os ps : List Outcome) → HasKept xs os a b → HasKept ys ps b c
+    → HasKept (xs ++ ys) (os ++ ps) a c
 kept_both a b c xs ys os ps p q whole =
     let later = q whole in let first = p later.0 in (
       first.0,

@@ -112,7 +112,11 @@ impl Tell {
 
     /// What the first 24 bytes of a reply tell, and how many bytes follow.
     pub fn read(bytes: &[u8; REPLY_LEN]) -> (Tell, u32)
-        ensures told { result.0 ≡ record { code = field 0 4 bytes.now; value = field 8 4 bytes.now; place = field 16 8 bytes.now } }
+        ensures told { result.0 ≡ record {
+          code = field 0 4 bytes.now;
+          value = field 8 4 bytes.now;
+          place = field 16 8 bytes.now;
+        } }
         ensures len { result.1 ≡ field 4 4 bytes.now }
     {
         let told = Tell {

@@ -202,7 +202,8 @@ fn is_pulled(alloc: Global, row: &(Pulling, Pulled)) -> Result<bool, NoMemory> {
 fn count_all<S: Source>(puller: &mut Puller, source: &mut S) -> Result<u64, NoMemory>
     requires begins { Pulls [] [] [] puller.old }
     requires going { puller.old.reading ≡ Going }
-    ensures { IfOk result (λ count. fault_of puller.new.reading ≡ None → IfSome (S.end source.old).left (λ input. count ≡ length (cut puller.old.cutting.size input).packets)) }
+    ensures { IfOk result (λ count. fault_of puller.new.reading ≡ None
+        → IfSome (S.end source.old).left (λ input. count ≡ length (cut puller.old.cutting.size input).packets)) }
 {
     let mut count = 0u64;
     'all: while let Some(batch) = puller.pull(source, 64)? {

@@ -36,7 +36,8 @@ module _ {B : Type 0} (among : ℕ → Bool) (most : ℕ) (may : ℕ → Bool) (
     pub full : (ahead taken : List ℕ) (given : List (List ℕ)) → Pulls ahead taken given first
         → AreFullBatches most feeding × (IsDone f.puller ⊎ All (λ fed. fed.count ≡ most) feeding)
 
-  -- All packets of the source have passed these nodes, from this puller on, and then the end of the stream; and the batches were told.
+  -- All packets of the source have passed these nodes, from this puller on, and then the end of the stream; and the batches were
+  -- told.
   pub record HasPassedAll (before after : SourceEnd) (first : Pulling) (was now : B) (f : FeederWorker) : Type 0 where
     pub feeding : List Fed
     pub told : took feeding was now
@@ -44,10 +45,11 @@ module _ {B : Type 0} (among : ℕ → Bool) (most : ℕ) (may : ℕ → Bool) (
     pub draws : Draws before after first f.puller packets
     pub done : IsDone f.puller
     pub fed : HasFed among most may packets (ended ∷ []) f.feeder feeding
-    pub full : (ahead taken : List ℕ) (given : List (List ℕ)) → Pulls ahead taken given first → AreFullBatches most feeding
+    pub full : (ahead taken : List ℕ) (given : List (List ℕ)) → Pulls ahead taken given first
+        → AreFullBatches most feeding
 
-  -- The feeder has worked to its end: whatever stopped it, its last call on each of these nodes is End, and it has called no other.
-  -- Where memory wasn't refused the whole stream has passed before; it answers TooLong only where so many reads were made.
+  -- The feeder has worked to its end: whatever stopped it, its last call on each of these nodes is End, and it has called no
+  -- other. Where memory wasn't refused the whole stream has passed before; it answers TooLong only where so many reads were made.
   pub record HasFedToEnd (before after : SourceEnd) (was now : B) (old new : FeederWorker) : Type 0 where
     pub same : IsSameCaller old.feeder new.feeder
     pub draws : (packets : List (List ℕ)) × Draws before after old.puller new.puller packets

@@ -15,13 +15,15 @@ pub record GoesFirst (first other stop : Option Stop) : Type 0 where
 -- the stop of the feeder or of a client: no worker stopped where it is none, and where
 -- it isn't want of memory none lacked it
 pub record StopsBy (feeder : Option Stop) (clients : List ClientWorker) (stop : Option Stop) : Type 0 where
-  pub none : stop ≡ None → (feeder ≡ None) × ((k : ℕ) (w : ClientWorker) → slice_get clients k ≡ Some w → w.stop ≡ None)
+  pub none : stop ≡ None → (feeder ≡ None)
+      × ((k : ℕ) (w : ClientWorker) → slice_get clients k ≡ Some w → w.stop ≡ None)
   pub memory : stop ≢ Some NoMemory → (feeder ≢ Some NoMemory)
       × ((k : ℕ) (w : ClientWorker) → slice_get clients k ≡ Some w → w.stop ≢ Some NoMemory)
   pub one : (stop ≡ feeder) ⊎ ((k : ℕ) × (w : ClientWorker) × (slice_get clients k ≡ Some w) × (stop ≡ w.stop))
 
 -- the feeder with its batches and the stream's head, and the clients with their logs and outcomes
-pub record IsLeftByWorkers (f : FeederWorker) (batches : List Fed) (workers : List ClientWorker) (left : LeftByThreads) : Type 0 where
+pub record IsLeftByWorkers (f : FeederWorker) (batches : List Fed) (workers : List ClientWorker)
+    (left : LeftByThreads) : Type 0 where
   pub feeder : left.feeder ≡ f.feeder
   pub feeding : left.feeding.items ≡ batches
   pub head : (ahead taken : List ℕ) (given : List (List ℕ)) → Pulls ahead taken given f.puller

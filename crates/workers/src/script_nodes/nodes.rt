@@ -9,7 +9,8 @@ use dmx_calls::limits::{DEMUX_NODES, NODES};
 // With the nodes that a command for this target may call.
 fn with_target(named: &[bool; NODES as usize], target: Target) -> [bool; NODES as usize]
     requires { IsTargetInRange target }
-    ensures { (node : ℕ) → node ≤ last → slice_index_or result node false ≡ (slice_index_or named.now node false || is_for target node) }
+    ensures { (node : ℕ) → node ≤ last → slice_index_or result node false
+        ≡ (slice_index_or named.now node false || is_for target node) }
 {
     match target {
         Target::Node(node) => {
@@ -29,7 +30,8 @@ fn with_command(
     verb: Verb,
 ) -> [bool; NODES as usize]
     requires { IsTargetInRange target }
-    ensures { (node : ℕ) → node ≤ last → slice_index_or result node false ≡ (slice_index_or named.now node false || (is_for target node || passes_all verb)) }
+    ensures { (node : ℕ) → node ≤ last → slice_index_or result node false
+        ≡ (slice_index_or named.now node false || (is_for target node || passes_all verb)) }
 {
     match verb {
         Verb::Write(_) => [true; NODES as usize],
