@@ -845,7 +845,7 @@ def bytes_read(node):
     return sum(len(reply[5:]) // 2 for _, _, _, reply in node.entries if reply.startswith("data ") and reply != "data -")
 
 
-# RULES: d5119fac The line of sums
+# RULES: 00fda27d The line of sums
 def sums(session, batch):
     """The sums of the same run in one line."""
     run, packets, _, _ = run_of(session, batch)
