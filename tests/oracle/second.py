@@ -78,7 +78,7 @@ def clean(packets, pid):
     return kept, duplicates
 
 
-# RULES: 1e2d2a64 Sections
+# RULES: 71e4e4b1 Sections
 def joins(before, packet):
     return counter_of(packet) == (counter_of(before) + 1) % 16 and not discontinuity(packet)
 
@@ -153,7 +153,7 @@ def matches(places, section):
 # ------ the nodes
 
 
-# RULES: ed254c57 Captures
+# RULES: cd15e015 Captures
 # RULES: 74fb14d2 The ledger
 class Capture:
     def __init__(self, moment):
@@ -290,7 +290,7 @@ class Demux(Node):
     def records(self):
         return self.state() == "Go" and self.filter[0] == "pes" and self.filter[3] == "ts_tap"
 
-    # RULES: 40111084 Timeouts
+    # RULES: 0eb7db2e Timeouts
     def expire(self, moment):
         if self.timeout() and self.state() == "Go" and not self.capture.items:
             if moment >= self.capture.started + self.timeout():
@@ -405,7 +405,7 @@ class Demux(Node):
         return done(span, "detach" if recorded and not self.records() else "keep")
 
 
-# RULES: 4ea97e73 The dvr node
+# RULES: 558c6381 The dvr node
 class Dvr(Node):
     def __init__(self):
         super().__init__()
