@@ -162,7 +162,7 @@ class Capture:
         self.over, self.lost_from = None, 0
 
 
-# RULES: 934dee85 A demux node
+# RULES: 6b0e27a0 A demux node
 class Node:
     """What a demux node and the dvr node have in common."""
 
@@ -323,7 +323,7 @@ class Demux(Node):
             elif self.filter[3] == "tap" and payload_of(packet) is not None:
                 self.arrive([payload_of(packet)])
 
-    # RULES: e5f0fd49 Refusals
+    # RULES: 0b51dcd9 Refusals
     def refused(self, who, act):
         """The refusals, in their order; act is a name and its arguments."""
         name, args = act[0], act[1:]
@@ -355,7 +355,7 @@ class Demux(Node):
                 return "EBUSY"
         return None
 
-    # RULES: 93554b10 Calls
+    # RULES: ae925da8 Calls
     def call(self, who, act, moment):
         name, args = act[0], act[1:]
         if name == "open":
