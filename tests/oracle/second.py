@@ -153,7 +153,7 @@ def matches(places, section):
 # ------ the nodes
 
 
-# RULES: cd15e015 Captures
+# RULES: 08aef95b Captures
 # RULES: 74fb14d2 The ledger
 class Capture:
     def __init__(self, moment):
