@@ -29,7 +29,7 @@ tree: all
 	cd python && cp --parents $(modules) ../$(library)/python
 	cd python && python3 -W ignore -c 'import setuptools; setuptools.setup()' -q egg_info --egg-base ../$(library)/python/src
 	rm $(library)/python/src/dvbemu.egg-info/SOURCES.txt
-	cp --parents *.md LICENSE bench/README.md examples/README.md docs/*.md docs/*.json $(doc)
+	cp --parents *.md LICENSE bench/README.md examples/README.md docs/*.md docs/*.json docs/demux/*.svg $(doc)
 	cp -r --parents examples/programs examples/reports examples/rules examples/tests $(doc)
 	ln -s ../lib/dvbemu/dvbemu ../lib/dvbemu/dvbemu-serve $(tree)/bin
 	PYTHONPATH=python/src python3 -B -m dvbemu.manual $(tree)/share

@@ -33,7 +33,7 @@ BASE = r"linux-vdso|libc|libm|libgcc_s|ld-linux-x86-64|libpthread|libdl|librt"
 NOBODY = "65534"
 # What README's first commands are between, and what they run where the scanner isn't there; and what else is done with their
 # report.
-FIRST, SCANNER = "set -e; dvbemu --version\n{}\ndvbemu check out/scan.report out/scan.session", "dvbv5-scan"
+FIRST, SCANNER = "set -e; dvbemu --version\n{}\ndvbemu check out/t/scan.report out/t/scan.session", "dvbv5-scan"
 READER = "python3 -c 'import os; os.close(os.open(\"/dev/dvb/adapter0/demux0\", os.O_RDWR))'"
 ALL = """\
 dvbemu --help | sed -n 's/^  \\([a-z]*\\)  .*/\\1/p' > words

@@ -75,7 +75,7 @@ def test_memory_of_check(tmp_path, kind):
     with given.open("rb") as source:
         words = [sys.executable, "-I", "-S", "-c", STARTER, PROGRAM, "check"]
         answer, held = subprocess.run(words, stdin=source, stdout=subprocess.PIPE, check=True).stdout.split()
-    told = re.search(r"memory of up to (\d) times both, and (\d+) MB", (ROOT / "README.md").read_text(encoding="utf-8"))
+    told = re.search(r"up to (\d) times the size of both files, plus (\d+) MB", (ROOT / "README.md").read_text(encoding="utf-8"))
     times, more = map(int, told.groups())
     assert answer == b"yes"
     assert int(held) * 1024 <= times * (len(report) + len(HEAVY[kind])) + more * 1_000_000

@@ -229,7 +229,7 @@ def session(seed):
     return made, rng.choice([1, 1, 2, 7, 63, 64]), packet
 
 
-# RULES: 2de66b71 Statuses
+# RULES: 67b408bd Statuses
 def wanted_of(made, batch, packet):
     """How `steps` ends: its status, its output, and its line on standard error."""
     try:
@@ -243,7 +243,7 @@ def ended(ran):
     return ran.returncode, ran.stdout, b"".join(ran.stderr.splitlines(keepends=True)[:1])
 
 
-# RULES: 8271bec1 The program
+# RULES: e1ee0954 The program
 def options(seed, packet, batch=None):
     """The words of the options, in either order and in one word or two each; without `--packet` a packet takes up 188 bytes."""
     found = [] if batch is None else [["--batch", str(batch)]]
@@ -272,7 +272,7 @@ def run_differs(program, made, batch, packet, words, wanted):
     return judge.judge(made, batch, ran.stdout, packet), ran.stdout
 
 
-# RULES: eeaa414f A report that is checked
+# RULES: 8830e44b A report that is checked
 def check_differs(program, text, packet, words, right=None):
     """What differs in `check` over an input, or in the judge, where it is known whether the report is right."""
     status, output, line = judge.answer(text, packet)

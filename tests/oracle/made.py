@@ -47,7 +47,7 @@ c6 drain dvr 65536
 c7 drain n7 65536
 stream
 """
-# RULES: 5fdd0ebb The session of a number
+# RULES: 3ca0e38d The session of a number
 PACKETS = 65536
 # The PID by a word modulo 16, and the table_id of its sections.
 PIDS = [256] * 10 + [257] * 3 + [0, 8191, 512]

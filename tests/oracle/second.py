@@ -16,7 +16,7 @@ OUTPUTS = ["decoder", "tap", "ts_tap", "tsdemux_tap"]
 # ------ the stream
 
 
-# RULES: e9290b7b The stream
+# RULES: 75b16f0a The stream
 def cut(stream, size=188):
     """Packets, each of which takes up so many bytes; skipped bytes; rest."""
     packets, skipped, place = [], 0, 0
@@ -78,7 +78,7 @@ def clean(packets, pid):
     return kept, duplicates
 
 
-# RULES: 3cee7a09 Sections
+# RULES: 71e4e4b1 Sections
 def joins(before, packet):
     return counter_of(packet) == (counter_of(before) + 1) % 16 and not discontinuity(packet)
 
@@ -153,8 +153,8 @@ def matches(places, section):
 # ------ the nodes
 
 
-# RULES: c8f860b4 Captures
-# RULES: 71c92885 The ledger
+# RULES: 08aef95b Captures
+# RULES: 74fb14d2 The ledger
 class Capture:
     def __init__(self, moment):
         self.started, self.stopped, self.expired, self.told = moment, False, None, False
@@ -162,7 +162,7 @@ class Capture:
         self.over, self.lost_from = None, 0
 
 
-# RULES: 794b3511 A demux node
+# RULES: 6b0e27a0 A demux node
 class Node:
     """What a demux node and the dvr node have in common."""
 
@@ -178,7 +178,7 @@ class Node:
             capture.items.append(item)
             capture.total += len(item)
 
-    # RULES: de2ad7f0 What is dropped
+    # RULES: c5ce0eee What is dropped
     def drop(self):
         """The span that a call drops, as its reply names it."""
         capture, self.capture = self.capture, None
@@ -211,7 +211,7 @@ class Node:
     def is_untold(self):
         return self.capture.expired is not None and not self.capture.told
 
-    # RULES: f1240e5c Read
+    # RULES: 885fe001 Read
     def read(self, count, timeout):
         capture = self.capture
         if capture is None:
@@ -237,7 +237,7 @@ class Node:
     def bytes_between(self, first, after):
         return b"".join(self.capture.items)[first:after]
 
-    # RULES: f3389275 Poll
+    # RULES: 908bbc6a Poll
     def poll(self):
         capture = self.capture
         if capture is None:
@@ -272,7 +272,7 @@ class Demux(Node):
     def is_one_shot(self):
         return self.filter[0] == "section" and self.filter[4] & 2 != 0
 
-    # RULES: 86d96b07 States
+    # RULES: d2b4a96a States
     def state(self):
         if self.owner is None:
             return "Free"
@@ -286,11 +286,11 @@ class Demux(Node):
             return "Done"
         return "Go"
 
-    # RULES: 5fe952aa The tap
+    # RULES: 6be045e1 The tap
     def records(self):
         return self.state() == "Go" and self.filter[0] == "pes" and self.filter[3] == "ts_tap"
 
-    # RULES: 7fb1fb79 Timeouts
+    # RULES: 0eb7db2e Timeouts
     def expire(self, moment):
         if self.timeout() and self.state() == "Go" and not self.capture.items:
             if moment >= self.capture.started + self.timeout():
@@ -323,7 +323,7 @@ class Demux(Node):
             elif self.filter[3] == "tap" and payload_of(packet) is not None:
                 self.arrive([payload_of(packet)])
 
-    # RULES: f7055b3d Refusals
+    # RULES: 0b51dcd9 Refusals
     def refused(self, who, act):
         """The refusals, in their order; act is a name and its arguments."""
         name, args = act[0], act[1:]
@@ -355,7 +355,7 @@ class Demux(Node):
                 return "EBUSY"
         return None
 
-    # RULES: 22042f7f Calls
+    # RULES: ae925da8 Calls
     def call(self, who, act, moment):
         name, args = act[0], act[1:]
         if name == "open":
@@ -405,7 +405,7 @@ class Demux(Node):
         return done(span, "detach" if recorded and not self.records() else "keep")
 
 
-# RULES: 9bed4a44 The dvr node
+# RULES: 558c6381 The dvr node
 class Dvr(Node):
     def __init__(self):
         super().__init__()
@@ -511,7 +511,7 @@ def take(words):
     return words.pop(0)
 
 
-# RULES: c5d69756 Requests by their numbers
+# RULES: 8a47f4bd Requests by their numbers
 def read_request(words):
     """The command that a request is, with its arguments."""
     word = take(words)
@@ -564,7 +564,7 @@ def read_arguments(command, words):
     return [args[0], places, args[1], args[2]]
 
 
-# RULES: 9679cae4 The script
+# RULES: a0693fb5 The script
 def read_line(line):
     words = line.split(b" ")
     first = words.pop(0)
@@ -632,7 +632,7 @@ def act_text(act, moment):
     return " ".join([kind, *map(str, args)])
 
 
-# RULES: e0aa2b6e What a client writes
+# RULES: 35bedcfc What a client writes
 class Played:
     """What a client writes: the packets of the bytes of all its writes, and for each write the number of the first that it completes,
     and how many these are."""
@@ -658,7 +658,7 @@ def played_by(lines):
     return [Played([data for who, data in writes if who == client]) for client in range(CLIENTS)]
 
 
-# RULES: b3dd7bd7 The order of `steps`
+# RULES: f5f5c270 The order of `steps`
 class Run:
     def __init__(self, lines, packets, batch):
         self.played, self.written = played_by(lines), [0] * CLIENTS
@@ -707,7 +707,7 @@ class Run:
         self.follow(client, node, act, reply)
         return reply
 
-    # RULES: f7391141 System time counters
+    # RULES: 8885a5c1 System time counters
     def follow(self, client, node, act, reply):
         """What the client has read on the node, and the type of its filter there, once it has this reply."""
         read, kind = self.clocks.get((client, node), (bytearray(), None))
@@ -764,7 +764,7 @@ class Run:
                 self.made(client, node, ("pass", "dvr", first, count))
         return "done"
 
-    # RULES: dbddc2bc What a client's commands do
+    # RULES: 5631a3b1 What a client's commands do
     def command(self, asked):
         verb, client, on, args = asked
         if verb == "write":
@@ -804,7 +804,7 @@ class Run:
             pass
 
 
-# RULES: a9047f51 The report
+# RULES: 3f2e6921 The report
 def pid_rows(packets):
     rows, by_pid = [], {}
     for packet in packets:
@@ -845,7 +845,7 @@ def bytes_read(node):
     return sum(len(reply[5:]) // 2 for _, _, _, reply in node.entries if reply.startswith("data ") and reply != "data -")
 
 
-# RULES: d5119fac The line of sums
+# RULES: 00fda27d The line of sums
 def sums(session, batch):
     """The sums of the same run in one line."""
     run, packets, _, _ = run_of(session, batch)

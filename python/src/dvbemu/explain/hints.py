@@ -46,11 +46,11 @@ RULES = {
     "no feed": ("The script", "`feed N` N packets pass, with N from 1 to 4294967295"),
     "nothing written": ("What a client writes", "A PES filter with the input `dvr` takes what clients write"),
     "late": ("Captures", "The packets offered to a capture are those that pass while the node is in Go."),
-    "late in run": ("The threads of `run`", "In which order the calls of two callers come is open."),
+    "late in run": ("The threads of `run`", "The order of two callers' calls isn't determined."),
     "late on dvr": ("The dvr node", "Its items are the packets of the frontend that pass while it goes on"),
-    "skipped": ("Cutting", "At any other byte, this one byte is skipped."),
-    "other size": ("Cutting", "The word `--packet` names P, and without it P is 188."),
-    "unbound": ("What a client's commands do", "A command other than `open` on a slot that is bound to no node makes no call"),
+    "skipped": ("Cutting", "Any other byte is skipped, one at a time."),
+    "other size": ("Cutting", "The option `--packet` sets P; the default is 188."),
+    "unbound": ("What a client's commands do", "A command other than `open` on an unbound slot makes no call"),
 }
 
 # The kinds over what the stream is, or when it passes.
