@@ -42,6 +42,12 @@ extern unsigned char bytes[1 << 21];
 
 const struct one *case_of(const char *name);
 int here(const char *word, const char *number);
+/* timed.c */
+void time_calls(int count);
+void time_pipes(int count);
+void time_sections(int most);
+void time_recording(int most);
+void time_bytes(int most);
 
 /* ends the case where this doesn't hold */
 void want(int holds, const char *what);

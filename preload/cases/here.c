@@ -1,4 +1,4 @@
-/* What one program does by itself, for serve/check: `cases +WORD ..`. */
+/* What one program does by itself, for serve/check and bench/bench: `cases +WORD ..`. */
 #define _GNU_SOURCE
 #include <sys/select.h>
 
@@ -76,8 +76,10 @@ static void sees_the_lock(int status)
 static const struct {
 	const char *word;
 	void (*does)(int);
-} all[] = { { "+wait", waits_for_nothing }, { "+last", finds_the_last }, { "+many", makes_many_calls }, { "+turns", takes_turns },
-	    { "+lock", sees_the_lock } };
+	int is_timed;
+} all[] = { { "+wait", waits_for_nothing, 0 }, { "+last", finds_the_last, 0 }, { "+many", makes_many_calls, 0 }, { "+turns", takes_turns, 0 },
+	    { "+lock", sees_the_lock, 0 },     { "+calls", time_calls, 1 },    { "+pipes", time_pipes, 1 },      { "+sections", time_sections, 1 },
+	    { "+record", time_recording, 1 },  { "+take", time_bytes, 1 } };
 
 int here(const char *word, const char *number)
 {
@@ -86,6 +88,8 @@ int here(const char *word, const char *number)
 	for (size_t i = 0; i < sizeof all / sizeof *all; i++)
 		if (!strcmp(word, all[i].word)) {
 			all[i].does(number ? atoi(number) : 0);
+			if (all[i].is_timed)
+				return 0;
 			count++;
 		}
 	want(count, "a word that is known");
