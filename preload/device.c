@@ -136,7 +136,9 @@ static int begin(struct line *line, int kind, int flags, int rings)
 		*device = (struct device){ .access = flags & O_ACCMODE, .node = NO_NODE, .ino = made.st_ino, .turn = device->turn + 1,
 					   .readers = device->readers, .open = life < 0 ? 0 : line->table->opens };
 		__atomic_store_n(&device->kind, kind, __ATOMIC_SEQ_CST);
-		if (kind != FRONTEND)
+		if (kind == FRONTEND)
+			trace(TRACE_OPEN, line->table->adapter, NO_NODE, 0, NULL, 0, 0);
+		else
 			error = ask(line, kind == DEMUX ? OPEN_DEMUX : OPEN_DVR, 0, 0, NULL, 0, &reply, NULL);
 		device->node = kind == DVR ? DVR_NODE : reply.value;
 	}
@@ -157,8 +159,10 @@ static int open_in(int adapter, int kind, int flags)
 	sweep_all();
 	struct line *line = line_to(adapter);
 	int ends[2], lock = kind == FRONTEND && (flags & O_ACCMODE) != O_RDONLY ? frontend_lock(adapter) : -1;
-	if (lock < -1 || !line)
+	if (lock < -1 || !line) {
+		trace(TRACE_OPEN, adapter, kind == DVR ? DVR_NODE : NO_NODE, 0, NULL, 0, lock < -1 ? lock : -ENOMEM);
 		return lock < -1 ? lock : -ENOMEM;
+	}
 	if (syscall(SYS_pipe2, ends, O_CLOEXEC)) {
 		let_go(lock);
 		return -EMFILE;
@@ -190,7 +194,9 @@ static void close_node(struct at at)
 {
 	struct reply reply;
 	struct device *device = device_at(at);
-	if (device->kind != FRONTEND && !at.line->table->is_gone)
+	if (device->kind == FRONTEND)
+		trace(TRACE_CLOSE, at.line->table->adapter, NO_NODE, 0, NULL, 0, 0);
+	else if (!at.line->table->is_gone)
 		ask(at.line, CLOSE, device->node, 0, NULL, 0, &reply, NULL);
 	device->kind = NONE;
 	device->ino = 0;
@@ -307,7 +313,7 @@ static int read_once(int fd, struct at at, ino_t ino, void *into, uint32_t most,
 }
 
 /* A section filter gives one section; any other node is read until all bytes are there, where the read blocks. */
-ssize_t device_read(int fd, struct at at, void *into, size_t count)
+static ssize_t read_all(int fd, struct at at, void *into, size_t count)
 {
 	struct device *device = device_at(at);
 	ino_t ino = device->ino;
@@ -318,6 +324,8 @@ ssize_t device_read(int fd, struct at at, void *into, size_t count)
 		struct reading reading = { 0 };
 		uint32_t most = count - done < MOST_READ ? (uint32_t)(count - done) : MOST_READ;
 		int error = read_once(fd, at, ino, (char *)into + done, most, &reading);
+		if (reading.waits)
+			trace(READ, at.line->table->adapter, device->node, (uint32_t)count, NULL, 0, TRACE_WAITS);
 		if (reading.waits && !(error = doze(device, reading.turn, done > 0)))
 			continue;
 		if (error && !done)
@@ -326,6 +334,14 @@ ssize_t device_read(int fd, struct at at, void *into, size_t count)
 		if (error || device->section || !reading.reply.length || done == count || (reading.reply.length < most && is_nonblocking(fd)))
 			return (ssize_t)done;
 	}
+}
+
+ssize_t device_read(int fd, struct at at, void *into, size_t count)
+{
+	uint32_t node = device_at(at)->node;
+	ssize_t n = read_all(fd, at, into, count);
+	trace(READ, at.line->table->adapter, node, (uint32_t)count, NULL, 0, n);
+	return n;
 }
 
 /* notes what a request has changed of a node, and says whether it has begun to run */
@@ -417,6 +433,7 @@ static int tune_once(int fd, struct at at, uint32_t number, void *argument, stru
 {
 	struct device *device = device_at(at);
 	int error;
+	traced_waits = traces() && !is_nonblocking(fd);
 	HOLD_LINE(at.line);
 	do {
 		error = frontend_ioctl(at.line->table->adapter, device->access, number, argument);

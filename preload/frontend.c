@@ -382,23 +382,52 @@ static int do_ioctl(struct front *front, uint32_t number, union argument *bytes,
 }
 
 /* 0 or a negative error. Where the frontend was opened to be read alone it does what only tells of it. */
-int frontend_ioctl(int adapter, int access, uint32_t number, void *argument)
+static int answered(int adapter, int access, uint32_t number, void *argument, union argument *bytes)
 {
-	union argument bytes;
 	uint32_t size = _IOC_SIZE(number);
 	struct front *front = front_of(adapter);
-	memset(&bytes, 0, sizeof bytes);
+	memset(bytes, 0, sizeof *bytes);
 	if (!front)
 		return -ENODEV;
-	if (_IOC_TYPE(number) != 'o' || size > sizeof bytes)
+	if (_IOC_TYPE(number) != 'o' || size > sizeof *bytes)
 		return -ENOTTY;
 	if (access == O_RDONLY && (_IOC_DIR(number) != _IOC_READ || number == FE_GET_EVENT))
 		return -EPERM;
 	/* (FE_GET_PROPERTY is said to be read alone, and has its list in the argument) */
-	if ((_IOC_DIR(number) & _IOC_WRITE || number == FE_GET_PROPERTY) && !is_readable(argument, &bytes, size))
+	if ((_IOC_DIR(number) & _IOC_WRITE || number == FE_GET_PROPERTY) && !is_readable(argument, bytes, size))
 		return -EFAULT;
-	int error = do_ioctl(front, number, &bytes, (uint32_t)(uintptr_t)argument);
-	if (!error && _IOC_DIR(number) & _IOC_READ && number != FE_GET_PROPERTY && !is_writable(argument, &bytes, size))
+	int error = do_ioctl(front, number, bytes, (uint32_t)(uintptr_t)argument);
+	if (!error && _IOC_DIR(number) & _IOC_READ && number != FE_GET_PROPERTY && !is_writable(argument, bytes, size))
 		return -EFAULT;
+	return error;
+}
+
+/* The list of a call of properties, as far as there is room, or else the argument. */
+static void tell(int adapter, uint32_t number, const void *argument, const union argument *bytes, int error)
+{
+	struct dtv_property all[MOST_PROPERTIES];
+	uint32_t pairs[2 * MOST_PROPERTIES], word = (uint32_t)(uintptr_t)argument;
+	uint32_t count = bytes->properties.num, size = _IOC_SIZE(number);
+	int waits = error == -EAGAIN && number == FE_GET_EVENT && traced_waits;
+	long result = waits ? TRACE_WAITS : error;
+	size = size > sizeof *bytes ? 0 : size;
+	if (number != FE_SET_PROPERTY && number != FE_GET_PROPERTY) {
+		trace(TRACE_FRONTEND, adapter, NO_NODE, number, size ? (const void *)bytes : &word, size ? size : sizeof word, result);
+		return;
+	}
+	count = count <= MOST_PROPERTIES && is_readable(bytes->properties.props, all, count * sizeof *all) ? count : 0;
+	for (uint32_t i = 0; i < count; i++) {
+		pairs[2 * i] = all[i].cmd;
+		pairs[2 * i + 1] = all[i].u.data;
+	}
+	trace(TRACE_FRONTEND, adapter, NO_NODE, number, pairs, count * 2 * sizeof *pairs, result);
+}
+
+int frontend_ioctl(int adapter, int access, uint32_t number, void *argument)
+{
+	union argument bytes;
+	int error = answered(adapter, access, number, argument, &bytes);
+	if (traces())
+		tell(adapter, number, argument, &bytes, error);
 	return error;
 }

@@ -456,5 +456,8 @@ int ask(struct line *line, uint32_t verb, uint32_t node, uint32_t number, const 
 	struct request asked = { verb, node, number, length, { 0 } };
 	if (length)
 		memcpy(asked.argument, argument, length);
-	return exchange(line, &asked, reply, into, verb == READ ? number : 0);
+	int error = exchange(line, &asked, reply, into, verb == READ ? number : 0);
+	if (traces() && verb != READ && verb != POLL)
+		trace((int)verb, line->table->adapter, verb == OPEN_DEMUX && !error ? reply->value : node, number, argument, length, error);
+	return error;
 }

@@ -155,6 +155,13 @@ int watch_runs(void);
 /* exec.c */
 void inherit(void);
 
+/* trace.c: the calls that are told beside the verbs of requests, and the result of one that waits */
+enum { TRACE_WAIT = 7, TRACE_FRONTEND, TRACE_OPEN, TRACE_CLOSE, TRACE_WAITS = INT32_MIN };
+extern pid_t traced_process;
+extern __thread int traced_waits __attribute__((tls_model("initial-exec")));
+int traces(void);
+void trace(int call, int adapter, uint32_t node, uint32_t number, const void *argument, size_t length, long result);
+
 /* tree.c: whether a path lies in /dev/dvb, also by links, and where it stands in the tree for that; what such a place is, and a device's */
 int led(int there, const char *path, char *into);
 int leads(int there, const char *path, char *into);
