@@ -1,7 +1,7 @@
 /*
- * The devices that are open: a node of the server, or the frontend. A descriptor of one is the reading end of a pipe, and is a device
- * just as long as it is that pipe, whatever its number is and however it came there; where none is left the pipe's other end tells,
- * and the node is closed. The pipe can be read where the device can: so the system itself wakes whoever waits.
+ * The devices that are open: a node of the server, or the frontend. A descriptor of one is the reading end of a pipe, and is a
+ * device just as long as it is that pipe, whatever its number is and however it came there; where none is left the pipe's other
+ * end tells, and the node is closed. The pipe can be read where the device can: so the system itself wakes whoever waits.
  */
 #define _GNU_SOURCE
 #include <errno.h>
@@ -120,21 +120,26 @@ void device_begin(struct line *line, int place, int rings, int life)
 }
 
 /*
- * Opens the node of a device, and fills its place, which this gives, or a negative error. The place is filled first, behind the lock of its
- * open: so where this process is killed meanwhile others see what it has left.
+ * Opens the node of a device, and fills its place, which this gives, or a negative error. The place is filled first, behind the
+ * lock of its open: so where this process is killed meanwhile others see what it has left.
  */
 static int begin(struct line *line, int kind, int flags, int rings)
 {
 	struct reply reply = { 0 };
 	struct stat made;
 	HOLD_LINE(line);
-	int place = syscall(SYS_fstat, rings, &made) ? -1 : place_in(line), life = place < 0 ? -1 : lock_of(line, ++line->table->opens);
+	int place = syscall(SYS_fstat, rings, &made) ? -1 : place_in(line),
+	    life = place < 0 ? -1 : lock_of(line, ++line->table->opens);
 	int error = place < 0 ? -EMFILE : 0;
 	struct device *device = &line->table->devices[place < 0 ? 0 : place];
 	if (!error) {
 		/* (a thread that has waited here for a device which another closed still counts itself out) */
-		*device = (struct device){ .access = flags & O_ACCMODE, .node = NO_NODE, .ino = made.st_ino, .turn = device->turn + 1,
-					   .readers = device->readers, .open = life < 0 ? 0 : line->table->opens };
+		*device = (struct device){ .access = flags & O_ACCMODE,
+					   .node = NO_NODE,
+					   .ino = made.st_ino,
+					   .turn = device->turn + 1,
+					   .readers = device->readers,
+					   .open = life < 0 ? 0 : line->table->opens };
 		__atomic_store_n(&device->kind, kind, __ATOMIC_SEQ_CST);
 		if (kind == FRONTEND)
 			trace(TRACE_OPEN, line->table->adapter, NO_NODE, 0, NULL, 0, 0);
@@ -205,8 +210,8 @@ static void close_node(struct at at)
 }
 
 /*
- * No descriptor of the device is left, in any process: its node is closed, by the first one that sees it. Where this process has lost its own
- * end, past the preload, it knows nothing of others.
+ * No descriptor of the device is left, in any process: its node is closed, by the first one that sees it. Where this process has
+ * lost its own end, past the preload, it knows nothing of others.
  */
 static void end(struct at at, int is_over)
 {
@@ -227,7 +232,8 @@ static void end(struct at at, int is_over)
 int is_others(struct line *line, int place)
 {
 	struct device *device = &line->table->devices[place];
-	return __atomic_load_n(&device->kind, __ATOMIC_SEQ_CST) != NONE && (line->mine[place].rings < 0 || line->mine[place].ino != device->ino);
+	return __atomic_load_n(&device->kind, __ATOMIC_SEQ_CST) != NONE &&
+	       (line->mine[place].rings < 0 || line->mine[place].ino != device->ino);
 }
 
 /* ends such a device where all that had it were killed */
@@ -270,8 +276,8 @@ void sweep(void)
 static void is_read(void *device) { __atomic_sub_fetch(&((struct device *)device)->readers, 1, __ATOMIC_SEQ_CST); }
 
 /*
- * Waits until the device may have something. A signal ends that as it ends any call that the system can begin again: by its handler; and
- * where some bytes were read by any handler, as a wait with a time is.
+ * Waits until the device may have something. A signal ends that as it ends any call that the system can begin again: by its
+ * handler; and where some bytes were read by any handler, as a wait with a time is.
  */
 static int doze(struct device *device, uint32_t turn, int has_some)
 {
@@ -331,7 +337,8 @@ static ssize_t read_all(int fd, struct at at, void *into, size_t count)
 		if (error && !done)
 			return error;
 		done += error ? 0 : reading.reply.length;
-		if (error || device->section || !reading.reply.length || done == count || (reading.reply.length < most && is_nonblocking(fd)))
+		if (error || device->section || !reading.reply.length || done == count ||
+		    (reading.reply.length < most && is_nonblocking(fd)))
 			return (ssize_t)done;
 	}
 }

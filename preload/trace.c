@@ -1,8 +1,8 @@
 /*
- * What `serve --trace` is told: a record for each call, written at once into the pipe `trace` of the first adapter's folder, which is
- * there only where calls are to be told. The pipe is opened for each record, so that nothing is inherited, kept or closed by the
- * program; what it has no room for after a moment is left out, and counted in the next record. python/src/dvbemu/server/trace.py has
- * the layout too.
+ * What `serve --trace` is told: a record for each call, written at once into the pipe `trace` of the first adapter's folder,
+ * which is there only where calls are to be told. The pipe is opened for each record, so that nothing is inherited, kept or
+ * closed by the program; what it has no room for after a moment is left out, and counted in the next record.
+ * python/src/dvbemu/server/trace.py has the layout too.
  */
 #define _GNU_SOURCE
 #include <errno.h>

@@ -1,7 +1,7 @@
 /*
  * The C library's calls that wait for descriptors. The system waits, for the pipes of devices as for all others; in front of that
- * only those devices are looked at of which nothing is known, since they were read or set. What a pipe can't tell stands behind it:
- * POLLPRI, which comes with data, and POLLERR, with which an overflow or a timeout comes.
+ * only those devices are looked at of which nothing is known, since they were read or set. What a pipe can't tell stands behind
+ * it: POLLPRI, which comes with data, and POLLERR, with which an overflow or a timeout comes.
  */
 #define _GNU_SOURCE
 #include <errno.h>
@@ -42,16 +42,16 @@ static void tell_wait(const char *name, long time, long result)
 static long of_int(int time) { return time; }
 static long of_spec(const struct timespec *time) { return time ? time->tv_sec * 1000 + time->tv_nsec / 1000000 : -1; }
 static long of_value(const struct timeval *time) { return time ? time->tv_sec * 1000 + time->tv_usec / 1000 : -1; }
-#define MS_OF(time) _Generic((time), int: of_int, const struct timespec *: of_spec, struct timeval *: of_value)(time)
+#define MS_OF(time) _Generic((time), int : of_int, const struct timespec * : of_spec, struct timeval * : of_value)(time)
 
 /* a call that waits, from its beginning to its end */
-#define TOLD(call, time, wait)                                                                                          \
-	({                                                                                                              \
-		long time_ = MS_OF(time); /* (which select changes) */                                                  \
-		tell_wait(#call, time_, TRACE_WAITS);                                                                   \
-		int result_ = wait;                                                                                     \
-		tell_wait(#call, time_, result_ < 0 ? -errno : result_);                                                \
-		result_;                                                                                                \
+#define TOLD(call, time, wait)                                           \
+	({                                                               \
+		long time_ = MS_OF(time); /* (which select changes) */   \
+		tell_wait(#call, time_, TRACE_WAITS);                    \
+		int result_ = wait;                                      \
+		tell_wait(#call, time_, result_ < 0 ? -errno : result_); \
+		result_;                                                 \
 	})
 
 /* looks at a device where nothing is known of it; whether it is one */
@@ -101,22 +101,20 @@ static void tell(struct pollfd *all, nfds_t count)
 	}
 }
 
-#define POLLS(call, params, ...)                                                                                        \
-	EXPORT int call params                                                                                          \
-	{                                                                                                               \
-		init();                                                                                                 \
-		count_of_waited = 0;                                                                                    \
-		int is_any = adapters && prepare(all, count);                                                           \
-		int n = TOLD(call, time, NEXT(call)(all, count, __VA_ARGS__)), saved = errno;                           \
-		if (is_any)                                                                                             \
-			tell(all, count);                                                                               \
-		errno = saved;                                                                                          \
-		return n;                                                                                               \
+#define POLLS(call, params, ...)                                                              \
+	EXPORT int call params                                                                \
+	{                                                                                     \
+		init();                                                                       \
+		count_of_waited = 0;                                                          \
+		int is_any = adapters && prepare(all, count);                                 \
+		int n = TOLD(call, time, NEXT(call)(all, count, __VA_ARGS__)), saved = errno; \
+		if (is_any)                                                                   \
+			tell(all, count);                                                     \
+		errno = saved;                                                                \
+		return n;                                                                     \
 	}
-POLLS(poll, (struct pollfd *all, nfds_t count, int time), time)
-POLLS(ppoll, (struct pollfd *all, nfds_t count, const struct timespec *time, const sigset_t *signals), time, signals)
-SAME(__poll_chk, poll)
-SAME(__ppoll_chk, ppoll)
+POLLS(poll, (struct pollfd * all, nfds_t count, int time), time)
+POLLS(ppoll, (struct pollfd * all, nfds_t count, const struct timespec *time, const sigset_t *signals), time, signals)
 
 /* ------ select: a device is waited for by reads and by exceptions alike */
 
@@ -156,21 +154,22 @@ static int part(int count, const fd_set *joined, const fd_set *asked, fd_set *re
 	return n;
 }
 
-#define SELECTS(call, params, ...)                                                                                      \
-	EXPORT int call params                                                                                          \
-	{                                                                                                               \
-		fd_set joined, asked;                                                                                   \
-		init();                                                                                                 \
-		if (!adapters)                                                                                          \
-			return NEXT(call)(count, reads, writes, others, __VA_ARGS__);                                   \
-		if (!join(count, reads, others, &joined))                                                               \
-			return TOLD(call, time, NEXT(call)(count, reads, writes, others, __VA_ARGS__));                 \
-		asked = *others;                                                                                        \
-		int n = TOLD(call, time, NEXT(call)(count, &joined, writes, others, __VA_ARGS__));                      \
-		return n < 0 ? n : part(count, &joined, &asked, reads, others, n);                                      \
+#define SELECTS(call, params, ...)                                                                      \
+	EXPORT int call params                                                                          \
+	{                                                                                               \
+		fd_set joined, asked;                                                                   \
+		init();                                                                                 \
+		if (!adapters)                                                                          \
+			return NEXT(call)(count, reads, writes, others, __VA_ARGS__);                   \
+		if (!join(count, reads, others, &joined))                                               \
+			return TOLD(call, time, NEXT(call)(count, reads, writes, others, __VA_ARGS__)); \
+		asked = *others;                                                                        \
+		int n = TOLD(call, time, NEXT(call)(count, &joined, writes, others, __VA_ARGS__));      \
+		return n < 0 ? n : part(count, &joined, &asked, reads, others, n);                      \
 	}
 SELECTS(select, (int count, fd_set *reads, fd_set *writes, fd_set *others, struct timeval *time), time)
-SELECTS(pselect, (int count, fd_set *reads, fd_set *writes, fd_set *others, const struct timespec *time, const sigset_t *signals), time, signals)
+SELECTS(pselect, (int count, fd_set *reads, fd_set *writes, fd_set *others, const struct timespec *time, const sigset_t *signals),
+	time, signals)
 
 /* ------ epoll */
 
@@ -207,15 +206,20 @@ EXPORT int epoll_ctl(int set, int what, int fd, struct epoll_event *event)
 	return NEXT(epoll_ctl)(set, what, fd, &other);
 }
 
-#define WAITS(call, params, ...)                                                                                        \
-	EXPORT int call params                                                                                          \
-	{                                                                                                               \
-		init();                                                                                                 \
-		if (!adapters)                                                                                          \
-			return NEXT(call)(set, events, most, __VA_ARGS__);                                              \
-		refresh_sets();                                                                                         \
-		return TOLD(call, time, NEXT(call)(set, events, most, __VA_ARGS__));                                    \
+#define WAITS(call, params, ...)                                                     \
+	EXPORT int call params                                                       \
+	{                                                                            \
+		init();                                                              \
+		if (!adapters)                                                       \
+			return NEXT(call)(set, events, most, __VA_ARGS__);           \
+		refresh_sets();                                                      \
+		return TOLD(call, time, NEXT(call)(set, events, most, __VA_ARGS__)); \
 	}
 WAITS(epoll_wait, (int set, struct epoll_event *events, int most, int time), time)
 WAITS(epoll_pwait, (int set, struct epoll_event *events, int most, int time, const sigset_t *signals), time, signals)
-WAITS(epoll_pwait2, (int set, struct epoll_event *events, int most, const struct timespec *time, const sigset_t *signals), time, signals)
+WAITS(epoll_pwait2, (int set, struct epoll_event *events, int most, const struct timespec *time, const sigset_t *signals), time,
+      signals)
+
+/* ------ other names */
+
+CHECKED(poll, ppoll)

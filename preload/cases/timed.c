@@ -46,7 +46,8 @@ void time_sections(int most)
 		want(read(fd, bytes, sizeof bytes) > 0, "a section");
 	getrusage(RUSAGE_SELF, &used);
 	printf("%d %.6f\n", count,
-	       (double)(used.ru_utime.tv_sec + used.ru_stime.tv_sec) + (double)(used.ru_utime.tv_usec + used.ru_stime.tv_usec) / 1e6);
+	       (double)(used.ru_utime.tv_sec + used.ru_stime.tv_sec) +
+		       (double)(used.ru_utime.tv_usec + used.ru_stime.tv_usec) / 1e6);
 }
 
 /* reads the dvr node, to which all packets go, for so long or so many bytes: bytes, and how often some were lost */
