@@ -1,7 +1,7 @@
 /*
- * Gives a program the devices /dev/dvb/adapterN/{frontend0,demux0,dvr0} without a kernel driver (LD_PRELOAD; dvbemu-serve sets it):
- * these are the C library's calls on descriptors. What is asked of demux0 and dvr0 goes to dvb_serve (line.c, device.c); frontend.c
- * answers for the frontend, tree.c for the folder /dev/dvb, udev.c for libudev. Nothing of this is proved.
+ * Gives a program the devices /dev/dvb/adapterN/{frontend0,demux0,dvr0} without a kernel driver (LD_PRELOAD; dvbemu-serve sets
+ * it): these are the C library's calls on descriptors. What is asked of demux0 and dvr0 goes to dvb_serve (line.c, device.c);
+ * frontend.c answers for the frontend, tree.c for the folder /dev/dvb, udev.c for libudev. Nothing of this is proved.
  *
  * A program that is linked statically, or that calls the kernel past the C library, isn't seen.
  */
@@ -62,25 +62,20 @@ static int open_at(int there, const char *path, int flags, va_list list)
 	return there == AT_FDCWD ? NEXT(open)(path, flags, mode) : NEXT(openat)(there, path, flags, mode);
 }
 
-#define OPENS(call, there, ...)                                                                                         \
-	EXPORT int call(__VA_ARGS__, int flags, ...)                                                                    \
-	{                                                                                                               \
-		va_list list;                                                                                           \
-		va_start(list, flags);                                                                                  \
-		int fd = open_at(there, path, flags, list);                                                             \
-		va_end(list);                                                                                           \
-		return fd;                                                                                              \
+#define OPENS(call, there, ...)                             \
+	EXPORT int call(__VA_ARGS__, int flags, ...)        \
+	{                                                   \
+		va_list list;                               \
+		va_start(list, flags);                      \
+		int fd = open_at(there, path, flags, list); \
+		va_end(list);                               \
+		return fd;                                  \
 	}
 OPENS(open, AT_FDCWD, const char *path)
 OPENS(openat, there, int there, const char *path)
-SAME(open64, open)
-SAME(openat64, openat)
-SAME(__open_2, open)
-SAME(__open64_2, open)
-SAME(__openat_2, openat)
-SAME(__openat64_2, openat)
 
-/* What the preload has itself stays open, and isn't there for the program. Behind a device's last descriptor its node is closed. */
+/* What the preload has itself stays open, and isn't there for the program. Behind a device's last descriptor its node is closed.
+ */
 EXPORT int close(int fd)
 {
 	init();
@@ -143,12 +138,12 @@ static int doubled(int fd, int wanted, int result)
 	return result;
 }
 
-#define DOUBLES(call, params, ...)                                                                                      \
-	EXPORT int call params                                                                                          \
-	{                                                                                                               \
-		init();                                                                                                 \
-		int error = is_own(fd) ? -EBADF : give_way(wanted);                                                     \
-		return error ? (int)told(error) : doubled(fd, wanted, NEXT(call)(__VA_ARGS__));                         \
+#define DOUBLES(call, params, ...)                                                              \
+	EXPORT int call params                                                                  \
+	{                                                                                       \
+		init();                                                                         \
+		int error = is_own(fd) ? -EBADF : give_way(wanted);                             \
+		return error ? (int)told(error) : doubled(fd, wanted, NEXT(call)(__VA_ARGS__)); \
 	}
 DOUBLES(dup2, (int fd, int wanted), fd, wanted)
 DOUBLES(dup3, (int fd, int wanted, int flags), fd, wanted, flags)
@@ -161,8 +156,6 @@ EXPORT ssize_t read(int fd, void *into, size_t count)
 	init();
 	return find(fd, &at) ? told(device_read(fd, at, into, count)) : NEXT(read)(fd, into, count);
 }
-
-SAME(__read_chk, read)
 
 /* a driver without an answer of its own to readv gets one read for each part */
 EXPORT ssize_t readv(int fd, const struct iovec *parts, int count)
@@ -230,14 +223,6 @@ EXPORT ssize_t pwrite(int fd, const void *from, size_t count, off_t to)
 	return is_device(fd) ? write(fd, from, count) : NEXT(pwrite)(fd, from, count, to);
 }
 
-SAME(lseek64, lseek)
-SAME(pread64, pread)
-SAME(preadv64, preadv)
-SAME(preadv64v2, preadv2)
-SAME(pwrite64, pwrite)
-SAME(__pread_chk, pread)
-SAME(__pread64_chk, pread)
-
 EXPORT ssize_t write(int fd, const void *from, size_t count)
 {
 	struct at at;
@@ -248,17 +233,17 @@ EXPORT ssize_t write(int fd, const void *from, size_t count)
 }
 
 /* a device gives no pages to pipes and files, and takes none */
-#define MOVES(call, params, ...)                                                                         \
-	EXPORT ssize_t call params                                                                                      \
-	{                                                                                                               \
-		init();                                                                                                 \
-		return is_device(from) || is_device(to) ? told(-EINVAL) : NEXT(call)(__VA_ARGS__);                 \
+#define MOVES(call, params, ...)                                                                   \
+	EXPORT ssize_t call params                                                                 \
+	{                                                                                          \
+		init();                                                                            \
+		return is_device(from) || is_device(to) ? told(-EINVAL) : NEXT(call)(__VA_ARGS__); \
 	}
 MOVES(splice, (int from, off64_t *at, int to, off64_t *there, size_t count, unsigned flags), from, at, to, there, count, flags)
-MOVES(copy_file_range, (int from, off64_t *at, int to, off64_t *there, size_t count, unsigned flags), from, at, to, there, count, flags)
+MOVES(copy_file_range, (int from, off64_t *at, int to, off64_t *there, size_t count, unsigned flags), from, at, to, there, count,
+      flags)
 MOVES(tee, (int from, int to, size_t count, unsigned flags), from, to, count, flags)
 MOVES(sendfile, (int to, int from, off_t *at, size_t count), to, from, at, count)
-SAME(sendfile64, sendfile)
 
 /* ------ ioctl and fcntl */
 
@@ -298,8 +283,6 @@ EXPORT int fcntl(int fd, int command, ...)
 		return (result & ~O_ACCMODE) | device_at(at)->access;
 	return result;
 }
-
-SAME(fcntl64, fcntl)
 
 /* ------ streams of the C library, which reads past its own read: those over a device are of calls */
 
@@ -356,8 +339,6 @@ EXPORT FILE *fopen(const char *path, const char *mode)
 	return file;
 }
 
-SAME(fopen64, fopen)
-
 EXPORT FILE *fdopen(int fd, const char *mode)
 {
 	init();
@@ -371,4 +352,11 @@ EXPORT int fileno(FILE *file)
 	return one && file ? one->fd : NEXT(fileno)(file);
 }
 
-SAME(fileno_unlocked, fileno)
+/* ------ other names */
+
+SAME(open, __open_2, __open64_2)
+SAME(openat, __openat_2, __openat64_2)
+SAME(preadv2, preadv64v2)
+SAME(fileno, fileno_unlocked)
+SAME64(open, openat, lseek, pread, preadv, pwrite, sendfile, fcntl, fopen)
+CHECKED(read, pread, pread64)

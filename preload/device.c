@@ -1,7 +1,7 @@
 /*
- * The devices that are open: a node of the server, or the frontend. A descriptor of one is the reading end of a pipe, and is a device
- * just as long as it is that pipe, whatever its number is and however it came there; where none is left the pipe's other end tells,
- * and the node is closed. The pipe can be read where the device can: so the system itself wakes whoever waits.
+ * The devices that are open: a node of the server, or the frontend. A descriptor of one is the reading end of a pipe, and is a
+ * device just as long as it is that pipe, whatever its number is and however it came there; where none is left the pipe's other
+ * end tells, and the node is closed. The pipe can be read where the device can: so the system itself wakes whoever waits.
  */
 #define _GNU_SOURCE
 #include <errno.h>
@@ -120,23 +120,30 @@ void device_begin(struct line *line, int place, int rings, int life)
 }
 
 /*
- * Opens the node of a device, and fills its place, which this gives, or a negative error. The place is filled first, behind the lock of its
- * open: so where this process is killed meanwhile others see what it has left.
+ * Opens the node of a device, and fills its place, which this gives, or a negative error. The place is filled first, behind the
+ * lock of its open: so where this process is killed meanwhile others see what it has left.
  */
 static int begin(struct line *line, int kind, int flags, int rings)
 {
 	struct reply reply = { 0 };
 	struct stat made;
 	HOLD_LINE(line);
-	int place = syscall(SYS_fstat, rings, &made) ? -1 : place_in(line), life = place < 0 ? -1 : lock_of(line, ++line->table->opens);
+	int place = syscall(SYS_fstat, rings, &made) ? -1 : place_in(line),
+	    life = place < 0 ? -1 : lock_of(line, ++line->table->opens);
 	int error = place < 0 ? -EMFILE : 0;
 	struct device *device = &line->table->devices[place < 0 ? 0 : place];
 	if (!error) {
 		/* (a thread that has waited here for a device which another closed still counts itself out) */
-		*device = (struct device){ .access = flags & O_ACCMODE, .node = NO_NODE, .ino = made.st_ino, .turn = device->turn + 1,
-					   .readers = device->readers, .open = life < 0 ? 0 : line->table->opens };
+		*device = (struct device){ .access = flags & O_ACCMODE,
+					   .node = NO_NODE,
+					   .ino = made.st_ino,
+					   .turn = device->turn + 1,
+					   .readers = device->readers,
+					   .open = life < 0 ? 0 : line->table->opens };
 		__atomic_store_n(&device->kind, kind, __ATOMIC_SEQ_CST);
-		if (kind != FRONTEND)
+		if (kind == FRONTEND)
+			trace(TRACE_OPEN, line->table->adapter, NO_NODE, 0, NULL, 0, 0);
+		else
 			error = ask(line, kind == DEMUX ? OPEN_DEMUX : OPEN_DVR, 0, 0, NULL, 0, &reply, NULL);
 		device->node = kind == DVR ? DVR_NODE : reply.value;
 	}
@@ -157,8 +164,10 @@ static int open_in(int adapter, int kind, int flags)
 	sweep_all();
 	struct line *line = line_to(adapter);
 	int ends[2], lock = kind == FRONTEND && (flags & O_ACCMODE) != O_RDONLY ? frontend_lock(adapter) : -1;
-	if (lock < -1 || !line)
+	if (lock < -1 || !line) {
+		trace(TRACE_OPEN, adapter, kind == DVR ? DVR_NODE : NO_NODE, 0, NULL, 0, lock < -1 ? lock : -ENOMEM);
 		return lock < -1 ? lock : -ENOMEM;
+	}
 	if (syscall(SYS_pipe2, ends, O_CLOEXEC)) {
 		let_go(lock);
 		return -EMFILE;
@@ -190,7 +199,9 @@ static void close_node(struct at at)
 {
 	struct reply reply;
 	struct device *device = device_at(at);
-	if (device->kind != FRONTEND && !at.line->table->is_gone)
+	if (device->kind == FRONTEND)
+		trace(TRACE_CLOSE, at.line->table->adapter, NO_NODE, 0, NULL, 0, 0);
+	else if (!at.line->table->is_gone)
 		ask(at.line, CLOSE, device->node, 0, NULL, 0, &reply, NULL);
 	device->kind = NONE;
 	device->ino = 0;
@@ -199,8 +210,8 @@ static void close_node(struct at at)
 }
 
 /*
- * No descriptor of the device is left, in any process: its node is closed, by the first one that sees it. Where this process has lost its own
- * end, past the preload, it knows nothing of others.
+ * No descriptor of the device is left, in any process: its node is closed, by the first one that sees it. Where this process has
+ * lost its own end, past the preload, it knows nothing of others.
  */
 static void end(struct at at, int is_over)
 {
@@ -221,7 +232,8 @@ static void end(struct at at, int is_over)
 int is_others(struct line *line, int place)
 {
 	struct device *device = &line->table->devices[place];
-	return __atomic_load_n(&device->kind, __ATOMIC_SEQ_CST) != NONE && (line->mine[place].rings < 0 || line->mine[place].ino != device->ino);
+	return __atomic_load_n(&device->kind, __ATOMIC_SEQ_CST) != NONE &&
+	       (line->mine[place].rings < 0 || line->mine[place].ino != device->ino);
 }
 
 /* ends such a device where all that had it were killed */
@@ -264,8 +276,8 @@ void sweep(void)
 static void is_read(void *device) { __atomic_sub_fetch(&((struct device *)device)->readers, 1, __ATOMIC_SEQ_CST); }
 
 /*
- * Waits until the device may have something. A signal ends that as it ends any call that the system can begin again: by its handler; and
- * where some bytes were read by any handler, as a wait with a time is.
+ * Waits until the device may have something. A signal ends that as it ends any call that the system can begin again: by its
+ * handler; and where some bytes were read by any handler, as a wait with a time is.
  */
 static int doze(struct device *device, uint32_t turn, int has_some)
 {
@@ -307,7 +319,7 @@ static int read_once(int fd, struct at at, ino_t ino, void *into, uint32_t most,
 }
 
 /* A section filter gives one section; any other node is read until all bytes are there, where the read blocks. */
-ssize_t device_read(int fd, struct at at, void *into, size_t count)
+static ssize_t read_all(int fd, struct at at, void *into, size_t count)
 {
 	struct device *device = device_at(at);
 	ino_t ino = device->ino;
@@ -318,14 +330,25 @@ ssize_t device_read(int fd, struct at at, void *into, size_t count)
 		struct reading reading = { 0 };
 		uint32_t most = count - done < MOST_READ ? (uint32_t)(count - done) : MOST_READ;
 		int error = read_once(fd, at, ino, (char *)into + done, most, &reading);
+		if (reading.waits)
+			trace(READ, at.line->table->adapter, device->node, (uint32_t)count, NULL, 0, TRACE_WAITS);
 		if (reading.waits && !(error = doze(device, reading.turn, done > 0)))
 			continue;
 		if (error && !done)
 			return error;
 		done += error ? 0 : reading.reply.length;
-		if (error || device->section || !reading.reply.length || done == count || (reading.reply.length < most && is_nonblocking(fd)))
+		if (error || device->section || !reading.reply.length || done == count ||
+		    (reading.reply.length < most && is_nonblocking(fd)))
 			return (ssize_t)done;
 	}
+}
+
+ssize_t device_read(int fd, struct at at, void *into, size_t count)
+{
+	uint32_t node = device_at(at)->node;
+	ssize_t n = read_all(fd, at, into, count);
+	trace(READ, at.line->table->adapter, node, (uint32_t)count, NULL, 0, n);
+	return n;
 }
 
 /* notes what a request has changed of a node, and says whether it has begun to run */
@@ -417,6 +440,7 @@ static int tune_once(int fd, struct at at, uint32_t number, void *argument, stru
 {
 	struct device *device = device_at(at);
 	int error;
+	traced_waits = traces() && !is_nonblocking(fd);
 	HOLD_LINE(at.line);
 	do {
 		error = frontend_ioctl(at.line->table->adapter, device->access, number, argument);

@@ -142,7 +142,8 @@ void inherit(void)
 	for (int i = 0; i < count; i++) {
 		struct stat now;
 		struct line *line = &lines[tables];
-		if (tables == MOST_LINES || stands_at(fds[i]) || syscall(SYS_fstat, fds[i], &now) || now.st_size != sizeof *line->table)
+		if (tables == MOST_LINES || stands_at(fds[i]) || syscall(SYS_fstat, fds[i], &now) ||
+		    now.st_size != sizeof *line->table)
 			continue;
 		void *there = mmap(NULL, sizeof *line->table, PROT_READ | PROT_WRITE, MAP_SHARED, fds[i], 0);
 		if (there == MAP_FAILED)
@@ -163,11 +164,11 @@ void inherit(void)
 
 /* ------ the C library's calls */
 
-#define BECOMES(call, type, what)                                                                                       \
-	EXPORT int call(type what, char *const words[], char *const env[])                                              \
-	{                                                                                                               \
-		prepare();                                                                                              \
-		return done(NEXT(call)(what, words, env));                                                              \
+#define BECOMES(call, type, what)                                          \
+	EXPORT int call(type what, char *const words[], char *const env[]) \
+	{                                                                  \
+		prepare();                                                 \
+		return done(NEXT(call)(what, words, env));                 \
 	}
 BECOMES(execve, const char *, path)
 BECOMES(execvpe, const char *, file)
@@ -195,28 +196,29 @@ static char **words_in(const char *first, va_list list, char **into, int has_env
 }
 
 /* a call of a list of words, as one of an array of them, which is as long as the list */
-#define BY_LIST(call, has_env)                                                                                          \
-	va_list list, counted;                                                                                          \
-	va_start(list, first);                                                                                          \
-	va_copy(counted, list);                                                                                         \
-	char *words[count_of(first, counted)];                                                                          \
-	va_end(counted);                                                                                                \
-	char **env = words_in(first, list, words, has_env);                                                             \
-	va_end(list);                                                                                                   \
+#define BY_LIST(call, has_env)                              \
+	va_list list, counted;                              \
+	va_start(list, first);                              \
+	va_copy(counted, list);                             \
+	char *words[count_of(first, counted)];              \
+	va_end(counted);                                    \
+	char **env = words_in(first, list, words, has_env); \
+	va_end(list);                                       \
 	return call(path, words, env)
 
 EXPORT int execl(const char *path, const char *first, ...) { BY_LIST(execve, 0); }
 EXPORT int execlp(const char *path, const char *first, ...) { BY_LIST(execvpe, 0); }
 EXPORT int execle(const char *path, const char *first, ...) { BY_LIST(execve, 1); }
 
-/* (the library begins a program by these, and the shell of those below, by none of the calls above; while that begins the line stays open) */
-#define BEGINS(call)                                                                                                    \
-	EXPORT int call(pid_t *child, const char *path, const posix_spawn_file_actions_t *actions,                      \
-			const posix_spawnattr_t *with, char *const words[], char *const env[])                          \
-	{                                                                                                               \
-		init();                                                                                                 \
-		keep_lines(1);                                                                                          \
-		return done(NEXT(call)(child, path, actions, with, words, env));                                        \
+/* (the library begins a program by these, and the shell of those below, by none of the calls above; while that begins the line
+ * stays open) */
+#define BEGINS(call)                                                                               \
+	EXPORT int call(pid_t *child, const char *path, const posix_spawn_file_actions_t *actions, \
+			const posix_spawnattr_t *with, char *const words[], char *const env[])     \
+	{                                                                                          \
+		init();                                                                            \
+		keep_lines(1);                                                                     \
+		return done(NEXT(call)(child, path, actions, with, words, env));                   \
 	}
 BEGINS(posix_spawn)
 BEGINS(posix_spawnp)
@@ -260,4 +262,4 @@ EXPORT void _exit(int status)
 	__builtin_unreachable();
 }
 
-SAME(_Exit, _exit)
+SAME(_exit, _Exit)

@@ -1,7 +1,7 @@
 /*
- * The frontend of an adapter: a stand-in. What it was asked for and what came of it stands in the file `front` of the server's folder,
- * which all programs and the wrapper share, as a card has one frontend: a program tunes by a count, and the wrapper grants that tuning
- * once the recording of that frequency passes, or says that there is none. Nothing of it is proved.
+ * The frontend of an adapter: a stand-in. What it was asked for and what came of it stands in the file `front` of the server's
+ * folder, which all programs and the wrapper share, as a card has one frontend: a program tunes by a count, and the wrapper
+ * grants that tuning once the recording of that frequency passes, or says that there is none. Nothing of it is proved.
  *
  * Its answers are those of the Linux media API (Digital TV frontend), of a card that has the delivery systems of the recordings.
  */
@@ -22,12 +22,13 @@ enum { SYSTEMS = 8, COMMANDS = DTV_MAX_COMMAND + 1, MOST_PROPERTIES = 64, GOOD =
 
 /* What python/src/dvbemu/server/channels.py has too. All frequencies are in Hz, or in kHz behind a satellite's converter. */
 struct front {
-	uint32_t wanted, granted, status, taken; /* tunings: how many were asked for, done, with what status, and told as an event */
+	uint32_t wanted, granted, status,
+		taken; /* tunings: how many were asked for, done, with what status, and told as an event */
 	uint32_t frequency, system, voltage, tone, stream; /* what is tuned to; and what is on the cable */
-	uint32_t seatless;                                 /* how many programs have found no seat of the server */
+	uint32_t seatless;				   /* how many programs have found no seat of the server */
 	uint64_t packets;
-	uint32_t systems[SYSTEMS];               /* which it has; behind the last a 0 */
-	uint32_t asked[COMMANDS];                /* the properties, by their commands */
+	uint32_t systems[SYSTEMS]; /* which it has; behind the last a 0 */
+	uint32_t asked[COMMANDS];  /* the properties, by their commands */
 };
 
 static struct front *fronts[MOST_ADAPTERS];
@@ -83,8 +84,8 @@ static struct front *front_of(int adapter)
 }
 
 /*
- * Who may tune holds a lock of the file, as one open of a card for writing is all that it has: a descriptor, -EBUSY, or -1. An event
- * that nobody took before isn't told any more.
+ * Who may tune holds a lock of the file, as one open of a card for writing is all that it has: a descriptor, -EBUSY, or -1. An
+ * event that nobody took before isn't told any more.
  */
 int frontend_lock(int adapter)
 {
@@ -163,9 +164,10 @@ static void tell_info(const struct front *front, struct dvb_frontend_info *info)
 	info->frequency_stepsize = is_satellite ? 1000 : 166667;
 	info->symbol_rate_min = 1000000;
 	info->symbol_rate_max = 45000000;
-	info->caps = FE_CAN_INVERSION_AUTO | FE_CAN_FEC_AUTO | FE_CAN_QAM_AUTO | FE_CAN_TRANSMISSION_MODE_AUTO | FE_CAN_BANDWIDTH_AUTO |
-		     FE_CAN_GUARD_INTERVAL_AUTO | FE_CAN_HIERARCHY_AUTO | FE_CAN_QPSK | FE_CAN_QAM_16 | FE_CAN_QAM_32 | FE_CAN_QAM_64 |
-		     FE_CAN_QAM_128 | FE_CAN_QAM_256 | FE_CAN_8VSB | FE_CAN_2G_MODULATION | FE_CAN_MULTISTREAM;
+	info->caps = FE_CAN_INVERSION_AUTO | FE_CAN_FEC_AUTO | FE_CAN_QAM_AUTO | FE_CAN_TRANSMISSION_MODE_AUTO |
+		     FE_CAN_BANDWIDTH_AUTO | FE_CAN_GUARD_INTERVAL_AUTO | FE_CAN_HIERARCHY_AUTO | FE_CAN_QPSK | FE_CAN_QAM_16 |
+		     FE_CAN_QAM_32 | FE_CAN_QAM_64 | FE_CAN_QAM_128 | FE_CAN_QAM_256 | FE_CAN_8VSB | FE_CAN_2G_MODULATION |
+		     FE_CAN_MULTISTREAM;
 }
 
 /* as of a kernel's dvb_frontend_check_parameters */
@@ -191,9 +193,10 @@ static int tune(struct front *front)
 	return 0;
 }
 
-static const uint32_t widths[] = { [BANDWIDTH_8_MHZ] = 8000000, [BANDWIDTH_7_MHZ] = 7000000, [BANDWIDTH_6_MHZ] = 6000000,
-				   [BANDWIDTH_AUTO] = 0, [BANDWIDTH_5_MHZ] = 5000000, [BANDWIDTH_10_MHZ] = 10000000,
-				   [BANDWIDTH_1_712_MHZ] = 1712000 };
+static const uint32_t widths[] = {
+	[BANDWIDTH_8_MHZ] = 8000000, [BANDWIDTH_7_MHZ] = 7000000,   [BANDWIDTH_6_MHZ] = 6000000,    [BANDWIDTH_AUTO] = 0,
+	[BANDWIDTH_5_MHZ] = 5000000, [BANDWIDTH_10_MHZ] = 10000000, [BANDWIDTH_1_712_MHZ] = 1712000
+};
 enum { WIDTHS = sizeof widths / sizeof *widths };
 
 static int set_parameters(struct front *front, const struct dvb_frontend_parameters *asked)
@@ -382,23 +385,53 @@ static int do_ioctl(struct front *front, uint32_t number, union argument *bytes,
 }
 
 /* 0 or a negative error. Where the frontend was opened to be read alone it does what only tells of it. */
-int frontend_ioctl(int adapter, int access, uint32_t number, void *argument)
+static int answered(int adapter, int access, uint32_t number, void *argument, union argument *bytes)
 {
-	union argument bytes;
 	uint32_t size = _IOC_SIZE(number);
 	struct front *front = front_of(adapter);
-	memset(&bytes, 0, sizeof bytes);
+	memset(bytes, 0, sizeof *bytes);
 	if (!front)
 		return -ENODEV;
-	if (_IOC_TYPE(number) != 'o' || size > sizeof bytes)
+	if (_IOC_TYPE(number) != 'o' || size > sizeof *bytes)
 		return -ENOTTY;
 	if (access == O_RDONLY && (_IOC_DIR(number) != _IOC_READ || number == FE_GET_EVENT))
 		return -EPERM;
 	/* (FE_GET_PROPERTY is said to be read alone, and has its list in the argument) */
-	if ((_IOC_DIR(number) & _IOC_WRITE || number == FE_GET_PROPERTY) && !is_readable(argument, &bytes, size))
+	if ((_IOC_DIR(number) & _IOC_WRITE || number == FE_GET_PROPERTY) && !is_readable(argument, bytes, size))
 		return -EFAULT;
-	int error = do_ioctl(front, number, &bytes, (uint32_t)(uintptr_t)argument);
-	if (!error && _IOC_DIR(number) & _IOC_READ && number != FE_GET_PROPERTY && !is_writable(argument, &bytes, size))
+	int error = do_ioctl(front, number, bytes, (uint32_t)(uintptr_t)argument);
+	if (!error && _IOC_DIR(number) & _IOC_READ && number != FE_GET_PROPERTY && !is_writable(argument, bytes, size))
 		return -EFAULT;
+	return error;
+}
+
+/* The list of a call of properties, as far as there is room, or else the argument. */
+static void tell(int adapter, uint32_t number, const void *argument, const union argument *bytes, int error)
+{
+	struct dtv_property all[MOST_PROPERTIES];
+	uint32_t pairs[2 * MOST_PROPERTIES], word = (uint32_t)(uintptr_t)argument;
+	uint32_t count = bytes->properties.num, size = _IOC_SIZE(number);
+	int waits = error == -EAGAIN && number == FE_GET_EVENT && traced_waits;
+	long result = waits ? TRACE_WAITS : error;
+	size = size > sizeof *bytes ? 0 : size;
+	if (number != FE_SET_PROPERTY && number != FE_GET_PROPERTY) {
+		trace(TRACE_FRONTEND, adapter, NO_NODE, number, size ? (const void *)bytes : &word, size ? size : sizeof word,
+		      result);
+		return;
+	}
+	count = count <= MOST_PROPERTIES && is_readable(bytes->properties.props, all, count * sizeof *all) ? count : 0;
+	for (uint32_t i = 0; i < count; i++) {
+		pairs[2 * i] = all[i].cmd;
+		pairs[2 * i + 1] = all[i].u.data;
+	}
+	trace(TRACE_FRONTEND, adapter, NO_NODE, number, pairs, count * 2 * sizeof *pairs, result);
+}
+
+int frontend_ioctl(int adapter, int access, uint32_t number, void *argument)
+{
+	union argument bytes;
+	int error = answered(adapter, access, number, argument, &bytes);
+	if (traces())
+		tell(adapter, number, argument, &bytes, error);
 	return error;
 }

@@ -1,6 +1,6 @@
 /*
- * Descriptors: those of the preload itself, which a program can't close or take by a number of its own choice, and those that may be
- * a device. A number alone is never believed: what stands behind it is compared, by its inode.
+ * Descriptors: those of the preload itself, which a program can't close or take by a number of its own choice, and those that may
+ * be a device. A number alone is never believed: what stands behind it is compared, by its inode.
  */
 #define _GNU_SOURCE
 #include <errno.h>
@@ -50,8 +50,8 @@ void unmark(int fd)
 }
 
 /*
- * The inode of the pipe behind a descriptor; 0 where there is none. Its times aren't asked for: a system that was asked for those of a named
- * pipe notes new ones on the disk at the next write.
+ * The inode of the pipe behind a descriptor; 0 where there is none. Its times aren't asked for: a system that was asked for those
+ * of a named pipe notes new ones on the disk at the next write.
  */
 ino_t pipe_of(int fd)
 {

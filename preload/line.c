@@ -1,6 +1,6 @@
 /*
- * The line of a process to the server of an adapter, dvb_serve: requests and their replies over a pair of named pipes, whose name is
- * told at the pipe `knock` of the server's folder, from where keeper.py hands it on. Forked children have the line too.
+ * The line of a process to the server of an adapter, dvb_serve: requests and their replies over a pair of named pipes, whose name
+ * is told at the pipe `knock` of the server's folder, from where keeper.py hands it on. Forked children have the line too.
  *
  *   DVBEMU_DIR    the folders of the servers of adapter 0, 1 and so on, with colons between
  */
@@ -120,7 +120,8 @@ static int is_cut(const struct line *line)
 	return line->ask >= 0 && (!is_object(line->ask, line->table->ask_ino) || !is_object(line->tell, line->table->tell_ino));
 }
 
-/* Locks what several processes have. One that is killed as it wakes another leaves that asleep, where a third has the lock by then. */
+/* Locks what several processes have. One that is killed as it wakes another leaves that asleep, where a third has the lock by
+ * then. */
 static int lock_shared(pthread_mutex_t *one)
 {
 	int error = pthread_mutex_trylock(one);
@@ -135,8 +136,8 @@ static int lock_shared(pthread_mutex_t *one)
 }
 
 /*
- * What this process has, its lines and the descriptors of its devices, or a line. Where a process was killed in a line, the next one that
- * can does what that one has left.
+ * What this process has, its lines and the descriptors of its devices, or a line. Where a process was killed in a line, the next
+ * one that can does what that one has left.
  */
 void take(struct pause *pause)
 {
@@ -175,7 +176,8 @@ static int make_table(struct line *line, int adapter)
 {
 	pthread_mutexattr_t shared;
 	int fd = high((int)syscall(SYS_memfd_create, "dvbemu", 1 /* closed by exec */));
-	void *there = fd < 0 || ftruncate(fd, sizeof *line->table) ? MAP_FAILED
+	void *there = fd < 0 || ftruncate(fd, sizeof *line->table)
+			      ? MAP_FAILED
 			      : mmap(NULL, sizeof *line->table, PROT_READ | PROT_WRITE, MAP_SHARED, fd, 0);
 	if (there == MAP_FAILED) {
 		let_go(fd);
@@ -223,7 +225,8 @@ struct line *line_to(int adapter)
 	return unused && !make_table(unused, adapter) ? unused : NULL;
 }
 
-/* ------ locks of opens: whoever has opened a device holds one, and each child, as a description of the table that stands at its byte */
+/* ------ locks of opens: whoever has opened a device holds one, and each child, as a description of the table that stands at its
+ * byte */
 
 int lock_of(const struct line *line, uint32_t number)
 {
@@ -362,7 +365,8 @@ static int get(struct line *line, void *bytes, size_t count)
 }
 
 /*
- * Takes the reply, and the bytes behind it: both at once where they have come, and what is left of each, or can't be written at once, alone.
+ * Takes the reply, and the bytes behind it: both at once where they have come, and what is left of each, or can't be written at
+ * once, alone.
  */
 static int get_all(struct line *line, struct reply *reply, void *into, uint32_t room)
 {
@@ -376,9 +380,9 @@ static int get_all(struct line *line, struct reply *reply, void *into, uint32_t 
 }
 
 /*
- * Passes over all that the line tells still: behind it come refusals of requests that only this makes, in a number that is this try's
- * alone, as another one may have been killed here too. A request was written whole or not at all, for a pipe takes so few bytes at once, and
- * so are the first bytes of a reply. 0 or -1.
+ * Passes over all that the line tells still: behind it come refusals of requests that only this makes, in a number that is this
+ * try's alone, as another one may have been killed here too. A request was written whole or not at all, for a pipe takes so few
+ * bytes at once, and so are the first bytes of a reply. 0 or -1.
  */
 static int pass_over(struct line *line)
 {
@@ -412,7 +416,8 @@ static int pass_over(struct line *line)
 	return 0;
 }
 
-/* Somebody was killed in HOLD_LINE. What was asked last, if anything, was done or never came to the server; and it is noted here. */
+/* Somebody was killed in HOLD_LINE. What was asked last, if anything, was done or never came to the server; and it is noted here.
+ */
 static void find_back(struct line *line)
 {
 	struct table *table = line->table;
@@ -456,5 +461,9 @@ int ask(struct line *line, uint32_t verb, uint32_t node, uint32_t number, const 
 	struct request asked = { verb, node, number, length, { 0 } };
 	if (length)
 		memcpy(asked.argument, argument, length);
-	return exchange(line, &asked, reply, into, verb == READ ? number : 0);
+	int error = exchange(line, &asked, reply, into, verb == READ ? number : 0);
+	if (traces() && verb != READ && verb != POLL)
+		trace((int)verb, line->table->adapter, verb == OPEN_DEMUX && !error ? reply->value : node, number, argument,
+		      length, error);
+	return error;
 }

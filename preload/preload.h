@@ -10,21 +10,24 @@
 #include <sys/types.h>
 
 /*
- * A call of the C library that stands in the place of the library's own; another name of it, as that of 64 bits, which differs in nothing
- * here, or one with a size behind its arguments; and the library's own.
+ * A call of the C library that stands in the place of the library's own; its other names; calls whose name of 64 bits differs in
+ * nothing here, and such whose checked name has a size behind the arguments; and the library's own.
  */
 #define EXPORT __attribute__((visibility("default")))
-#define SAME(other, name) __asm__(".globl " #other "\n.set " #other ", " #name);
-#define NEXT(name)                                                                                                      \
-	({                                                                                                              \
-		static __typeof__(&name) found_;                                                                        \
-		if (!found_)                                                                                            \
-			found_ = (__typeof__(&name))dlsym(RTLD_NEXT, #name);                                            \
-		found_;                                                                                                 \
+#define SAME(name, ...) __asm__(".irp other, " #__VA_ARGS__ "\n.globl \\other\n.set \\other, " #name "\n.endr");
+#define SAME64(...) __asm__(".irp name, " #__VA_ARGS__ "\n.globl \\name\\()64\n.set \\name\\()64, \\name\n.endr");
+#define CHECKED(...) __asm__(".irp name, " #__VA_ARGS__ "\n.globl __\\name\\()_chk\n.set __\\name\\()_chk, \\name\n.endr");
+#define NEXT(name)                                                           \
+	({                                                                   \
+		static __typeof__(&name) found_;                             \
+		if (!found_)                                                 \
+			found_ = (__typeof__(&name))dlsym(RTLD_NEXT, #name); \
+		found_;                                                      \
 	})
 
 enum { NONE, FRONTEND, DEMUX, DVR };
-/* (paths lie on the stacks of the program's threads, which may be of 16 KiB; dvbemu-serve sees that its folder's name is short enough) */
+/* (paths lie on the stacks of the program's threads, which may be of 16 KiB; dvbemu-serve sees that its folder's name is short
+ * enough) */
 enum { MOST_ADAPTERS = 8, MOST_LINES = 16, MOST_DEVICES = 48, FOLDER = 256, PATH = FOLDER + 256 };
 
 /* the verbs of requests, and the bits of a poll's answer */
@@ -73,9 +76,10 @@ struct line {
 	struct table *table;
 	int memory, ask, tell; /* the table, and the pair of pipes: -1 where there is none yet */
 	struct mine {
-		ino_t ino;                   /* of the pipe that these belong to */
-		int rings, lock, life, bell; /* the pipe's other end, a frontend's lock, that of its open, and the watch of the bell */
-		int known;                   /* a descriptor by which it was added to a set of epoll */
+		ino_t ino; /* of the pipe that these belong to */
+		int rings, lock, life,
+			bell; /* the pipe's other end, a frontend's lock, that of its open, and the watch of the bell */
+		int known;    /* a descriptor by which it was added to a set of epoll */
 	} mine[MOST_DEVICES];
 };
 
@@ -94,7 +98,9 @@ void init(void);
 void take(struct pause *pause);
 void give(struct pause *pause);
 /* to the end of a block nobody else has what is this process's, or a line; in that order, where both are */
-#define HOLD(one, what) struct pause one __attribute__((cleanup(give))) = { .line = what }; take(&one)
+#define HOLD(one, what)                                                     \
+	struct pause one __attribute__((cleanup(give))) = { .line = what }; \
+	take(&one)
 #define HOLD_OWN() HOLD(own_pause, NULL)
 #define HOLD_LINE(line) HOLD(line_pause, line)
 void hold_for_good(void);
@@ -155,7 +161,15 @@ int watch_runs(void);
 /* exec.c */
 void inherit(void);
 
-/* tree.c: whether a path lies in /dev/dvb, also by links, and where it stands in the tree for that; what such a place is, and a device's */
+/* trace.c: the calls that are told beside the verbs of requests, and the result of one that waits */
+enum { TRACE_WAIT = 7, TRACE_FRONTEND, TRACE_OPEN, TRACE_CLOSE, TRACE_WAITS = INT32_MIN };
+extern pid_t traced_process;
+extern __thread int traced_waits __attribute__((tls_model("initial-exec")));
+int traces(void);
+void trace(int call, int adapter, uint32_t node, uint32_t number, const void *argument, size_t length, long result);
+
+/* tree.c: whether a path lies in /dev/dvb, also by links, and where it stands in the tree for that; what such a place is, and a
+ * device's */
 int led(int there, const char *path, char *into);
 int leads(int there, const char *path, char *into);
 int kind_of(const char *place, int *adapter);

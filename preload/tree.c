@@ -1,6 +1,6 @@
 /*
- * The folder /dev/dvb: a tree of empty files in the folder of the first server stands for it. A path that lies there, also a relative
- * one and one by links, is led into the tree, and the files of devices are told as character devices.
+ * The folder /dev/dvb: a tree of empty files in the folder of the first server stands for it. A path that lies there, also a
+ * relative one and one by links, is led into the tree, and the files of devices are told as character devices.
  */
 #define _GNU_SOURCE
 #include <dirent.h>
@@ -79,7 +79,8 @@ int led(int there, const char *path, char *into)
 	if (!adapters || !path || !*path)
 		return 0;
 	if (*path == '/')
-		return (is_below(path) || strstr(path, "dvb")) && strlen(path) < PATH && plain(path, clean) && in_tree(clean, into);
+		return (is_below(path) || strstr(path, "dvb")) && strlen(path) < PATH && plain(path, clean) &&
+		       in_tree(clean, into);
 	if (!base_of(there, base) || !tree_in(base))
 		return 0;
 	int length = snprintf(whole, sizeof whole, "%s/%s", base + tree_in(base), path);
@@ -134,7 +135,8 @@ int leads(int there, const char *path, char *into)
 	int saved = errno;
 	int is_led = led(there, path, into);
 	if (!is_led && adapters && path && *path &&
-	    (syscall(SYS_newfstatat, there, path, &now, 0) ? errno == ENOENT : S_ISCHR(now.st_mode) && major(now.st_rdev) == MAJOR))
+	    (syscall(SYS_newfstatat, there, path, &now, 0) ? errno == ENOENT
+							   : S_ISCHR(now.st_mode) && major(now.st_rdev) == MAJOR))
 		is_led = led_by_links(there, path, into);
 	errno = saved;
 	return is_led;
@@ -168,7 +170,10 @@ void place_of(struct at at, char *into)
 /* ------ the C library's calls */
 
 /* the number of a device, as a kernel gives them: 64 minors for each adapter */
-static unsigned minor_of(int adapter, int kind) { return (unsigned)(adapter * 64 + (kind == FRONTEND ? 3 : kind == DEMUX ? 4 : 5)); }
+static unsigned minor_of(int adapter, int kind)
+{
+	return (unsigned)(adapter * 64 + (kind == FRONTEND ? 3 : kind == DEMUX ? 4 : 5));
+}
 
 static void tell(struct stat *told, int adapter, int kind)
 {
@@ -223,27 +228,18 @@ EXPORT int lstat(const char *path, struct stat *told)
 	return stat_in(AT_FDCWD, path, told, AT_SYMLINK_NOFOLLOW);
 }
 
-SAME(stat64, stat)
-SAME(lstat64, lstat)
-SAME(fstat64, fstat)
-SAME(fstatat64, fstatat)
-
 /* the names that these have in programs of a C library before 2.33 */
-#define OLDER(call, name, type, where)                                                                             \
-	EXPORT int call(int version, type, struct stat *told);                                                          \
+#define OLDER(call, name, type, where)                         \
+	EXPORT int call(int version, type, struct stat *told); \
 	EXPORT int call(int version, type, struct stat *told) { return (void)version, name(where, told); }
 OLDER(__xstat, stat, const char *path, path)
 OLDER(__lxstat, lstat, const char *path, path)
 OLDER(__fxstat, fstat, int fd, fd)
-SAME(__xstat64, __xstat)
-SAME(__lxstat64, __lxstat)
-SAME(__fxstat64, __fxstat)
 EXPORT int __fxstatat(int version, int there, const char *path, struct stat *told, int flags);
 EXPORT int __fxstatat(int version, int there, const char *path, struct stat *told, int flags)
 {
 	return (void)version, fstatat(there, path, told, flags);
 }
-SAME(__fxstatat64, __fxstatat)
 
 EXPORT int statx(int there, const char *restrict path, int flags, unsigned int mask, struct statx *restrict told)
 {
@@ -274,27 +270,27 @@ EXPORT int faccessat(int there, const char *path, int mode, int flags)
 	char into[PATH];
 	init();
 	/* (the tree's files are their owner's, and nobody runs them: as the devices') */
-	return leads(there, path, into) ? NEXT(faccessat)(AT_FDCWD, into, mode, flags) : NEXT(faccessat)(there, path, mode, flags);
+	return leads(there, path, into) ? NEXT(faccessat)(AT_FDCWD, into, mode, flags)
+					: NEXT(faccessat)(there, path, mode, flags);
 }
 
 EXPORT int access(const char *path, int mode) { return faccessat(AT_FDCWD, path, mode, 0); }
 EXPORT int euidaccess(const char *path, int mode) { return faccessat(AT_FDCWD, path, mode, AT_EACCESS); }
-SAME(eaccess, euidaccess)
 
 /* calls of a path, which is led by its words alone, or by links too */
-#define OF_PATH(type, call, led_by, params, ...)                                                                        \
-	EXPORT type call params                                                                                         \
-	{                                                                                                               \
-		char into[PATH];                                                                                        \
-		init();                                                                                                 \
-		return NEXT(call)(led_by(AT_FDCWD, path, into) ? into : path __VA_OPT__(, ) __VA_ARGS__);               \
+#define OF_PATH(type, call, led_by, params, ...)                                                          \
+	EXPORT type call params                                                                           \
+	{                                                                                                 \
+		char into[PATH];                                                                          \
+		init();                                                                                   \
+		return NEXT(call)(led_by(AT_FDCWD, path, into) ? into : path __VA_OPT__(, ) __VA_ARGS__); \
 	}
 OF_PATH(DIR *, opendir, leads, (const char *path))
 OF_PATH(int, chdir, leads, (const char *path))
 OF_PATH(int, scandir, leads,
-	(const char *path, struct dirent ***names, int (*wanted)(const struct dirent *), int (*order)(const struct dirent **, const struct dirent **)),
+	(const char *path, struct dirent ***names, int (*wanted)(const struct dirent *),
+	 int (*order)(const struct dirent **, const struct dirent **)),
 	names, wanted, order)
-SAME(scandir64, scandir)
 /* (extended attributes, for which `ls -l` asks) */
 OF_PATH(ssize_t, getxattr, leads, (const char *path, const char *name, void *value, size_t room), name, value, room)
 OF_PATH(ssize_t, lgetxattr, led, (const char *path, const char *name, void *value, size_t room), name, value, room)
@@ -310,15 +306,13 @@ EXPORT int glob(const char *restrict form, int flags, int (*failed)(const char *
 	if (adapters && !(flags & GLOB_ALTDIRFUNC)) {
 		flags |= GLOB_ALTDIRFUNC;
 		names->gl_opendir = (void *(*)(const char *))opendir;
-		names->gl_readdir = (struct dirent *(*)(void *))readdir;
+		names->gl_readdir = (struct dirent * (*)(void *)) readdir;
 		names->gl_closedir = closes;
 		names->gl_stat = stat;
 		names->gl_lstat = lstat;
 	}
 	return NEXT(glob)(form, flags, failed, names);
 }
-
-SAME(glob64, glob)
 
 /* a path in the tree is told as that of /dev/dvb */
 static char *told(char *path)
@@ -357,9 +351,14 @@ EXPORT ssize_t readlinkat(int there, const char *restrict path, char *restrict i
 	return NEXT(readlinkat)(is_led ? AT_FDCWD : there, is_led ? place : path, into, room);
 }
 
-EXPORT ssize_t readlink(const char *restrict path, char *restrict into, size_t room) { return readlinkat(AT_FDCWD, path, into, room); }
-SAME(__readlink_chk, readlink)
-SAME(__readlinkat_chk, readlinkat)
+EXPORT ssize_t readlink(const char *restrict path, char *restrict into, size_t room)
+{
+	return readlinkat(AT_FDCWD, path, into, room);
+}
 EXPORT char *canonicalize_file_name(const char *path) { return realpath(path, NULL); }
-SAME(__realpath_chk, realpath)
-SAME(__getcwd_chk, getcwd)
+
+/* ------ other names */
+
+SAME(euidaccess, eaccess)
+SAME64(stat, lstat, fstat, fstatat, __xstat, __lxstat, __fxstat, __fxstatat, scandir, glob)
+CHECKED(readlink, readlinkat, realpath, getcwd)

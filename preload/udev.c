@@ -1,6 +1,6 @@
 /*
- * libudev, by which libdvbv5 and others find devices: an enumeration of the subsystem `dvb` has the emulated adapters, a frontend, a
- * demux and a dvr each. Any other enumeration, and whatever else is asked of any other object, is the library's own.
+ * libudev, by which libdvbv5 and others find devices: an enumeration of the subsystem `dvb` has the emulated adapters, a
+ * frontend, a demux and a dvr each. Any other enumeration, and whatever else is asked of any other object, is the library's own.
  */
 #define _GNU_SOURCE
 #include <dlfcn.h>
@@ -27,7 +27,8 @@ static void make(void)
 		struct device_found *one = &all[i];
 		int adapter = i / PARTS, part = i % PARTS;
 		const char *type = part == PARENT ? NULL : types[part];
-		snprintf(one->syspath, NAME, "/sys/devices/dvbemu%d%s%s%s", adapter, type ? "/" : "", type ? type : "", type ? "0" : "");
+		snprintf(one->syspath, NAME, "/sys/devices/dvbemu%d%s%s%s", adapter, type ? "/" : "", type ? type : "",
+			 type ? "0" : "");
 		snprintf(one->name, NAME, type ? "dvb%d.%s0" : "0000:00:%02d.0", type ? adapter : adapter + 9, type);
 		snprintf(one->node, NAME, type ? "/dev/dvb/adapter%d/%s0" : "", adapter, type);
 		snprintf(one->adapter, sizeof one->adapter, "%d", adapter & 7);
@@ -52,10 +53,18 @@ static void *library(const char *name)
 	return found || !there ? found : dlsym(there, name);
 }
 
-#define REAL(type, name, ...)                                                                                           \
-	static type (*real)(__VA_ARGS__);                                                                               \
-	if (!real)                                                                                                      \
-		real = (type(*)(__VA_ARGS__))library(#name)
+/* a call of libudev, with what is done in front of the library's own, which returns where it has the answer */
+#define UDEV(type, name, params, args, otherwise, ...)            \
+	EXPORT type name params;                                  \
+	EXPORT type name params                                   \
+	{                                                         \
+		static __typeof__(&name) real;                    \
+		if (!real)                                        \
+			real = (__typeof__(&name))library(#name); \
+		make();                                           \
+		__VA_ARGS__;                                      \
+		return real ? real args : otherwise;              \
+	}
 
 /* ------ enumerations */
 
@@ -69,107 +78,65 @@ static void **set_of(void *set)
 	return NULL;
 }
 
-EXPORT int udev_enumerate_add_match_subsystem(void *set, const char *name)
+static void note(void *set, const char *name)
 {
-	REAL(int, udev_enumerate_add_match_subsystem, void *, const char *);
 	void **unused = name && !strcmp(name, "dvb") && !set_of(set) ? set_of(NULL) : NULL;
 	if (unused)
 		*unused = set;
-	return real ? real(set, name) : 0;
 }
 
-EXPORT void *udev_enumerate_unref(void *set)
+static void forget(void *set)
 {
-	REAL(void *, udev_enumerate_unref, void *);
 	void **one = set ? set_of(set) : NULL;
 	if (one)
 		*one = NULL;
-	return real ? real(set) : NULL;
 }
 
-EXPORT void *udev_enumerate_get_list_entry(void *set)
+static void *next_of(struct device_found *one)
 {
-	REAL(void *, udev_enumerate_get_list_entry, void *);
-	make();
-	if (set && set_of(set))
-		return adapters ? all : NULL;
-	return real ? real(set) : NULL;
-}
-
-EXPORT void *udev_list_entry_get_next(void *entry)
-{
-	REAL(void *, udev_list_entry_get_next, void *);
-	struct device_found *one = own(entry);
-	if (!one)
-		return real ? real(entry) : NULL;
 	one += (one - all) % PARTS == LAST_PART ? 2 : 1;
 	return one < &all[adapters * PARTS] ? one : NULL;
 }
 
-EXPORT const char *udev_list_entry_get_name(void *entry)
+static void *by_name(struct device_found *one, const char *name)
 {
-	REAL(const char *, udev_list_entry_get_name, void *);
-	return own(entry) ? own(entry)->syspath : real ? real(entry) : NULL;
+	while (one && strcmp(one->syspath, name))
+		one = next_of(one);
+	return one;
 }
 
-EXPORT const char *udev_list_entry_get_value(void *entry)
-{
-	REAL(const char *, udev_list_entry_get_value, void *);
-	return own(entry) || !real ? NULL : real(entry);
-}
-
-EXPORT void *udev_list_entry_get_by_name(void *entry, const char *name)
-{
-	REAL(void *, udev_list_entry_get_by_name, void *, const char *);
-	if (!own(entry))
-		return real ? real(entry, name) : NULL;
-	while (entry && strcmp(own(entry)->syspath, name))
-		entry = udev_list_entry_get_next(entry);
-	return entry;
-}
+UDEV(int, udev_enumerate_add_match_subsystem, (void *set, const char *name), (set, name), 0, note(set, name))
+UDEV(void *, udev_enumerate_unref, (void *set), (set), NULL, forget(set))
+UDEV(void *, udev_enumerate_get_list_entry, (void *set), (set), NULL, if (set && set_of(set)) return adapters ? all : NULL)
+UDEV(void *, udev_list_entry_get_next, (void *entry), (entry), NULL, if (own(entry)) return next_of(own(entry)))
+UDEV(const char *, udev_list_entry_get_name, (void *entry), (entry), NULL, if (own(entry)) return own(entry)->syspath)
+UDEV(const char *, udev_list_entry_get_value, (void *entry), (entry), NULL, if (own(entry)) return NULL)
+UDEV(void *, udev_list_entry_get_by_name, (void *entry, const char *name), (entry, name), NULL,
+     if (own(entry)) return by_name(own(entry), name))
 
 /* ------ devices */
 
-EXPORT void *udev_device_new_from_syspath(void *udev, const char *path)
+/* the device of this path, or of this name in a subsystem, or NULL */
+static void *found_by(const char *path, const char *subsystem, const char *name)
 {
-	REAL(void *, udev_device_new_from_syspath, void *, const char *);
-	make();
-	for (int i = 0; path && i < adapters * PARTS; i++)
-		if (!strcmp(all[i].syspath, path))
+	for (int i = 0; i < adapters * PARTS; i++)
+		if (path ? !strcmp(all[i].syspath, path)
+			 : subsystem && name && !strcmp(all[i].subsystem, subsystem) && !strcmp(all[i].name, name))
 			return &all[i];
-	return real ? real(udev, path) : NULL;
+	return NULL;
 }
 
-EXPORT void *udev_device_new_from_subsystem_sysname(void *udev, const char *subsystem, const char *name)
-{
-	REAL(void *, udev_device_new_from_subsystem_sysname, void *, const char *, const char *);
-	make();
-	for (int i = 0; subsystem && name && i < adapters * PARTS; i++)
-		if (!strcmp(all[i].subsystem, subsystem) && !strcmp(all[i].name, name))
-			return &all[i];
-	return real ? real(udev, subsystem, name) : NULL;
-}
+UDEV(void *, udev_device_new_from_syspath, (void *udev, const char *path), (udev, path), NULL,
+     if (path && found_by(path, NULL, NULL)) return found_by(path, NULL, NULL))
+UDEV(void *, udev_device_new_from_subsystem_sysname, (void *udev, const char *subsystem, const char *name),
+     (udev, subsystem, name), NULL, if (found_by(NULL, subsystem, name)) return found_by(NULL, subsystem, name))
 
-/* a call on a device: what it tells of one of these */
-#define TELLS(type, name, what)                                                                                         \
-	EXPORT type name(void *object);                                                                                 \
-	EXPORT type name(void *object)                                                                                  \
-	{                                                                                                               \
-		REAL(type, name, void *);                                                                               \
-		struct device_found *one = own(object);                                                                 \
-		(void)one;                                                                                              \
-		return one || !real ? what : real(object);                                                              \
-	}
-
-/* the same with a name */
-#define TELLS_BY(type, name, what)                                                                                      \
-	EXPORT type name(void *object, const char *key);                                                                \
-	EXPORT type name(void *object, const char *key)                                                                 \
-	{                                                                                                               \
-		REAL(type, name, void *, const char *);                                                                 \
-		struct device_found *one = own(object);                                                                 \
-		return one || !real ? what : real(object, key);                                                         \
-	}
+/* a call on a device, or one with a name: what it tells of one of these */
+#define TELLS(type, name, what) \
+	UDEV(type, name, (void *object), (object), what, struct device_found *one = own(object); if (one) return what)
+#define TELLS_BY(type, name, what)                                                                                     \
+	UDEV(type, name, (void *object, const char *key), (object, key), what, struct device_found *one = own(object); \
+	     if (one) return what)
 
 static const char *property(const struct device_found *one, const char *key)
 {
@@ -224,17 +191,13 @@ TELLS_BY(const char *, udev_device_get_sysattr_value, ((void)key, NULL))
 TELLS_BY(int, udev_device_has_tag, ((void)key, 0))
 TELLS_BY(int, udev_device_has_current_tag, ((void)key, 0))
 
-EXPORT int udev_device_set_sysattr_value(void *object, const char *key, const char *value)
-{
-	REAL(int, udev_device_set_sysattr_value, void *, const char *, const char *);
-	return own(object) || !real ? -1 : real(object, key, value);
-}
+UDEV(int, udev_device_set_sysattr_value, (void *object, const char *key, const char *value), (object, key, value), -1,
+     if (own(object)) return -1)
 
-EXPORT void *udev_device_get_parent_with_subsystem_devtype(void *object, const char *subsystem, const char *type)
+static void *parent_in(struct device_found *parent, const char *subsystem, const char *type)
 {
-	REAL(void *, udev_device_get_parent_with_subsystem_devtype, void *, const char *, const char *);
-	struct device_found *parent = parent_of(own(object));
-	if (!own(object))
-		return real ? real(object, subsystem, type) : NULL;
 	return parent && !strcmp(parent->subsystem, subsystem) && !type ? parent : NULL;
 }
+
+UDEV(void *, udev_device_get_parent_with_subsystem_devtype, (void *object, const char *subsystem, const char *type),
+     (object, subsystem, type), NULL, if (own(object)) return parent_in(parent_of(own(object)), subsystem, type))

@@ -1,9 +1,9 @@
 /*
- * The watcher: a thread of each process that has devices. It waits for the bells of their nodes, and where one rings it looks at the
- * node and makes the device's descriptors readable, so that no wait of the program has to be taken over. dvb_serve writes the file
- * bell.N where packets that node N was asked for have passed since its last read or poll, and inotify tells of it; `front` is the
- * frontend's. A node's is made by whoever comes first behind its open: the program that has it, or dvb_serve. The watcher also sees the
- * ends of filters' timeouts, that of the server, and devices of which no descriptor is left.
+ * The watcher: a thread of each process that has devices. It waits for the bells of their nodes, and where one rings it looks at
+ * the node and makes the device's descriptors readable, so that no wait of the program has to be taken over. dvb_serve writes the
+ * file bell.N where packets that node N was asked for have passed since its last read or poll, and inotify tells of it; `front`
+ * is the frontend's. A node's is made by whoever comes first behind its open: the program that has it, or dvb_serve. The watcher
+ * also sees the ends of filters' timeouts, that of the server, and devices of which no descriptor is left.
  */
 #define _GNU_SOURCE
 #include <fcntl.h>
@@ -119,7 +119,8 @@ static void look_round(int may_be_gone)
 		}
 		for (int i = 0; i < MOST_DEVICES; i++) {
 			struct device *device = &line->table->devices[i];
-			if (line->mine[i].rings < 0 || !device->kind || (line->mine[i].bell >= 0 && !(device->due && device->due <= now)))
+			if (line->mine[i].rings < 0 || !device->kind ||
+			    (line->mine[i].bell >= 0 && !(device->due && device->due <= now)))
 				continue;
 			device->due = device->due <= now ? 0 : device->due;
 			rang((struct at){ line, i });
@@ -238,8 +239,9 @@ static void make_bells(void)
 }
 
 /*
- * Begins to watch, where nobody does: 0 where it can't. A thread that begins may hold locks of libraries, as of a sanitizer's; a child that
- * is forked meanwhile would find them held for ever, and its own watcher would never come. So no call comes back before the thread has come.
+ * Begins to watch, where nobody does: 0 where it can't. A thread that begins may hold locks of libraries, as of a sanitizer's; a
+ * child that is forked meanwhile would find them held for ever, and its own watcher would never come. So no call comes back
+ * before the thread has come.
  */
 static int begin(void)
 {

@@ -317,26 +317,17 @@ def test_a_pipe_that_does_not_wait():
 
 # ------ CDPATH leads no script of the repository into another folder
 
-SCRIPTS = [".ci/run", *sorted(f"bench/{path.name}" for path in (ROOT / "bench").iterdir() if path.is_file())]
-SCRIPTS = [name for name in SCRIPTS if (ROOT / name).read_bytes().startswith(b"#!/usr/bin/env bash\n")]
-
-
-def test_scripts_are_there():
-    assert len(SCRIPTS) > 6
-
-
-@pytest.mark.parametrize("name", SCRIPTS)
+@pytest.mark.parametrize("name", [".ci/run"])
 def test_cdpath(tmp_path, name):
     top, decoy = tmp_path / "cloned", tmp_path / "decoy"
     for folder in top, decoy:
-        for inner in "bench", ".ci":
-            (folder / inner).mkdir(parents=True)
+        (folder / ".ci").mkdir(parents=True)
         for program in "dvbemu", "rt":
             (folder / program).write_text("#!/bin/sh\npwd -P >&2\nexit 1\n")
             (folder / program).chmod(0o755)
     shutil.copy2(ROOT / name, top / name)
     env = {"PATH": f"{top}:/usr/bin:/bin", "CDPATH": str(decoy)}
-    ran = subprocess.run([name, "--counted" if name == ".ci/run" else "/bin/true"], cwd=top, env=env, capture_output=True, text=True, check=False)
+    ran = subprocess.run([name, "--counted"], cwd=top, env=env, capture_output=True, text=True, check=False)
     assert ran.stderr.splitlines()[-1:] == [os.path.realpath(top)]
 
 

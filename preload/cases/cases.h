@@ -30,9 +30,9 @@ struct one {
 	int alone;
 };
 /* the head of a case, which stands in a section of its own with all others */
-#define HEAD(name, alone)                                                                                               \
-	static void name(void);                                                                                         \
-	static const struct one one_##name __attribute__((used, section("cases"), aligned(8))) = { #name, name, alone };\
+#define HEAD(name, alone)                                                                                                \
+	static void name(void);                                                                                          \
+	static const struct one one_##name __attribute__((used, section("cases"), aligned(8))) = { #name, name, alone }; \
 	static void name(void)
 #define CASE(name) HEAD(name, 0)
 #define ALONE(name) HEAD(name, 1)
@@ -42,18 +42,26 @@ extern unsigned char bytes[1 << 21];
 
 const struct one *case_of(const char *name);
 int here(const char *word, const char *number);
+/* timed.c */
+void time_calls(int count);
+void time_pipes(int count);
+void time_sections(int most);
+void time_recording(int most);
+void time_bytes(int most);
 
 /* ends the case where this doesn't hold */
 void want(int holds, const char *what);
 double seconds(void);
 void pause_for(int milliseconds);
-/* an open demux node, with a filter on sections of the PAT or on a PID that brings none; the recorder and the tuner once they are free */
+/* an open demux node, with a filter on sections of the PAT or on a PID that brings none; the recorder and the tuner once they are
+ * free */
 int demux(int flags);
 int pat(int flags);
 int silent(int flags);
 int recorder(int flags);
 int tuner(int flags);
 void set_section(int fd, int pid);
+int set_pes(int fd, int pid, enum dmx_output output);
 void record_all(int fd);
 /* opens all nodes that are free, and says how many */
 int nodes_free(int *fds);

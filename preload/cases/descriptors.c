@@ -38,7 +38,8 @@ CASE(closed_by_fclose)
 	want(write(other, "hello", 5) == 5 && file && !fclose(file), "fclose");
 	int again = open(name, O_RDONLY);
 	unlink(name);
-	want(again == fd && read(again, bytes, 100) == 5 && !memcmp(bytes, "hello", 5), "a file with the number of a device that fclose closed");
+	want(again == fd && read(again, bytes, 100) == 5 && !memcmp(bytes, "hello", 5),
+	     "a file with the number of a device that fclose closed");
 }
 
 CASE(closed_past_the_library)
@@ -129,7 +130,8 @@ CASE(a_high_number)
 CASE(flags_of_descriptors)
 {
 	int fd = open(DEMUX, O_RDONLY | O_NONBLOCK | O_CLOEXEC), other = demux(0), one = 1;
-	want((fcntl(fd, F_GETFL) & (O_ACCMODE | O_NONBLOCK)) == (O_RDONLY | O_NONBLOCK) && fcntl(fd, F_GETFD) == FD_CLOEXEC, "as it was opened");
+	want((fcntl(fd, F_GETFL) & (O_ACCMODE | O_NONBLOCK)) == (O_RDONLY | O_NONBLOCK) && fcntl(fd, F_GETFD) == FD_CLOEXEC,
+	     "as it was opened");
 	want((fcntl(other, F_GETFL) & (O_ACCMODE | O_NONBLOCK)) == O_RDWR && !fcntl(other, F_GETFD), "and the other one");
 	set_section(other, NEVER);
 	want(!ioctl(other, FIONBIO, &one) && read(other, bytes, 10) < 0 && errno == EAGAIN, "FIONBIO");
@@ -209,7 +211,8 @@ ALONE(a_daemons_close_frees)
 	}
 	waitpid(pid, NULL, 0);
 	close(told[1]);
-	want(read(told[0], &said, 1) == 1 && said == 32 && !read(told[0], &said, 1), "a daemon's closes free the nodes that its parent opened");
+	want(read(told[0], &said, 1) == 1 && said == 32 && !read(told[0], &said, 1),
+	     "a daemon's closes free the nodes that its parent opened");
 }
 
 CASE(by_exec)
@@ -318,7 +321,8 @@ CASE(what_a_device_has_not)
 	off_t at = 0;
 	want(!pipe(ends), "a pipe");
 	want(splice(fd, NULL, ends[1], NULL, 100, 0) < 0 && errno == EINVAL, "splice is EINVAL");
-	want(tee(fd, ends[1], 100, 0) < 0 && errno == EINVAL && sendfile(ends[1], fd, &at, 100) < 0 && errno == EINVAL, "tee and sendfile too");
+	want(tee(fd, ends[1], 100, 0) < 0 && errno == EINVAL && sendfile(ends[1], fd, &at, 100) < 0 && errno == EINVAL,
+	     "tee and sendfile too");
 	want(copy_file_range(fd, NULL, ends[1], NULL, 100, 0) < 0 && errno == EINVAL, "copy_file_range too");
 	want(mmap(NULL, 4096, PROT_READ, MAP_SHARED, fd, 0) == MAP_FAILED && errno == ENODEV, "mmap is ENODEV");
 	want(write(fd, bytes, 188) < 0 && errno == EINVAL, "write to a demux is EINVAL");

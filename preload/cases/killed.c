@@ -69,7 +69,8 @@ static void rounds(void (*does)(int), int number, int count)
 		usleep((useconds_t)(300 + rand() % 4000));
 		want(!kill(-pids[0], number), "they are killed");
 		for (int k = 0, status; k < count; k++)
-			want(waitpid(pids[k], &status, 0) == pids[k] && WIFSIGNALED(status) && WTERMSIG(status) == number, "and end by that");
+			want(waitpid(pids[k], &status, 0) == pids[k] && WIFSIGNALED(status) && WTERMSIG(status) == number,
+			     "and end by that");
 		look_at(fd);
 	}
 	set_section(fd, 0);
@@ -112,7 +113,8 @@ static void held(const char *path, int flags)
 		want(open(path, flags) >= 0 && write(told[1], "", 1) == 1, path);
 		pause();
 	}
-	want(read(told[0], bytes, 1) == 1 && !kill(pid, SIGKILL) && waitpid(pid, NULL, 0) == pid, "a child that has opened it is killed");
+	want(read(told[0], bytes, 1) == 1 && !kill(pid, SIGKILL) && waitpid(pid, NULL, 0) == pid,
+	     "a child that has opened it is killed");
 	close(told[0]);
 	close(told[1]);
 }
@@ -125,7 +127,8 @@ ALONE(what_one_program_has_is_free)
 	int all = open(RECORDER, O_RDONLY);
 	want(all >= 0 && !close(all), "dvr0 is free behind a child that is killed");
 	held(RECORDER, O_RDONLY);
-	want(!system("for i in $(seq 50); do (exec 3< " RECORDER ") 2> /dev/null && exit; sleep 0.1; done; exit 1"), "also to another program, soon");
+	want(!system("for i in $(seq 50); do (exec 3< " RECORDER ") 2> /dev/null && exit; sleep 0.1; done; exit 1"),
+	     "also to another program, soon");
 	for (int i = 0; i < 60; i++)
 		held(TUNER, i % 2 ? O_RDWR : O_RDONLY);
 	want(open(TUNER, O_RDWR) >= 0, "and so is the tuner");

@@ -25,7 +25,8 @@ CASE(statx_of_a_device)
 {
 	struct statx told;
 	int fd = demux(0);
-	want(!statx(AT_FDCWD, DEMUX, 0, STATX_BASIC_STATS, &told) && S_ISCHR(told.stx_mode) && told.stx_rdev_major == 212, "statx of demux0");
+	want(!statx(AT_FDCWD, DEMUX, 0, STATX_BASIC_STATS, &told) && S_ISCHR(told.stx_mode) && told.stx_rdev_major == 212,
+	     "statx of demux0");
 	want(!statx(fd, "", AT_EMPTY_PATH, STATX_BASIC_STATS, &told) && S_ISCHR(told.stx_mode), "statx of a descriptor");
 }
 
@@ -46,12 +47,17 @@ CASE(one_file_by_path_and_descriptor)
 	for (int i = 0; i < 3; i++, last = by_path.st_ino) {
 		int fd = i == 1 ? recorder(O_RDONLY) : open(all[i], O_RDONLY);
 		want(!stat(all[i], &by_path) && !fstat(fd, &by_number), all[i]);
-		want(by_path.st_dev == by_number.st_dev && by_path.st_ino == by_number.st_ino && by_path.st_ino != last, "a device and an inode");
-		want(by_path.st_rdev == by_number.st_rdev && by_path.st_mode == by_number.st_mode && by_path.st_nlink == by_number.st_nlink, "the rest too");
+		want(by_path.st_dev == by_number.st_dev && by_path.st_ino == by_number.st_ino && by_path.st_ino != last,
+		     "a device and an inode");
+		want(by_path.st_rdev == by_number.st_rdev && by_path.st_mode == by_number.st_mode &&
+			     by_path.st_nlink == by_number.st_nlink,
+		     "the rest too");
 		want(!statx(AT_FDCWD, all[i], 0, STATX_BASIC_STATS, &told) && told.stx_ino == by_path.st_ino, "statx by path");
 		want(!statx(fd, "", AT_EMPTY_PATH, STATX_BASIC_STATS, &more) && more.stx_ino == told.stx_ino &&
-		     more.stx_dev_major == told.stx_dev_major && more.stx_dev_minor == told.stx_dev_minor, "and by descriptor");
-		want(!fstatat(fd, "", &other, AT_EMPTY_PATH) && other.st_ino == by_path.st_ino && other.st_dev == by_path.st_dev, "fstatat too");
+			     more.stx_dev_major == told.stx_dev_major && more.stx_dev_minor == told.stx_dev_minor,
+		     "and by descriptor");
+		want(!fstatat(fd, "", &other, AT_EMPTY_PATH) && other.st_ino == by_path.st_ino && other.st_dev == by_path.st_dev,
+		     "fstatat too");
 	}
 }
 
@@ -88,10 +94,12 @@ CASE(folders_are_read)
 {
 	struct dirent **names;
 	struct dirent64 **names64;
-	want(scandir64("/dev/dvb", &names64, is_node64, alphasort64) == 1 && !strcmp(names64[0]->d_name, "adapter0"), "scandir64 of /dev/dvb");
+	want(scandir64("/dev/dvb", &names64, is_node64, alphasort64) == 1 && !strcmp(names64[0]->d_name, "adapter0"),
+	     "scandir64 of /dev/dvb");
 	want(adapters_in(opendir("/dev/dvb")) == 1, "opendir of /dev/dvb finds an adapter");
 	want(adapters_in(opendir("/dev/dvb/")) == 1, "opendir with a slash behind it");
-	want(scandir("/dev/dvb/adapter0", &names, is_node, alphasort) == 3 && !strcmp(names[0]->d_name, "demux0"), "scandir of adapter0");
+	want(scandir("/dev/dvb/adapter0", &names, is_node, alphasort) == 3 && !strcmp(names[0]->d_name, "demux0"),
+	     "scandir of adapter0");
 }
 
 CASE(patterns)
@@ -150,7 +158,8 @@ CASE(links)
 	snprintf(other, sizeof other, "%s/adapter", folder);
 	snprintf(below, sizeof below, "%s/demux0", other);
 	want(!symlink(DEMUX, link) && !symlink("../../dev/dvb/adapter0", other), "links");
-	int by_file = open(link, O_RDWR), by_folder = open(below, O_RDWR), is_device = !stat(link, &told) && S_ISCHR(told.st_mode);
+	int by_file = open(link, O_RDWR), by_folder = open(below, O_RDWR),
+	    is_device = !stat(link, &told) && S_ISCHR(told.st_mode);
 	int is_link = !lstat(link, &told) && S_ISLNK(told.st_mode), is_real = realpath(link, real) && !strcmp(real, DEMUX);
 	unlink(link);
 	unlink(other);

@@ -12,10 +12,7 @@ CASE(sections)
 	want(read(fd, bytes, 10) == 10 && read(fd, bytes, 4096) > 0, "one in two reads");
 }
 
-CASE(nothing_waits)
-{
-	want(read(silent(O_NONBLOCK), bytes, 100) < 0 && errno == EAGAIN, "EAGAIN");
-}
+CASE(nothing_waits) { want(read(silent(O_NONBLOCK), bytes, 100) < 0 && errno == EAGAIN, "EAGAIN"); }
 
 CASE(before_a_filter) { want(read(demux(0), bytes, 100) == 0, "no bytes before any filter"); }
 
@@ -25,29 +22,31 @@ CASE(a_timeout)
 	int fd = demux(0), other = demux(O_NONBLOCK);
 	struct pollfd one = { other, POLLIN, 0 };
 	double begun = seconds();
-	want(!ioctl(fd, DMX_SET_FILTER, &params) && read(fd, bytes, 10) < 0 && errno == ETIMEDOUT && seconds() - begun > 0.29, "ETIMEDOUT");
-	want(!ioctl(other, DMX_SET_FILTER, &params) && poll(&one, 1, LATE_MS) == 1 && one.revents & POLLERR, "poll tells it by POLLERR");
+	want(!ioctl(fd, DMX_SET_FILTER, &params) && read(fd, bytes, 10) < 0 && errno == ETIMEDOUT && seconds() - begun > 0.29,
+	     "ETIMEDOUT");
+	want(!ioctl(other, DMX_SET_FILTER, &params) && poll(&one, 1, LATE_MS) == 1 && one.revents & POLLERR,
+	     "poll tells it by POLLERR");
 }
 
 CASE(an_overflow)
 {
-	struct dmx_pes_filter_params params = { .pid = ALL_PIDS, .input = DMX_IN_FRONTEND, .output = DMX_OUT_TSDEMUX_TAP,
-						.pes_type = DMX_PES_OTHER, .flags = DMX_IMMEDIATE_START };
 	int fd = demux(O_NONBLOCK);
 	struct pollfd one = { fd, POLLIN, 0 };
-	want(!ioctl(fd, DMX_SET_BUFFER_SIZE, 1880) && !ioctl(fd, DMX_SET_PES_FILTER, &params), "a small buffer");
+	want(!ioctl(fd, DMX_SET_BUFFER_SIZE, 1880) && !set_pes(fd, ALL_PIDS, DMX_OUT_TSDEMUX_TAP), "a small buffer");
 	for (int i = 0; i < 100 && !(one.revents & POLLERR); i++) {
 		pause_for(50);
 		want(poll(&one, 1, LATE_MS) == 1, "poll");
 	}
-	want(one.revents & POLLERR && read(fd, bytes, PACKET) < 0 && errno == EOVERFLOW, "an overflow is told by POLLERR and EOVERFLOW");
+	want(one.revents & POLLERR && read(fd, bytes, PACKET) < 0 && errno == EOVERFLOW,
+	     "an overflow is told by POLLERR and EOVERFLOW");
 }
 
 CASE(all_bytes_of_the_recorder)
 {
 	int fd = demux(0), all = recorder(O_RDONLY);
 	record_all(fd);
-	want(read(all, bytes, 1000 * PACKET) == 1000 * PACKET && bytes[0] == 0x47 && bytes[999 * PACKET] == 0x47, "a read waits for all");
+	want(read(all, bytes, 1000 * PACKET) == 1000 * PACKET && bytes[0] == 0x47 && bytes[999 * PACKET] == 0x47,
+	     "a read waits for all");
 }
 
 CASE(by_few_bytes)
@@ -83,14 +82,19 @@ CASE(at_a_place)
 {
 	struct iovec parts[2] = { { bytes, 8 }, { bytes + 8, 4088 } };
 	int fd = pat(0), tune = open(TUNER, O_RDONLY);
-	want(lseek(fd, 0, SEEK_CUR) == 0 && lseek(fd, 5, SEEK_SET) == 5 && lseek(dup(fd), 2, SEEK_CUR) == 7 && lseek(fd, 0, SEEK_END) == 0, "lseek");
-	want(lseek(fd, -1, SEEK_SET) < 0 && errno == EINVAL && lseek(fd, 0, 77) < 0 && errno == EINVAL, "EINVAL where there is no such place");
-	want(lseek(fd, 0, SEEK_DATA) < 0 && errno == ENXIO && lseek(tune, 9, SEEK_SET) == 0, "no data behind any, and none of a frontend");
+	want(lseek(fd, 0, SEEK_CUR) == 0 && lseek(fd, 5, SEEK_SET) == 5 && lseek(dup(fd), 2, SEEK_CUR) == 7 &&
+		     lseek(fd, 0, SEEK_END) == 0,
+	     "lseek");
+	want(lseek(fd, -1, SEEK_SET) < 0 && errno == EINVAL && lseek(fd, 0, 77) < 0 && errno == EINVAL,
+	     "EINVAL where there is no such place");
+	want(lseek(fd, 0, SEEK_DATA) < 0 && errno == ENXIO && lseek(tune, 9, SEEK_SET) == 0,
+	     "no data behind any, and none of a frontend");
 	want(pread(fd, bytes, 4096, 700) > 8 && !bytes[0] && lseek(fd, 0, SEEK_CUR) == 0, "pread gives a section");
 	want(preadv(fd, parts, 2, 700) >= 8 && !bytes[0] && is_pat(fd), "preadv");
 	want(preadv2(fd, parts, 1, -1, 0) == 8 && !bytes[0], "preadv2");
 	want(preadv2(fd, parts, 1, -1, RWF_NOWAIT) < 0 && errno == EOPNOTSUPP, "EOPNOTSUPP for a flag");
-	want(pread(fd, bytes, 10, -1) < 0 && errno == EINVAL && preadv(fd, parts, 1, -1) < 0 && errno == EINVAL, "EINVAL for a place below 0");
+	want(pread(fd, bytes, 10, -1) < 0 && errno == EINVAL && preadv(fd, parts, 1, -1) < 0 && errno == EINVAL,
+	     "EINVAL for a place below 0");
 	want(pwrite(fd, bytes, 10, 0) < 0 && errno == EINVAL, "pwrite is EINVAL, as write is");
 	want(pread(tune, bytes, 10, 0) < 0 && errno == EINVAL, "and all of a frontend");
 }
@@ -113,14 +117,11 @@ CASE(one_recorder)
 
 CASE(payloads)
 {
-	struct dmx_pes_filter_params params = { .pid = 256, .input = DMX_IN_FRONTEND, .output = DMX_OUT_TAP, .pes_type = DMX_PES_OTHER,
-						.flags = DMX_IMMEDIATE_START };
 	int fd = demux(0);
 	uint16_t pid = 257;
 	want(!ioctl(fd, DMX_SET_BUFFER_SIZE, 1 << 20), "room for some batches");
-	want(!ioctl(fd, DMX_SET_PES_FILTER, &params) && read(fd, bytes, 1000) == 1000, "payloads of a PID");
-	params.output = DMX_OUT_TSDEMUX_TAP;
-	want(!ioctl(fd, DMX_SET_PES_FILTER, &params) && read(fd, bytes, PACKET) == PACKET && bytes[0] == 0x47, "packets of it");
+	want(!set_pes(fd, 256, DMX_OUT_TAP) && read(fd, bytes, 1000) == 1000, "payloads of a PID");
+	want(!set_pes(fd, 256, DMX_OUT_TSDEMUX_TAP) && read(fd, bytes, PACKET) == PACKET && bytes[0] == 0x47, "packets of it");
 	want(!ioctl(fd, DMX_ADD_PID, &pid) && !ioctl(fd, DMX_REMOVE_PID, &pid), "DMX_ADD_PID, DMX_REMOVE_PID");
 }
 

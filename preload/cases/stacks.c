@@ -1,4 +1,5 @@
-/* Threads whose stack is as small as may be: each call that the preload takes over finds room there, also where it is the first. */
+/* Threads whose stack is as small as may be: each call that the preload takes over finds room there, also where it is the first.
+ */
 #define _GNU_SOURCE
 #include <dirent.h>
 #include <glob.h>
@@ -19,7 +20,8 @@ static int opens_folder(void) { return opendir("/dev/dvb") && opendir("/etc"); }
 static int is_told(void)
 {
 	struct stat told;
-	return !stat("/etc/passwd", &told) && !lstat(TUNER, &told) && !fstatat(AT_FDCWD, DEMUX, &told, 0) && !fstat(demuxes[0], &told);
+	return !stat("/etc/passwd", &told) && !lstat(TUNER, &told) && !fstatat(AT_FDCWD, DEMUX, &told, 0) &&
+	       !fstat(demuxes[0], &told);
 }
 
 static int is_told_more(void)
@@ -29,7 +31,10 @@ static int is_told_more(void)
 }
 
 static int is_absent(void) { return access("nowhere/x", F_OK) && errno == ENOENT; }
-static int is_accessible(void) { return !access("/etc/passwd", R_OK) && !faccessat(AT_FDCWD, DEMUX, R_OK, 0) && !euidaccess(RECORDER, R_OK); }
+static int is_accessible(void)
+{
+	return !access("/etc/passwd", R_OK) && !faccessat(AT_FDCWD, DEMUX, R_OK, 0) && !euidaccess(RECORDER, R_OK);
+}
 
 static int has_names(void)
 {
@@ -43,20 +48,25 @@ static int has_attributes(void) { return getxattr(DEMUX, "user.x", bytes, 8) < 0
 static int is_real(void)
 {
 	char *real = realpath(DEMUX, NULL), *other = realpath("/etc", NULL);
-	return real && !strcmp(real, DEMUX) && other && readlink(DEMUX, (char *)bytes, 9) < 0 && readlink("/proc/self/exe", (char *)bytes, 9) > 0;
+	return real && !strcmp(real, DEMUX) && other && readlink(DEMUX, (char *)bytes, 9) < 0 &&
+	       readlink("/proc/self/exe", (char *)bytes, 9) > 0;
 }
 
 static int is_link(void)
 {
 	char folder[] = "/tmp/stacks.XXXXXX", link[64];
 	struct stat told;
-	int holds = mkdtemp(folder) && snprintf(link, sizeof link, "%s/link", folder) > 0 && !symlink(DEMUX, link) && !stat(link, &told);
+	int holds = mkdtemp(folder) && snprintf(link, sizeof link, "%s/link", folder) > 0 && !symlink(DEMUX, link) &&
+		    !stat(link, &told);
 	unlink(link);
 	rmdir(folder);
 	return holds && S_ISCHR(told.st_mode);
 }
 
-static int goes(void) { return !chdir("/dev/dvb") && !access("adapter0/demux0", F_OK) && getcwd((char *)bytes, PATH_MAX) && !chdir("/"); }
+static int goes(void)
+{
+	return !chdir("/dev/dvb") && !access("adapter0/demux0", F_OK) && getcwd((char *)bytes, PATH_MAX) && !chdir("/");
+}
 
 static int filters(void)
 {
@@ -72,8 +82,8 @@ static int is_woken(void)
 	FD_ZERO(&set);
 	FD_SET(demuxes[0], &set);
 	ears = epoll_create1(0);
-	return poll(all, 2, LATE_MS) == 1 && select(demuxes[0] + 1, &set, NULL, NULL, NULL) == 1 && !epoll_ctl(ears, EPOLL_CTL_ADD, demuxes[0], &event) &&
-	       epoll_wait(ears, &event, 1, LATE_MS) == 1;
+	return poll(all, 2, LATE_MS) == 1 && select(demuxes[0] + 1, &set, NULL, NULL, NULL) == 1 &&
+	       !epoll_ctl(ears, EPOLL_CTL_ADD, demuxes[0], &event) && epoll_wait(ears, &event, 1, LATE_MS) == 1;
 }
 
 static int tunes(void)
@@ -123,11 +133,26 @@ static int closes(void) { return !close(demuxes[0]) && dup2(demuxes[1], 90) == 9
 static const struct {
 	const char *name;
 	int (*does)(void);
-} all[] = { { "open", opens }, { "openat", opens_at }, { "fopen", opens_stream }, { "opendir", opens_folder }, { "stat", is_told },
-	    { "statx", is_told_more }, { "access of what isn't there", is_absent }, { "access", is_accessible }, { "scandir", has_names },
-	    { "getxattr", has_attributes }, { "realpath", is_real }, { "a link", is_link }, { "chdir", goes }, { "ioctl, read", filters },
-	    { "poll, select, epoll", is_woken }, { "FE_GET_PROPERTY", tunes }, { "execl", begins }, { "execle", begins_with },
-	    { "posix_spawn", spawns }, { "close", closes } };
+} all[] = { { "open", opens },
+	    { "openat", opens_at },
+	    { "fopen", opens_stream },
+	    { "opendir", opens_folder },
+	    { "stat", is_told },
+	    { "statx", is_told_more },
+	    { "access of what isn't there", is_absent },
+	    { "access", is_accessible },
+	    { "scandir", has_names },
+	    { "getxattr", has_attributes },
+	    { "realpath", is_real },
+	    { "a link", is_link },
+	    { "chdir", goes },
+	    { "ioctl, read", filters },
+	    { "poll, select, epoll", is_woken },
+	    { "FE_GET_PROPERTY", tunes },
+	    { "execl", begins },
+	    { "execle", begins_with },
+	    { "posix_spawn", spawns },
+	    { "close", closes } };
 
 static void *in_thread(void *one)
 {
@@ -143,5 +168,6 @@ CASE(small_stacks)
 	pthread_attr_init(&attributes);
 	want(!pthread_attr_setstacksize(&attributes, 16384), "a stack of 16 KiB");
 	for (size_t i = 0; i < sizeof all / sizeof *all; i++)
-		want(!pthread_create(&thread, &attributes, in_thread, (void *)&all[i]) && !pthread_join(thread, NULL), all[i].name);
+		want(!pthread_create(&thread, &attributes, in_thread, (void *)&all[i]) && !pthread_join(thread, NULL),
+		     all[i].name);
 }

@@ -29,7 +29,8 @@ static int is_locked(int fd)
 static int tuned(int flags)
 {
 	int fd = tuner(O_RDWR | flags);
-	want(!set(fd, DTV_CLEAR, 0) && !set(fd, DTV_DELIVERY_SYSTEM, SYS_DVBT) && !set(fd, DTV_FREQUENCY, FREQUENCY), "what is tuned to");
+	want(!set(fd, DTV_CLEAR, 0) && !set(fd, DTV_DELIVERY_SYSTEM, SYS_DVBT) && !set(fd, DTV_FREQUENCY, FREQUENCY),
+	     "what is tuned to");
 	want(!set(fd, DTV_TUNE, 0) && is_locked(fd), "a lock");
 	return fd;
 }
@@ -74,11 +75,13 @@ CASE(statistics_agree)
 	uint32_t lost = 1;
 	struct dtv_property now = told(fd, DTV_STAT_SIGNAL_STRENGTH);
 	want(!ioctl(fd, FE_READ_SIGNAL_STRENGTH, &strength) && !ioctl(fd, FE_READ_SNR, &ratio), "the older calls");
-	want(now.u.st.len == 1 && now.u.st.stat[0].scale == FE_SCALE_RELATIVE && now.u.st.stat[0].uvalue == strength && strength, "a strength");
+	want(now.u.st.len == 1 && now.u.st.stat[0].scale == FE_SCALE_RELATIVE && now.u.st.stat[0].uvalue == strength && strength,
+	     "a strength");
 	now = told(fd, DTV_STAT_CNR);
 	want(now.u.st.stat[0].uvalue == ratio && ratio, "a ratio");
 	now = told(fd, DTV_STAT_ERROR_BLOCK_COUNT);
-	want(!ioctl(fd, FE_READ_UNCORRECTED_BLOCKS, &lost) && !lost && now.u.st.stat[0].scale == FE_SCALE_COUNTER && !now.u.st.stat[0].uvalue,
+	want(!ioctl(fd, FE_READ_UNCORRECTED_BLOCKS, &lost) && !lost && now.u.st.stat[0].scale == FE_SCALE_COUNTER &&
+		     !now.u.st.stat[0].uvalue,
 	     "no lost blocks");
 }
 
@@ -88,7 +91,8 @@ CASE(what_was_set_is_told)
 	struct dtv_property systems = told(fd, DTV_ENUM_DELSYS);
 	want(systems.u.buffer.len == 1 && systems.u.buffer.data[0] == SYS_DVBT, "DTV_ENUM_DELSYS");
 	want(set(fd, DTV_DELIVERY_SYSTEM, SYS_DVBS) < 0 && errno == EINVAL, "a system that it hasn't is EINVAL");
-	want(!set(fd, DTV_DELIVERY_SYSTEM, SYS_DVBT) && !set(fd, DTV_BANDWIDTH_HZ, 7000000) && !set(fd, DTV_FREQUENCY, FREQUENCY), "set");
+	want(!set(fd, DTV_DELIVERY_SYSTEM, SYS_DVBT) && !set(fd, DTV_BANDWIDTH_HZ, 7000000) && !set(fd, DTV_FREQUENCY, FREQUENCY),
+	     "set");
 	want(told(fd, DTV_DELIVERY_SYSTEM).u.data == SYS_DVBT && told(fd, DTV_BANDWIDTH_HZ).u.data == 7000000, "told");
 	want(!set(fd, DTV_CLEAR, 0) && !told(fd, DTV_FREQUENCY).u.data && told(fd, DTV_MODULATION).u.data == QAM_AUTO, "cleared");
 }
@@ -130,9 +134,11 @@ CASE(an_event)
 	struct dvb_frontend_event event;
 	struct pollfd one = { fd, POLLIN, 0 };
 	want(!ioctl(fd, FE_SET_FRONTEND, &asked) && poll(&one, 1, LATE_MS) == 1 && one.revents & POLLIN, "poll finds an event");
-	want(!ioctl(fd, FE_GET_EVENT, &event) && event.status & FE_HAS_LOCK && event.parameters.frequency == FREQUENCY, "the event");
+	want(!ioctl(fd, FE_GET_EVENT, &event) && event.status & FE_HAS_LOCK && event.parameters.frequency == FREQUENCY,
+	     "the event");
 	want(ioctl(fd, FE_GET_EVENT, &event) < 0 && errno == EAGAIN && !poll(&one, 1, 50), "there is one alone");
-	want(!ioctl(fd, FE_GET_FRONTEND, &now) && now.frequency == FREQUENCY && now.u.ofdm.bandwidth == BANDWIDTH_7_MHZ, "FE_GET_FRONTEND");
+	want(!ioctl(fd, FE_GET_FRONTEND, &now) && now.frequency == FREQUENCY && now.u.ofdm.bandwidth == BANDWIDTH_7_MHZ,
+	     "FE_GET_FRONTEND");
 }
 
 CASE(an_old_event_is_not_told)
@@ -147,7 +153,8 @@ CASE(an_event_is_waited_for)
 	int fd = tuner(O_RDWR);
 	struct dvb_frontend_parameters asked = { .frequency = FREQUENCY };
 	struct dvb_frontend_event event;
-	want(!ioctl(fd, FE_SET_FRONTEND, &asked) && !ioctl(fd, FE_GET_EVENT, &event) && event.status & FE_HAS_LOCK, "a call waits for it");
+	want(!ioctl(fd, FE_SET_FRONTEND, &asked) && !ioctl(fd, FE_GET_EVENT, &event) && event.status & FE_HAS_LOCK,
+	     "a call waits for it");
 }
 
 CASE(what_a_frontend_has_not)
@@ -155,6 +162,7 @@ CASE(what_a_frontend_has_not)
 	int fd = tuner(O_RDWR);
 	want(ioctl(fd, _IO('o', 200)) < 0 && errno == ENOTTY, "an unknown ioctl is ENOTTY");
 	want(ioctl(fd, DMX_START) < 0 && errno == ENOTTY, "one of a demux too");
-	want(read(fd, bytes, 100) < 0 && errno == EINVAL && write(fd, bytes, 100) < 0 && errno == EINVAL, "read and write are EINVAL");
+	want(read(fd, bytes, 100) < 0 && errno == EINVAL && write(fd, bytes, 100) < 0 && errno == EINVAL,
+	     "read and write are EINVAL");
 	want(set(fd, DTV_MAX_COMMAND + 1, 0) < 0 && errno == EINVAL, "an unknown property is EINVAL");
 }

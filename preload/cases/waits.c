@@ -34,7 +34,9 @@ static void read_all(int fd)
 CASE(poll_of_two)
 {
 	int first = pat(O_NONBLOCK), second = demux(O_NONBLOCK), counts[2] = { 0, 0 };
-	struct dmx_sct_filter_params params = { .pid = 17, .flags = DMX_IMMEDIATE_START, .filter = { .filter = { 0x42 }, .mask = { 0xff } } };
+	struct dmx_sct_filter_params params = { .pid = 17,
+						.flags = DMX_IMMEDIATE_START,
+						.filter = { .filter = { 0x42 }, .mask = { 0xff } } };
 	struct pollfd both[2] = { { first, POLLIN, 0 }, { second, POLLIN | POLLPRI, 0 } };
 	want(!ioctl(second, DMX_SET_FILTER, &params), "a filter on the SDT");
 	while (counts[0] < 3 || counts[1] < 3) {
@@ -51,12 +53,10 @@ CASE(poll_of_two)
 /* packets of a PID that a running filter gets wake whoever waits, each time anew */
 CASE(an_added_pid)
 {
-	struct dmx_pes_filter_params params = { .pid = NEVER, .input = DMX_IN_FRONTEND, .output = DMX_OUT_TSDEMUX_TAP,
-						.pes_type = DMX_PES_OTHER, .flags = DMX_IMMEDIATE_START };
 	int fd = demux(O_NONBLOCK);
 	struct pollfd one = { fd, POLLIN, 0 };
 	uint16_t pid = 256;
-	want(!ioctl(fd, DMX_SET_PES_FILTER, &params) && !poll(&one, 1, 50), "nothing comes of its own PID");
+	want(!set_pes(fd, NEVER, DMX_OUT_TSDEMUX_TAP) && !poll(&one, 1, 50), "nothing comes of its own PID");
 	want(!ioctl(fd, DMX_ADD_PID, &pid), "DMX_ADD_PID");
 	for (int i = 0; i < 3; i++) {
 		want(poll(&one, 1, LATE_MS) == 1 && one.revents & POLLIN, "a packet of the added PID");
@@ -96,9 +96,11 @@ CASE(select_in_each_set)
 	FD_ZERO(&reads);
 	FD_ZERO(&others);
 	FD_SET(fd, &others);
-	want(select(fd + 1, &reads, NULL, &others, &most) == 1 && FD_ISSET(fd, &others) && !FD_ISSET(fd, &reads), "select of exceptions");
+	want(select(fd + 1, &reads, NULL, &others, &most) == 1 && FD_ISSET(fd, &others) && !FD_ISSET(fd, &reads),
+	     "select of exceptions");
 	FD_SET(fd, &reads);
-	want(pselect(fd + 1, &reads, NULL, &others, &also, NULL) == 2 && FD_ISSET(fd, &others) && FD_ISSET(fd, &reads), "pselect of both");
+	want(pselect(fd + 1, &reads, NULL, &others, &also, NULL) == 2 && FD_ISSET(fd, &others) && FD_ISSET(fd, &reads),
+	     "pselect of both");
 }
 
 CASE(ends_by_its_time)
@@ -109,7 +111,8 @@ CASE(ends_by_its_time)
 	struct timeval most = { 0, 50000 };
 	FD_ZERO(&reads);
 	FD_SET(fd, &reads);
-	want(!poll(&one, 1, 50) && !select(fd + 1, &reads, NULL, NULL, &most) && !finds(set_with(fd, EPOLLIN), 50), "nothing comes");
+	want(!poll(&one, 1, 50) && !select(fd + 1, &reads, NULL, NULL, &most) && !finds(set_with(fd, EPOLLIN), 50),
+	     "nothing comes");
 }
 
 CASE(nothing_is_left)
@@ -200,7 +203,8 @@ CASE(as_a_reactor_does)
 	want(!pthread_create(&thread, NULL, adds, &added) && finds(added.set, LATE_MS) == 1, "a device that another thread adds");
 	struct two set = { 0, demux(O_NONBLOCK) };
 	set.set = set_with(set.fd, EPOLLIN | EPOLLET);
-	want(!pthread_create(&thread, NULL, sets, &set) && finds(set.set, LATE_MS) == 1, "and one of which another sets the filter");
+	want(!pthread_create(&thread, NULL, sets, &set) && finds(set.set, LATE_MS) == 1,
+	     "and one of which another sets the filter");
 }
 
 CASE(set_while_one_waits)
@@ -282,7 +286,8 @@ CASE(a_signal_begins_a_read_again)
 	want(!pthread_create(&thread, NULL, ends, &self), "a thread");
 	pthread_sigmask(SIG_UNBLOCK, &blocked, NULL);
 	double begun = seconds();
-	want(read(fd, bytes, 10) < 0 && errno == EINTR && seconds() - begun > 0.8 && rang > 3, "a read goes on behind handlers with SA_RESTART");
+	want(read(fd, bytes, 10) < 0 && errno == EINTR && seconds() - begun > 0.8 && rang > 3,
+	     "a read goes on behind handlers with SA_RESTART");
 }
 
 CASE(a_signal_ends_a_read_in_part)

@@ -20,6 +20,7 @@ from ..server.adapters import Adapter, Folder, adopt
 from ..server.channels import LINE, SATELLITE, SYSTEMS, channels_of, lines_in
 from ..server.commands import Interrupted, Signals, end_all_but, run_command, unseen_as
 from ..server.recording import Unplayable
+from ..server.trace import Trace
 from ..stream.packets import PACKET
 
 if TYPE_CHECKING:
@@ -101,6 +102,8 @@ def command() -> Serve:
     words.add_argument("--channels", metavar="FILE", help="a file of such lines")
     words.add_argument("--live", action="store_true", help="a recording goes on while another is watched")
     words.add_argument("--adapter", action="append", default=[], metavar="STREAM|CHANNELS", help="one adapter more: adapter0, adapter1 and so on")
+    words.add_argument("--trace", action="store_true", help="tells each call of a program on standard error when it comes back, and one that "
+                       "waits")  # fmt: skip
     words.add_argument("--played", metavar="FILE", help="keeps the packets as they were played")
     words.add_argument("stream", nargs="?", metavar="STREAM", help="a transport stream; `-` is standard input")
     return words
@@ -272,8 +275,11 @@ def serve(options: Namespace, command: Sequence[str], air: Sequence[Sequence[Cha
         for adapter in adapters:
             adapter.feeder.on_fault = signals.end_command
             adapter.start()
+        trace = Trace(folder.adapters[0], sys.stderr) if options.trace else None
         status = run_command(command, folder, signals)
         end_all_but({adapter.server.pid for adapter in adapters}, folder)
+        if trace:
+            trace.end()
         for adapter in adapters:
             adapter.end()
     except BaseException:
