@@ -120,3 +120,20 @@ def test_timeouts_by_jiffies(hertz, timeout, over):
     """A timeout is over with the jiffy behind its own: of HZ 250 one of 10 ms, 2 jiffies, with the third that begins."""
     replies = [Run(Session.of(TIMED.format(timeout, moment).encode()), 1, (), hertz).lines().events[-1].reply for moment in (over - 1, over)]
     assert replies == ["again", "timedout"]
+
+
+# ------ docs/KERNEL.md
+
+TABLE = re.findall(r"^\| (.+?) \| (.+?) \| (.+?) \|$", PAGE.partition("## Different")[2].partition("\n## ")[0], re.M)[1:]
+
+
+def test_the_page_and_the_model_have_the_same_rows():
+    assert [row for row, _, _ in TABLE] == [point.row for point in Point]
+    assert len({point.row for point in Point}) == len(Point)
+
+
+@pytest.mark.parametrize("point, cells", zip(Point, TABLE), ids=[point.name for point in Point])
+def test_the_page_says_what_is_told(point, cells):
+    """The last cell begins with the words of the model, which fit on a line."""
+    assert cells[2] == point.says or cells[2].startswith(point.says + ". ")
+    assert len(f"    by '{point.row}': {point.says}") <= 150
