@@ -80,7 +80,7 @@ def test_no_other_session_stands_there():
 
 def here(session, batch, packet=188):
     """The replies here by the second program, as text."""
-    report = second.report(session, batch, packet).encode()
+    report = second.report(session, batch, packet).split("\n")
     return texts(events_here(report, Session.of(session, packet)))
 
 

@@ -12,7 +12,7 @@ from typing import TYPE_CHECKING, NamedTuple
 from .. import child, cli, inputs, progress, reports, tool
 from ..explain import played
 from ..inputs import LINE, many
-from ..linux.beside import MOST_BATCH, Beside, batch_of, events_here
+from ..linux.beside import MOST_BATCH, Beside, batch_of, events_here, told
 from ..linux.session import Session
 from . import session as sessions
 
@@ -24,9 +24,8 @@ if TYPE_CHECKING:
     from ..linux.parts import Reply
     from ..linux.points import Point
 
-# The errors by which replies are told, how many digits of data, how many changes of a line, and how many lines by the same rows.
-ERRORS = {"again": "EAGAIN", "overflow": "EOVERFLOW", "timedout": "ETIMEDOUT", "busy": "EBUSY"}
-DIGITS, CHANGES, LINES = 32, 3, 20
+# How many changes of a line are told, and how many lines by the same rows.
+CHANGES, LINES = 3, 20
 HERTZ = 1000, 250, 100
 
 
@@ -70,7 +69,7 @@ def given_by(words: tool.Command, given: Namespace, files: Sequence[inputs.Input
     if played.is_recording(texts[1]):
         return Given(served(words, files, texts), given.batch or MOST_BATCH, None)
     script = inputs.with_line(texts[1]) if texts[2:] else texts[1]
-    return Given(b"".join([script, *texts[2:]]), given.batch or batch_of(texts[0]), texts[0])
+    return Given(b"".join([script, *texts[2:]]), given.batch or batch_of(texts[0].decode("latin-1").split("\n")), texts[0])
 
 
 def served(words: tool.Command, files: Sequence[inputs.Input], texts: Sequence[bytes]) -> bytes:
@@ -99,26 +98,10 @@ def compared(words: tool.Command, given: Namespace, files: Sequence[inputs.Input
     if found.report is not None and found.report != run.output:
         words.fail(f"{files[0].name}: it isn't the report of `steps` over this session; without it the session alone is compared")
     session = Session.of(found.session, size)
-    return Beside(session, events_here(run.output, session), found.batch, given.hz)
+    return Beside(session, events_here(run.output.decode("latin-1").split("\n"), session), found.batch, given.hz)
 
 
 # ------ what is told
-
-
-def spoken(reply: Reply) -> str:
-    """A reply as it is told."""
-    if isinstance(reply, bytes):
-        digits = reply[: DIGITS // 2].hex()
-        return many(len(reply), "byte") + (f": {digits}" if reply else "") + (".." if len(reply) > DIGITS // 2 else "")
-    if reply.startswith("ready"):
-        is_readable, is_wrong = reply[-9] == "1", reply[-1] == "1"
-        return "poll: " + ("POLLIN" + " POLLERR" * is_wrong if is_readable else "nothing")
-    return ERRORS.get(reply, reply)
-
-
-def told(found: Sequence[Reply]) -> str:
-    """Replies as they are told: the first, and how many more there are."""
-    return "no call" if not found else spoken(found[0]) + (f", and {len(found) - 1:,} more" if found[1:] else "")
 
 
 def change_lines(changes: Sequence[Change], count: int) -> Iterator[str]:

@@ -4,29 +4,33 @@ A row is named for a line where the reply of Linux's rules is the one here once 
 from __future__ import annotations
 
 import re
+import struct
 from bisect import bisect_right
 from typing import TYPE_CHECKING, NamedTuple
 
 from .. import reports
+from ..inputs import many
 from ..reports import DVR
 from .adapter import HERTZ
-from .session import NO_NODE, Event, Run
+from .points import Point
+from .session import NO_NODE, Event, Run, Session
 
 if TYPE_CHECKING:
-    from typing import Dict, FrozenSet, Iterable, Iterator, List
+    from typing import Dict, FrozenSet, Iterable, Iterator, List, Sequence
 
     from .parts import Reply
-    from .points import Point
-    from .session import Session
 
     # The events of each line, by its number.
     Lines = Dict[int, List[Event]]
     Points = FrozenSet[Point]
 
 # How many packets a pass has in a report, and how many it may have.
-PASS, MOST_BATCH = re.compile(rb" pass input=frontend first=\d+ count=(\d+) "), 64
+PASS, MOST_BATCH = re.compile(r" pass input=frontend first=\d+ count=(\d+) "), 64
 # The most runs in which rows are sought, and how many replies are looked at to find where two rows of them go on alike.
 MOST_RUNS, AHEAD = 100, 16
+# The errors by which replies are told, and how many bytes of data are shown.
+ERRORS = {"again": "EAGAIN", "overflow": "EOVERFLOW", "timedout": "ETIMEDOUT", "busy": "EBUSY"}
+SHOWN = 16
 # The acts of clients that no program makes.
 OWN_ACTS = "attach", "detach", "pass"
 
@@ -34,9 +38,9 @@ OWN_ACTS = "attach", "detach", "pass"
 # ------ the replies here
 
 
-def batch_of(report: bytes) -> int:
-    """A batch by which `steps` comes to a report of its own."""
-    return max(map(int, PASS.findall(report)), default=MOST_BATCH)
+def batch_of(rows: Iterable[str]) -> int:
+    """A batch by which `steps` comes to a report of its own, which has these lines."""
+    return max((int(found[1]) for found in map(PASS.search, rows) if found), default=MOST_BATCH)
 
 
 def reply_here(text: str) -> Reply:
@@ -49,12 +53,12 @@ def reply_here(text: str) -> Reply:
     return name
 
 
-def events_here(report: bytes, session: Session) -> list[Event]:
-    """The calls of a report of `steps` in the order of the script's lines."""
+def events_here(report: Iterable[str], session: Session) -> list[Event]:
+    """The calls of a report of `steps`, which has these lines, in the order of the script's."""
     outcomes: list[tuple[int, reports.Outcome]] = []
     calls: dict[tuple[str, int], tuple[int, str, Reply, int]] = {}
     client, node, given = 0, NO_NODE, 0
-    for row in report.decode("latin-1").split("\n"):
+    for row in report:
         first, _, rest = row.partition(" ")
         if first == "client":
             client = int(rest)
@@ -85,6 +89,21 @@ def in_order(outcomes: Iterable[tuple[int, reports.Outcome]], calls: dict[tuple[
                 yield Event(outcome.line, client, *calls[f"c{client}", step])
         if outcome.kind != "done":
             yield Event(outcome.line, client, NO_NODE, "", outcome.kind, 0)
+
+
+def spoken(reply: Reply) -> str:
+    """A reply as it is told."""
+    if isinstance(reply, bytes):
+        return many(len(reply), "byte") + (f": {reply[:SHOWN].hex()}" if reply else "") + ".." * (len(reply) > SHOWN)
+    if reply.startswith("ready"):
+        is_readable, is_wrong = reply[-9] == "1", reply[-1] == "1"
+        return "poll: " + ("POLLIN" + " POLLERR" * is_wrong if is_readable else "nothing")
+    return ERRORS.get(reply, reply)
+
+
+def told(found: Sequence[Reply]) -> str:
+    """Replies as they are told: the first, and how many more there are."""
+    return "no call" if not found else spoken(found[0]) + (f", and {len(found) - 1:,} more" if found[1:] else "")
 
 
 # ------ both
@@ -213,3 +232,26 @@ class Beside:
         """How many packets had passed before a line, here and on Linux, where that differs."""
         one, two = self.here[line][0], self.there.get(line, self.here[line])[0]
         return (one.given, two.given) if one.given != two.given and one.node != NO_NODE else None
+
+
+def first_difference(report: reports.Report, text: bytes, packets: Sequence[bytes]) -> str:
+    """The first line of a session that Linux would answer otherwise than a report of it by `steps`, in a sentence. Nothing where there is none, or the
+    report is another one."""
+    try:
+        session = Session.of(text)._replace(packets=packets)
+        batch, here = batch_of(lines_of(report)), events_here(lines_of(report), session)
+    except (ValueError, KeyError, IndexError, struct.error):
+        return ""
+    both = Beside(session, here, batch)
+    if not both.differing or replies(Run(session, batch, Point).lines().events) != replies(here):
+        return ""
+    line, *others = both.differing
+    change, causes = both.changes(line)[0], both.causes(line)
+    by = f", by '{causes[0].point.row}' in line {causes[0].line}: {causes[0].point.says}" if causes else ""
+    more = f" `dvbemu beside SESSION` tells all {1 + len(others):,} such lines." if others else ""
+    return f"Line {line} is answered {told(change.there)}, and not {told(change.here)}{by}.{more}"
+
+
+def lines_of(report: reports.Report) -> Iterator[str]:
+    """The lines of a report."""
+    return (line.rstrip("\n") for line in reports.write(report))
