@@ -104,7 +104,7 @@ def compared(words: tool.Command, given: Namespace, files: Sequence[inputs.Input
 # ------ what is told
 
 
-def change_lines(changes: Sequence[Change], count: int) -> Iterator[str]:
+def change_lines(count: int, changes: Sequence[Change]) -> Iterator[str]:
     """What differs in a line that has so many replies here."""
     for change in changes[:CHANGES]:
         where = f"reply {change.place + 1:,} of {count:,}: " if count > 1 else ""
@@ -142,7 +142,7 @@ class Teller:
     def line(self, line: int, causes: Sequence[Cause]) -> Iterator[str]:
         """What is told of a line."""
         yield f"line {line}: {self.both.session.text[line - 1]}"
-        yield from change_lines(self.both.changes(line), len(self.both.here[line]))
+        yield from change_lines(*self.both.changes(line))
         for cause in causes:
             since = f", line {cause.line}" if cause.line != line else ""
             says = "" if cause.point in self.named else f": {cause.point.says}"
@@ -183,7 +183,7 @@ def objects(both: Beside) -> Iterator[str]:
     for line in both.differing:
         causes = both.causes(line)
         named |= dict.fromkeys(cause.point.row for cause in causes)
-        changes = [{"reply": place + 1, "here": list(map(plain, here)), "linux": list(map(plain, there))} for place, here, there in both.changes(line)]
+        changes = [{"reply": place + 1, "here": list(map(plain, here)), "linux": list(map(plain, there))} for place, here, there in both.changes(line)[1]]
         rows = [{"name": cause.point.row, "line": cause.line} for cause in causes]
         yield json.dumps({"kind": "difference", "line": line, "command": both.session.text[line - 1], "changes": changes, "rows": rows,
                           "packets": both.elsewhere(line)})  # fmt: skip

@@ -224,9 +224,12 @@ class Beside:
         self.together.append(gone)
         return gone
 
-    def changes(self, line: int) -> list[Change]:
-        """What differs in the replies of a line."""
-        return list(differences(replies(self.here[line]), replies(self.there.get(line, []))))
+    def changes(self, line: int) -> tuple[int, list[Change]]:
+        """How many replies a line has here, and what differs in them: without those by which a client waits, unless nothing else differs."""
+        both = replies(self.here[line]), replies(self.there.get(line, []))
+        found = [[reply for reply in some[:-1] if reply != "again"] + some[-1:] for some in both]
+        here, there = both if found[0] == found[1] else found
+        return len(here), list(differences(here, there))
 
     def elsewhere(self, line: int) -> tuple[int, int] | None:
         """How many packets had passed before a line, here and on Linux, where that differs."""
@@ -246,7 +249,7 @@ def first_difference(report: reports.Report, text: bytes, packets: Sequence[byte
     if not both.differing or replies(Run(session, batch, Point).lines().events) != replies(here):
         return ""
     line, *others = both.differing
-    change, causes = both.changes(line)[0], both.causes(line)
+    change, causes = both.changes(line)[1][0], both.causes(line)
     by = f", by '{causes[0].point.row}' in line {causes[0].line}: {causes[0].point.says}" if causes else ""
     more = f" `dvbemu beside SESSION` tells all {1 + len(others):,} such lines." if others else ""
     return f"Line {line} is answered {told(change.there)}, and not {told(change.here)}{by}.{more}"
