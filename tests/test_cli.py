@@ -25,7 +25,7 @@ ALONE = {
     "bytes": (1, "dvbemu bytes: standard input: line 1: expected"), "pace": (1, "dvbemu pace: standard input: fewer than two PCRs"),
     "json": (1, "dvbemu json: standard input: line 1: expected"), "page": (1, "dvbemu page: standard input: line 1: expected"),
     "serve": (2, "STREAM, COMMAND; -- stands in front of COMMAND"), "words": (0, ""),
-    "test": (2, "PATH"), "session": (2, "REPORT, STREAM"), "merge": (2, "FOLDER"),
+    "beside": (3, "dvbemu: script line 1: nostream"), "test": (2, "PATH"), "session": (2, "REPORT, STREAM"), "merge": (2, "FOLDER"),
     "packet": (2, "PID, COUNTER, KIND, BYTES"), "calls": (2, "PROGRAM"), "build": (2, "PROGRAM"),
 }  # fmt: skip
 # A word in the place of which a file stands, and the status where that isn't there, is a folder, or has random bytes. Those that read no
@@ -34,6 +34,7 @@ READS = {
     "steps {}": (1, 1, 3), "steps script {}": (1, 1, 0), "run {}": (1, 1, 3), "run script {}": (1, 1, 0), "check {} session": (1, 1, 1),
     "check report {}": (1, 1, 3), "check report script {}": (1, 1, 1), "make {}": (2, 2, 2), "selftest {}": (2, 2, 2),
     "explain {}": (1, 1, 1), "picture {}": (1, 1, 1), "page {}": (1, 1, 1), "json {}": (1, 1, 1), "json --back {}": (1, 1, 1),
+    "beside {}": (1, 1, 3), "beside {} session": (1, 1, 3), "beside report {}": (1, 1, 3), "beside script {}": (1, 1, 0),
     "explain {} session": (1, 1, 1), "explain report {}": (1, 1, 1), "bytes {}": (1, 1, 1),
     "session {} session": (1, 1, 1), "session report {}": (1, 1, 1), "pace {}": (1, 1, 1), "words {}": (1, 1, 0), "merge {}": (1, 1, 1),
     "test {}": (1, 1, 1), "calls {}": (127, 127, 127), "packet {} 0 payload 00": (2, 2, 2), "packet 0 0 payload {}": (1, 1, 1),
@@ -42,7 +43,7 @@ READS = {
 # Those that write: what they are given by standard input.
 WRITES = {
     "steps -": "session", "run -": "session", "make 7": None, "selftest 7": None, "explain": "report", "picture": "report", "page": "report",
-    "json": "report", "explain - session": "report", "bytes": "report", "session - stream": "served", "words": "session", "pace --rate 1000": "stream",
+    "json": "report", "explain - session": "report", "beside": "session", "bytes": "report", "session - stream": "served", "words": "session", "pace --rate 1000": "stream",
     "packet 0 0 payload 00": None, "test a.session": None, "check - session": "report", "calls true": None,
     "merge kept": None, "build dvbemu": None, "serve --help": None, "--help": None, "--version": None,
 }  # fmt: skip
@@ -51,7 +52,7 @@ OWN = "make 7", "selftest 7"
 # Those that wait for standard input.
 WAITS = (
     "steps", "steps -", "steps script -", "run", "run -", "check", "check - session", "check report -",
-    "explain", "explain -", "picture", "page", "json", "json --back", "explain - session", "bytes", "session - session", "pace", "pace -", "words",
+    "beside", "beside -", "beside report -", "explain", "explain -", "picture", "page", "json", "json --back", "explain - session", "bytes", "session - session", "pace", "pace -", "words",
     "serve - -- true",
 )  # fmt: skip
 # What they are given then, so that they wait for more: those that read a report, and others.

@@ -21,7 +21,7 @@ ROOT_LINE, UNOPENED = re.compile("dvbemu serve: started by root: .*\n"), re.comp
 # A line of each word that ends with the status 0 and has written something.
 LINES = {
     "steps": "steps session", "run": "run session", "check": "check report session", "make": "make 7", "selftest": "selftest 7",
-    "serve": "serve --help", "explain": "explain report", "picture": "picture report", "page": "page report", "json": "json report",
+    "serve": "serve --help", "explain": "explain report", "beside": "beside session", "picture": "picture report", "page": "page report", "json": "json report",
     "bytes": "bytes report", "session": "session served recording",
     "test": "test tests", "words": "words session", "packet": "packet 0 0 payload 00", "pace": "pace --rate 1000 stream",
     "calls": "calls true", "merge": "merge kept", "build": "build dvbemu", "--help": "--help", "--version": "--version",
@@ -42,7 +42,7 @@ READS = {
     "explain - session": "dvbemu explain: standard input", "explain report -": "dvbemu explain: standard input", "bytes": "dvbemu bytes: standard input",
     "words": "dvbemu words: standard input",
     "session - session": "dvbemu session: standard input", "session report -": "dvbemu session: standard input",
-    "pace": "dvbemu pace: standard input",
+    "pace": "dvbemu pace: standard input", "beside": "dvbemu beside: standard input", "beside report -": "dvbemu beside: standard input",
 }  # fmt: skip
 UNREADABLE = {"</tmp": "Is a directory", "<&-": "it is closed"}
 # Statuses of a program, and the signals that don't end a process, and those by which a command ends quietly too.

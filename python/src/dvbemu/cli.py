@@ -39,6 +39,7 @@ PROVED = {
 TOOLS = {
     "serve": "runs DVB programs, as they are, on a recording, and writes a report of their calls",
     "explain": "tells a report in sentences, with hints; with its stream too, why filters got nothing",
+    "beside": "tells which replies of a session Linux would give otherwise, and why",
     "picture": "draws a report",
     "page": "writes a report as a page for a browser",
     "json": "writes a report as JSON Lines, and back",

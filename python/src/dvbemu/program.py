@@ -4,8 +4,8 @@ from __future__ import annotations
 import os
 import shutil
 import subprocess
-from dataclasses import dataclass
-from typing import Iterable, Sequence, Union
+from dataclasses import dataclass, replace
+from typing import Any, Iterable, Sequence, Union
 
 from . import inputs
 from .report import Report
@@ -61,14 +61,21 @@ def run(script: Source, *streams: Stream, batch: int = 64, packet: int = 188) ->
 def check(report: Union[Report, bytes], script: Source, *streams: Stream, packet: int = 188) -> Verdict:
     """Whether a report is that of a run of a session, by `steps` or by `run`."""
     text = report.text if isinstance(report, Report) else report
-    with open(os.memfd_create("report"), "wb") as file:
-        file.write(text)
-        file.flush()
-        name = f"/dev/fd/{file.fileno()}"
-        ran = _ran(["check", "--packet", str(packet), name, "-"], _session(script, streams), (file.fileno(),))
+    ran = _ran_over("check", packet, text, _session(script, streams))
     if ran.stdout not in (b"yes\n", b"no\n"):
         raise _fault(ran)
     return Verdict(ran.stdout == b"yes\n", ran.stderr.decode(errors="replace").strip().removeprefix("dvbemu: "))
+
+
+def same_on_linux(report: Report, *source: Any) -> Verdict:
+    """Whether Linux would give the replies of a report, of a session or a recording, too."""
+    if not source:
+        raise ValueError("what the report is of isn't known, and has to be named: its session, or what was played")
+    script, *streams = source
+    ran = _ran_over("beside", report.packet, report.text, _session(script, streams))
+    if ran.returncode > 1 or not ran.stdout:
+        raise _fault(ran)
+    return Verdict(not ran.returncode, ran.stdout.decode(errors="replace").strip() if ran.returncode else "")
 
 
 def told_by(words: Sequence[str], given: bytes) -> str:
@@ -93,7 +100,8 @@ def _report(word: str, script: Source, streams: Sequence[Stream], batch: int, pa
     ran = _ran([word, "--batch", str(batch), "--packet", str(packet)], _session(script, streams))
     if ran.returncode:
         raise _fault(ran)
-    return Report.parse(ran.stdout)
+    kept = _session(script, ())[0] if isinstance(script, Script) else script
+    return replace(Report.parse(ran.stdout), source=(kept, *streams) if word == "steps" else (), packet=packet)
 
 
 def _session(script: Source, streams: Sequence[Stream]) -> list[bytes]:
@@ -114,6 +122,14 @@ def _bytes(source: Stream) -> bytes:
 
 def _ran(words: list[str], given: Iterable[bytes], files: tuple[int, ...] = ()) -> subprocess.CompletedProcess[bytes]:
     return subprocess.run([command_of("dvbemu"), *words], input=b"".join(given), capture_output=True, check=False, pass_fds=files)
+
+
+def _ran_over(word: str, packet: int, report: bytes, session: list[bytes]) -> subprocess.CompletedProcess[bytes]:
+    """A word over a report and its session."""
+    with open(os.memfd_create("report"), "wb") as file:
+        file.write(report)
+        file.flush()
+        return _ran([word, "--packet", str(packet), f"/dev/fd/{file.fileno()}", "-"], session, (file.fileno(),))
 
 
 def _fault(ran: subprocess.CompletedProcess[bytes]) -> Failed:

@@ -157,6 +157,9 @@ class Report:
     clients: list[list[Outcome]]
     nodes: list[Node]
     read_fault: bool
+    # what it is of: a script and its streams, or the recording that was played; and what a packet takes up there
+    source: tuple[Any, ...] = field(default=(), repr=False, compare=False)
+    packet: int = field(default=188, repr=False, compare=False)
 
     @classmethod
     def parse(cls, text: bytes) -> Report:
@@ -196,6 +199,14 @@ class Report:
         from .program import check  # pylint: disable=import-outside-toplevel
 
         return check(self, script, *streams, packet=packet)
+
+    def same_on_linux(self, *source: Any) -> Any:
+        """Whether Linux 6.1 would have given the same replies, as `dvbemu beside` says, which is tested: a Verdict, true or false, with the calls
+        that it would answer otherwise. A report of `dvbemu.steps` and of an adapter with one recording knows what it is of; of another that is
+        named: a session, a script and its streams, or the recording that was played."""
+        from .program import same_on_linux  # pylint: disable=import-outside-toplevel
+
+        return same_on_linux(self, *(source or self.source))
 
     def explain(self) -> str:
         """It told in sentences, as `dvbemu explain` does."""

@@ -7,13 +7,18 @@ from __future__ import annotations
 
 import gc
 import sys
+from typing import TYPE_CHECKING
 
 from .. import progress
 from .. import reports
 from .. import tool
 from ..explain import played
 from ..explain.offered import Stream
-from ..explain.told import Part, page
+from ..explain.told import Part, Told, page, text_of
+from ..linux.beside import first_difference
+
+if TYPE_CHECKING:
+    from typing import Sequence
 
 
 def command() -> tool.Command:
@@ -40,12 +45,18 @@ def client_of(word: str) -> int:
     return reports.number(word.removeprefix("c"), reports.CLIENTS - 1)
 
 
-def stream_of(words: tool.Command, name: str, report: reports.Report) -> Stream:
-    """The stream that a report is of."""
+def packets_of(words: tool.Command, name: str, session: bytes, report: reports.Report) -> Sequence[bytes]:
+    """The packets that a report is of."""
     try:
-        return Stream(played.packets_of(words.bytes_of(name), report))
+        return played.packets_of(session, report)
     except played.NotPlayed as wrong:
-        words.fail_on(name, wrong)
+        return words.fail_on(name, wrong)
+
+
+def linux_part(session: bytes, report: reports.Report, packets: Sequence[bytes]) -> str:
+    """What Linux would answer otherwise, where there is a script."""
+    told = "" if played.is_recording(session) else first_difference(report, session, packets)
+    return "\n" + text_of(["On Linux 6.1", "", Told(2, told)]) if told else ""
 
 
 def main() -> None:
@@ -60,8 +71,11 @@ def main() -> None:
             words.fail(f"no client called {reports.node_name(part.node)}")
         if part.client is not None and part.client >= len(report.clients):
             words.fail(f"the report has no client {part.client}")
-        stream = stream_of(words, given.session, report) if given.session else None
-        text = page(report, part, stream)
+        session = words.bytes_of(given.session) if given.session else b""
+        packets = packets_of(words, given.session, session, report) if given.session else []
+        text = page(report, part, Stream(packets) if given.session else None)
+        if given.session and part == Part():
+            text += linux_part(session, report, packets)
     except (reports.NotAReport, OSError) as wrong:
         words.fail_on(given.report, wrong)
     progress.clear()

@@ -232,9 +232,20 @@ def report_in(words: tool.Command, name: str) -> Report:
         words.fail_on(name, f"it is no report: {wrong}")
     except OSError as fault:
         words.fail_on(name, fault)
+    return report
+
+
+def script_in(words: tool.Command, name: str, report: Report) -> tuple[list[str], dict[str, list[int]]]:
+    """The lines of the script of a report of `serve`, and the number of the line of each client's commands."""
     if any(entry.act.startswith("pass input=dvr ") for entries in report.nodes.values() for entry in entries):
         words.fail_on(name, "a client has written, and a report doesn't tell which bytes")
-    return report
+    try:
+        order = Order(report)
+        if why := why_not_served(report, order):
+            words.fail_on(name, f"it is no report of `serve`: {why}")
+        return script_of(order)
+    except (KeyError, ValueError, IndexError):
+        return words.fail_on(name, "its entries aren't those of a report; `dvbemu explain` says more")
 
 
 def packets_of(words: tool.Command, report: Report, name: str) -> Iterable[bytes]:
@@ -252,13 +263,7 @@ def main() -> None:
     given = words.parse_args()
     report = report_in(words, given.report_file)
     packets = () if given.report else packets_of(words, report, given.stream)
-    try:
-        order = Order(report)
-        if why := why_not_served(report, order):
-            words.fail_on(given.report_file, f"it is no report of `serve`: {why}")
-        script, numbers = script_of(order)
-    except (KeyError, ValueError, IndexError):
-        words.fail_on(given.report_file, "its entries aren't those of a report; `dvbemu explain` says more")
+    script, numbers = script_in(words, given.report_file, report)
     if given.report:
         sys.stdout.writelines(reports.write(rewritten(report, numbers)))
         return

@@ -14,6 +14,8 @@ from .. import child
 from .. import inputs
 from .. import standard
 from .. import tool
+from ..linux.beside import Beside, events_here
+from ..linux.session import Session
 
 if TYPE_CHECKING:
     from argparse import Namespace
@@ -55,24 +57,40 @@ class Test(NamedTuple):
 
     def packet(self) -> int:
         """What a packet takes up in the stream."""
+        return self.option("--packet", 188)
+
+    def option(self, name: str, without: int) -> int:
+        """The number behind an option."""
         words = " ".join(self.words).replace("=", " ").split()
-        return int(words[words.index("--packet") + 1]) if "--packet" in words else 188
+        return int(words[words.index(name) + 1]) if name in words else without
+
+    def named(self) -> set[str]:
+        """The rows of docs/KERNEL.md that NAME.linux names: by these Linux may answer otherwise."""
+        try:
+            with open(self.path + ".linux", encoding="utf-8", errors="replace") as file:
+                return {line.strip() for line in file}
+        except FileNotFoundError:
+            return set()
+        except OSError as fault:
+            raise Failed(f"{fault.filename}: {fault.strerror}") from None
 
 
 def command() -> tool.Command:
     """The command and its words."""
     words = tool.Command(
         "test",
-        "[--update] [--batch B] [--packet P] PATH .. | --jobs LOG",
+        "[--update] [--linux] [--batch B] [--packet P] PATH .. | --jobs LOG",
         "Runs sessions, as many at once as there are processors, and compares what they write with the reports beside them.",
         reads="each PATH, a folder with all below it, or a file: NAME.session, or NAME.script with NAME.ts if there is one; "
         "NAME.report; and NAME.words, the words that it is run with: without it `steps`, with --batch and --packet as they stand here; "
+        "NAME.linux, for --linux rows of docs/KERNEL.md, each on a line; "
         "or LOG, what GNU parallel has written of its jobs (--joblog)",
         writes="TAP: `ok 1 - NAME`, or `not ok 1 - NAME`, and behind # the line, what stands there and what the rules give",
         status="0; 1 where a report differs or is missing, a session can't be run, or there is no test; 2 for wrong words",
         example="dvbemu test tests",
     )
     words.add_argument("--update", action="store_true", help="writes the reports that differ or are missing anew, and says which")
+    words.add_argument("--linux", action="store_true", help="a test fails too where Linux would answer otherwise by a row that NAME.linux doesn't name")
     words.add_argument("--batch", type=tool.number(1, 64, True), metavar="B", help="for tests without words of their own")
     words.add_argument("--packet", type=int, choices=(188, 204), metavar="P", help="for tests without words of their own")
     words.add_argument("--jobs", metavar="LOG", help="tells of these jobs, and runs nothing")
@@ -165,12 +183,27 @@ def keep(path: str, report: bytes) -> None:
         raise Failed(f"{path}: {fault.strerror}") from None
 
 
-def tried(program: str, test: Test, is_updated: bool) -> str:
+def on_linux(program: str, test: Test, session: bytes, report: bytes) -> str:
+    """The first line that Linux would answer otherwise by a row that isn't named; nothing where there is none."""
+    words = ["steps", *test.words[1:]]
+    text = report if words == test.words else child.ran([program, *words], [session]).stdout
+    asked, named = Session.of(session, test.packet()), test.named()
+    both = Beside(asked, events_here(text.decode("latin-1").split("\n"), asked), test.option("--batch", 64))
+    for line in both.differing:
+        rows = [cause.point.row for cause in both.causes(line)]
+        if not rows or not named.issuperset(rows):
+            return f"line {line} is answered otherwise on Linux 6.1, by '{' and '.join(rows)}', which {test.path}.linux doesn't name"
+    return "" if both.undefined is None else f"undefined on Linux 6.1 from line {both.undefined} on"
+
+
+def tried(program: str, test: Test, is_updated: bool, asks_linux: bool) -> str:
     """What becomes of a test: + where it passes, or -, and behind that why it failed, or what was written anew."""
     try:
         session, kept = test.session(), test.kept()
         report = written_by(program, test, session)
         told = "" if report == kept else "there is no report" if kept is None else difference(program, test, session, kept, report)
+        if not told and asks_linux and (otherwise := on_linux(program, test, session, report)):
+            return f"-{otherwise}"
         if not told:
             return "+"
         if is_updated:
@@ -215,7 +248,7 @@ def main() -> int:
     program, failed = child.program(), 0
     print(f"1..{len(tests)}", flush=True)
     with ThreadPoolExecutor(len(os.sched_getaffinity(0))) as pool:
-        for number, (test, text) in enumerate(zip(tests, pool.map(lambda test: tried(program, test, given.update), tests)), 1):
+        for number, (test, text) in enumerate(zip(tests, pool.map(lambda test: tried(program, test, given.update, given.linux), tests)), 1):
             failed += text[:1] == "-"
             print(f"{'not ' if text[:1] == '-' else ''}ok {number} - {test.name}")
             print(f"# {text[1:]}\n" if text[1:] else "", end="", flush=True)

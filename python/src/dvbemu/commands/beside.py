@@ -1,0 +1,211 @@
+"""Tells which replies of a session a Linux kernel would give otherwise: `dvbemu beside --help`.
+
+The replies here are those of the program's `steps`; those of Linux are of the model in dvbemu.linux, whose points of difference are the rows of
+docs/KERNEL.md."""
+from __future__ import annotations
+
+import io
+import json
+import sys
+from typing import TYPE_CHECKING, NamedTuple
+
+from .. import child, cli, inputs, progress, reports, tool
+from ..explain import played
+from ..inputs import LINE, many
+from ..linux.beside import MOST_BATCH, Beside, batch_of, events_here, told
+from ..linux.session import Session
+from . import session as sessions
+
+if TYPE_CHECKING:
+    from argparse import Namespace
+    from typing import Iterator, Sequence
+
+    from ..linux.beside import Cause, Change
+    from ..linux.parts import Reply
+    from ..linux.points import Point
+
+# How many changes of a line are told, and how many lines by the same rows.
+CHANGES, LINES = 3, 20
+HERTZ = 1000, 250, 100
+
+
+# ------ what is compared
+
+
+class Given(NamedTuple):
+    """What the words name: the session with its script in front, the batch, and the report that it is of, if there is one."""
+
+    session: bytes
+    batch: int
+    report: bytes | None
+
+
+def command() -> tool.Command:
+    """The command and its words."""
+    words = tool.Command(
+        "beside",
+        "[--batch B] [--packet P] [--hz HZ] [--json] [SESSION | SCRIPT STREAM .. | REPORT SESSION]",
+        "Tells which replies of a session Linux 6.1 would give otherwise, line by line, and by which rows of docs/KERNEL.md.",
+        reads="a session, or a script and its streams, as `steps` does; or a report of `steps` and its session, whose batches are then taken; or one "
+        "of `serve` and what was played, and the lines are those of `dvbemu session`. A file may be `-`; without one standard input is the session",
+        writes="a line for each call that differs, what is answered here and on Linux, and the row; or that all is the same",
+        status="0 where all is the same; 1 where a reply differs, or a file can't be read; 2 for wrong words; 3 where the script has a fault",
+        example="dvbemu beside my.session; dvbemu beside my.script my.ts; dvbemu beside --hz 250 my.report my.session",
+    )
+    words.add_argument("--batch", action=tool.Once, type=tool.number(1, MOST_BATCH, True), metavar="B", help="the most packets of a batch, as of `steps`")
+    words.add_argument("--packet", action=tool.Once, type=int, choices=(188, 204), metavar="P", help="the bytes that a packet takes up: 188, or 204")
+    words.add_argument("--hz", type=int, choices=HERTZ, default=HERTZ[0], help="the jiffies of a second, by which timeouts end; without it 1000")
+    words.add_argument("--json", action="store_true", help="writes JSON Lines: an object for each line that differs, and one at the end")
+    words.add_argument("files", metavar="FILE", nargs="*", help="the files, in the order of the usage")
+    return words
+
+
+def given_by(words: tool.Command, given: Namespace, files: Sequence[inputs.Input]) -> Given:
+    """What the files are."""
+    texts = [file.whole() for file in files]
+    if not texts[0].startswith(f"{reports.FORMAT}\n".encode()) or len(texts) == 1:
+        script = inputs.with_line(texts[0]) if texts[1:] else texts[0]
+        return Given(b"".join([script, *texts[1:]]), given.batch or MOST_BATCH, None)
+    if played.is_recording(texts[1]):
+        return Given(served(words, files, texts), given.batch or MOST_BATCH, None)
+    script = inputs.with_line(texts[1]) if texts[2:] else texts[1]
+    return Given(b"".join([script, *texts[2:]]), given.batch or batch_of(texts[0].decode("latin-1").split("\n")), texts[0])
+
+
+def served(words: tool.Command, files: Sequence[inputs.Input], texts: Sequence[bytes]) -> bytes:
+    """The session of a report of `serve` and of what was played."""
+    try:
+        report = reports.read(reports.text_of(io.BytesIO(texts[0])))
+        script, _ = sessions.script_in(words, files[0].name, report)
+        return b"".join(["\n".join([*script, ""]).encode(), LINE, *played.packets_of(texts[1], report)])
+    except reports.NotAReport as wrong:
+        words.fail_on(files[0].name, wrong)
+    except played.NotPlayed as wrong:
+        words.fail_on(files[1].name, wrong)
+
+
+def compared(words: tool.Command, given: Namespace, files: Sequence[inputs.Input]) -> Beside | int:
+    """Both runs of what the files are, or the status where `steps` ends with another one than 0."""
+    found = given_by(words, given, files)
+    size = given.packet or 188
+    run = child.Run(child.program(), ["steps", "--batch", str(found.batch), "--packet", str(size)], True)
+    if status := run.feed([found.session]):
+        progress.end()
+        sys.stderr.buffer.write(run.told)
+        sys.stderr.flush()
+        cli.tell_more(status, run, found.session[: inputs.SCRIPT], files, "beside")
+        return cli.ended(status)
+    if found.report is not None and found.report != run.output:
+        words.fail(f"{files[0].name}: it isn't the report of `steps` over this session; without it the session alone is compared")
+    session = Session.of(found.session, size)
+    return Beside(session, events_here(run.output.decode("latin-1").split("\n"), session), found.batch, given.hz)
+
+
+# ------ what is told
+
+
+def change_lines(count: int, changes: Sequence[Change]) -> Iterator[str]:
+    """What differs in a line that has so many replies here."""
+    for change in changes[:CHANGES]:
+        where = f"reply {change.place + 1:,} of {count:,}: " if count > 1 else ""
+        yield f"    {where}here {told(change.here)} | Linux {told(change.there)}"
+    if left := len(changes) - CHANGES:
+        yield from [f"    and {many(left, 'place')} more"] * (left > 0)
+
+
+class Teller:
+    """The differences of a session, as text. `times` says how many lines were told by each set of rows, `passed` are the lines that were passed
+    over since, as these rows have been told."""
+
+    def __init__(self, both: Beside) -> None:
+        self.both = both
+        self.times: dict[frozenset[Point], int] = {}
+        self.named: set[Point] = set()
+        self.passed: list[int] = []
+
+    def lines(self) -> Iterator[str]:
+        """What is told of each line that differs, and at the end."""
+        for line in self.both.differing:
+            causes = self.both.causes(line)
+            rows = frozenset(cause.point for cause in causes)
+            times = self.times.get(rows, 0)
+            if causes and times and (times >= LINES or self.both.elsewhere(line)):
+                self.passed.append(line)
+                self.named |= rows
+                continue
+            yield from self.passed_lines()
+            self.times[rows] = times + 1
+            yield from self.line(line, causes)
+        yield from self.passed_lines()
+        yield from self.last()
+
+    def line(self, line: int, causes: Sequence[Cause]) -> Iterator[str]:
+        """What is told of a line."""
+        yield f"line {line}: {self.both.session.text[line - 1]}"
+        yield from change_lines(*self.both.changes(line))
+        for cause in causes:
+            since = f", line {cause.line}" if cause.line != line else ""
+            says = "" if cause.point in self.named else f": {cause.point.says}"
+            self.named.add(cause.point)
+            yield f"    by '{cause.point.row}'{since}{says}"
+        if not causes:
+            yield "    by several rows together"
+
+    def passed_lines(self) -> Iterator[str]:
+        """What is told of lines that were passed over."""
+        if not self.passed:
+            return
+        first, last, places = self.passed[0], self.passed[-1], self.both.elsewhere(self.passed[0])
+        of = f"line {first}" if first == last else f"lines {first} to {last}"
+        where = f"; the stream stands elsewhere, in line {first} at packet {places[0]:,} here, {places[1]:,} on Linux" if places else ""
+        yield f"{of}: {len(self.passed):,} more by rows told above{where}"
+        self.passed = []
+
+    def last(self) -> Iterator[str]:
+        """What is told at the end."""
+        both, lines = self.both, many(len(self.both.lines), "line")
+        if both.undefined is not None:
+            yield f"undefined from line {both.undefined} on: Linux goes on with memory that it has given to another feed"
+        if both.is_same():
+            yield f"The same on Linux 6.1: {lines}, {many(both.calls(), 'call')}."
+        else:
+            yield f"{len(both.differing):,} of {lines} otherwise on Linux 6.1, by {many(len(self.named), 'row')} of docs/KERNEL.md"
+
+
+def plain(reply: Reply) -> str:
+    """A reply as a report has it."""
+    return f"data {reply.hex() or '-'}" if isinstance(reply, bytes) else reply
+
+
+def objects(both: Beside) -> Iterator[str]:
+    """The same as JSON Lines."""
+    named: dict[str, None] = {}
+    for line in both.differing:
+        causes = both.causes(line)
+        named |= dict.fromkeys(cause.point.row for cause in causes)
+        changes = [{"reply": place + 1, "here": list(map(plain, here)), "linux": list(map(plain, there))} for place, here, there in both.changes(line)[1]]
+        rows = [{"name": cause.point.row, "line": cause.line} for cause in causes]
+        yield json.dumps({"kind": "difference", "line": line, "command": both.session.text[line - 1], "changes": changes, "rows": rows,
+                          "packets": both.elsewhere(line)})  # fmt: skip
+    yield json.dumps({"kind": "end", "same": both.is_same(), "lines": len(both.lines), "calls": both.calls(), "differing": len(both.differing),
+                      "rows": list(named), "undefined": both.undefined})  # fmt: skip
+
+
+def main() -> int:
+    """Compares, and tells."""
+    words = command()
+    given = words.parse_args()
+    try:
+        files = inputs.opened(given.files or ["-"])
+        if any(file.is_terminal for file in files):
+            words.tell_waiting()
+        progress.show(words.teller, progress.Work(files, "comparing").text)
+        both = compared(words, given, files)
+    except inputs.Broken as fault:
+        words.fail(fault)
+    if isinstance(both, int):
+        return both
+    progress.clear()
+    for line in objects(both) if given.json else Teller(both).lines():
+        sys.stdout.write(line + "\n")
+    return 0 if both.is_same() else 1
