@@ -7,9 +7,10 @@ import time
 from dvbemu import Data, Report
 from ends import BUILT, ENDS, tally
 
-# How many packets come, each so many seconds behind the one before. A rest lasts a second where nobody ends it, so half of the reads
-# that nothing wakes come about half a second late; the bound is in milliseconds.
-COUNT, PAUSE, LATE = 30, 0.05, 250
+# How many packets come, each so many seconds behind the one before. A rest lasts a second where nobody ends it, so half of the
+# reads that nothing wakes come about half a second late; and a read is a pause late whose packet passes at a moment before it
+# came. The bound is in milliseconds.
+COUNT, PAUSE, LATE = 10, 0.4, 250
 # For how many seconds nothing comes, and the most processor time that a client may take that waits so long.
 IDLE, MOST = 3, 0.15
 PACKETS = [b"\x47\x01\0" + bytes([0x10 | place % 16]) + 184 * b"\xff" for place in range(COUNT)]
@@ -53,7 +54,7 @@ def is_woken():
     tally.count(are_all, f"a client that waits: {len(passed)} packets passed, {len(selected)} of them behind its filter's start, "
                 f"{len(given)} were read\n{report[-300:]}")
     late = statistics.median(read - pass_ for pass_, read in zip(selected, given)) if given else ENDS * 1000
-    tally.count(late < LATE, f"a client that waits reads {late} milliseconds behind a pass")
+    tally.count(0 <= late < LATE, f"a client that waits reads {late} milliseconds behind a pass")
 
 
 def rests():
