@@ -6,7 +6,7 @@ from functools import lru_cache
 from typing import TYPE_CHECKING
 
 from . import reports
-from .reports import ACTS, FORMAT, HEAD, PID, REPLIES, STC, word_of, written
+from .reports import ACTS, FORMAT, HEAD, PID, READERS, REPLIES, STC, word_of, written
 
 if TYPE_CHECKING:
     from typing import Any, Callable, Iterable, Iterator, Mapping
@@ -23,31 +23,48 @@ class NoObjects(Exception):
 
 # ------ from a report
 
-
-def plain(name: str, value: Any) -> object:
-    """What stands at a place of an act, as JSON has it."""
-    if name == "bytes":
-        return [{"place": place, "filter": three[0], "mask": three[1], "mode": three[2]} for place, three in value.items()]
-    return f"n{value}" if name == "node" else value
+# The places of acts and replies that have a number, and as many bits as each number, or fewer.
+NUMBERS = {word.rstrip("=") for form in (*ACTS.values(), *REPLIES.values()) for word in form} - {
+    "drop", "error", "input", "node", "output", "owner", "pids", "span", "tap"}  # fmt: skip
 
 
-@lru_cache(65536)
+def value_text(word: str, name: str) -> str:
+    """What stands at a place of an act or a reply, of its form, as JSON has it."""
+    if name in NUMBERS:
+        return word
+    value: object = READERS[name](word)
+    return json.dumps(f"n{value}" if name == "node" else value)
+
+
+def byte_text(word: str) -> str:
+    """A byte of a filter, as JSON has it."""
+    (place, (value, mask, mode)), = reports.filter_bytes([word]).items()
+    return f'{{"place": {place}, "filter": {value}, "mask": {mask}, "mode": {mode}}}'
+
+
+@lru_cache(4096)
+def object_text(text: str, is_act: bool) -> str:
+    """An act or a reply, which was read before, as the text of an object."""
+    name, *words = text.split(" ")
+    places = reports.places_of((ACTS if is_act else REPLIES)[name])
+    told = [f', "{place}": {value_text(word[len(before) :], place)}' for word, (before, place, _) in zip(words, places)]
+    filtered = f', "bytes": [{", ".join(map(byte_text, words[len(places) :]))}]' if name == "section" else ""
+    return f'{{"name": "{name}"{"".join(told)}{filtered}}}'
+
+
 def act_text(act: str) -> str:
-    """An act, as the text of an object."""
-    return json.dumps({name: plain(name, value) for name, value in reports.read_act(act).items()})
+    """An act, as the text of an object. What passes is another one each time."""
+    if not act.startswith("pass "):
+        return object_text(act, True)
+    _, who, first, count, at = act.split("=")
+    return f'{{"name": "pass", "input": "{who[:-6]}", "first": {first[:-6]}, "count": {count[:-3]}, "at": {at}}}'
 
 
 def reply_text(reply: str) -> str:
     """A reply, as the text of an object."""
     if reply.startswith("data "):
         return f'{{"name": "data", "data": "{"" if reply == "data -" else reply[5:]}"}}'
-    return other_text(reply)
-
-
-@lru_cache(65536)
-def other_text(reply: str) -> str:
-    """Every other reply, as the text of an object."""
-    return json.dumps(reports.read_reply(reply))
+    return object_text(reply, False)
 
 
 def command_text(client: int, outcome: Outcome) -> str:

@@ -7,9 +7,9 @@ from __future__ import annotations
 
 import io
 import re
+from array import array
 from collections.abc import Sequence
 from functools import lru_cache
-from sys import intern
 from typing import TYPE_CHECKING, NamedTuple, TypeVar, cast
 
 from . import abi
@@ -138,15 +138,15 @@ class Entry(NamedTuple):
 
     @classmethod
     def of(cls, text: str) -> Entry:
-        """The entry that a line is, which was read before. Callers and acts that are alike are one text."""
+        """The entry that a line is, which was read before."""
         place, who, step, told = text.split(" ", 3)
         act, _, reply = told.partition(" = ")
-        return cls(int(place), intern(who), int(step), intern(act), reply)
+        return cls(int(place), who, int(step), act, reply)
 
 
 class Rows(Sequence[R]):
     """Records that are kept as their lines, of which each is made where it is asked for: so a long report takes up little more than its
-    text."""
+    text. The block of lines that was last asked for one stays at hand."""
 
     EACH = 1024
 
@@ -154,6 +154,7 @@ class Rows(Sequence[R]):
         self.make = make
         self.blocks: list[str] = []
         self.lines: list[str] = []
+        self.at_hand: tuple[int, list[str]] = -1, []
 
     def append(self, line: str) -> None:
         """Puts a line behind the others."""
@@ -174,7 +175,23 @@ class Rows(Sequence[R]):
         if isinstance(place, slice):
             return [self[at] for at in range(*place.indices(len(self)))]
         block, row = divmod(range(len(self))[place], self.EACH)
-        return self.make((self.blocks[block].split("\n") if block < len(self.blocks) else self.lines)[row])
+        if block == len(self.blocks):
+            return self.make(self.lines[row])
+        if block != self.at_hand[0]:
+            self.at_hand = block, self.blocks[block].split("\n")
+        return self.make(self.at_hand[1][row])
+
+
+class Entries(Rows[Entry]):
+    """The entries of a node; `called` has the places of those of clients."""
+
+    def __init__(self) -> None:
+        super().__init__(Entry.of)
+        self.called = array("Q")
+
+    def calls(self) -> Iterator[Entry]:
+        """The entries of clients."""
+        return map(self.__getitem__, self.called)
 
 
 class Report(NamedTuple):
@@ -366,7 +383,7 @@ def filter_words(places: Iterable[tuple[int, Sequence[int]]]) -> list[str]:
     return [f"{place}={value:02x}/{mask:02x}/{mode:02x}" for place, (value, mask, mode) in places]
 
 
-@lru_cache(65536)
+@lru_cache(4096)
 def read_act(text: str) -> Act:
     """An act as a dict: `name` is its first word, the rest by the names of ACTS; `bytes` are the filter bytes of a section.
 
@@ -403,7 +420,7 @@ def data_length(text: str) -> int:
     return len(digits) // 2
 
 
-@lru_cache(65536)
+@lru_cache(4096)
 def read_other_reply(text: str) -> Reply:
     """The dict of every other reply."""
     name, *words = text.split(" ")
@@ -417,8 +434,14 @@ def read_other_reply(text: str) -> Reply:
 
 
 def act_of(entry: Entry) -> Act:
-    """The entry's act, as `read_act` gives it."""
-    return read_act(entry.act)
+    """The entry's act, as `read_act` gives it. What passes, and what is read or polled, is another one each time."""
+    if entry.act.startswith("pass "):
+        _, who, first, count, at = entry.act.split("=")
+        return {"name": "pass", "input": who[:-6], "first": int(first[:-6]), "count": int(count[:-3]), "at": int(at)}
+    if entry.act.startswith("read "):
+        _, count, at = entry.act.split(" ")
+        return {"name": "read", "count": int(count), "at": int(at[3:])}
+    return {"name": "poll", "at": int(entry.act[8:])} if entry.act.startswith("poll ") else read_act(entry.act)
 
 
 def reply_of(entry: Entry) -> Reply:
@@ -428,8 +451,13 @@ def reply_of(entry: Entry) -> Reply:
 
 def moment(entry: Entry) -> int | None:
     """The moment that the entry's call carries, or None."""
-    before, sign, after = entry.act.partition(" at=")
+    _, sign, after = entry.act.partition(" at=")
     return int(after.partition(" ")[0]) if sign else None
+
+
+def calls_of(entries: Sequence[Entry]) -> Iterator[Entry]:
+    """The entries of clients."""
+    return entries.calls() if isinstance(entries, Entries) else (entry for entry in entries if entry.who != "feed")
 
 
 def first_moment(report: Report) -> int:
@@ -575,19 +603,18 @@ def clients_of(lines: Lines) -> list[Rows[Outcome]]:
 # all other entries, as they are.
 N, C = r"(?:0|[1-9]\d{0,17})", r"(?:0|[1-9]\d{0,8})"
 COMMON = re.compile(
-    rf"({N}) (?:feed {N} pass input=frontend first={N} count={C} at={N} = passed|c[0-7] {N} (?:"
+    rf"({N}) (?:feed {N} pass input=frontend first={N} count={C} at={N} = passed|(c)[0-7] {N} (?:"
     rf"read {C} at={N} = (?:data ([0-9a-f]+|-)|again ended=[01])|"
     rf"poll at={N} = ready readable=[01] error=(?:none|overflow|timedout) at={N} ended=[01]))",
     re.ASCII,
 )
 
 
-def is_common(text: str, place: int) -> bool:
+def is_common(found: re.Match[str] | None, place: int) -> bool:
     """Whether a line is such an entry, at this place of its node."""
-    found = COMMON.fullmatch(text)
     if found is None or int(found[1]) != place:
         return False
-    digits = found[2] or "-"
+    digits = found[3] or "-"
     return digits == "-" or len(digits) % 2 == 0 and len(digits) <= 2 * MOST_BYTES
 
 
@@ -612,14 +639,17 @@ def check_entry(text: str, place: int) -> None:
         raise Wrong(f"`{place} WHO STEP ACT = REPLY`")
 
 
-def entries_of(lines: Lines) -> Rows[Entry]:
+def entries_of(lines: Lines) -> Entries:
     """The entries of one node."""
-    found = Rows(Entry.of)
-    place = 0
-    while lines.text is not None and lines.text[:1].isdigit():
-        if not is_common(lines.text, place):
-            check_entry(lines.text, place)
-        found.append(lines.text)
+    found, place = Entries(), 0
+    while (text := lines.text) is not None and text[:1].isdigit():
+        common = COMMON.fullmatch(text)
+        if not is_common(common, place):
+            check_entry(text, place)
+            common = None
+        if common[2] if common else text.split(" ", 2)[1] != "feed":
+            found.called.append(place)
+        found.append(text)
         place += 1
         lines.go_on()
     return found
@@ -634,7 +664,7 @@ def nodes_of(lines: Lines) -> dict[int, Sequence[Entry]]:
         lines.want(not found or node > max(found), f"a node behind {node_name(max(found, default=0))}")
         lines.go_on()
         entries = found[node] = entries_of(lines)
-        lines.want(any(entry.who != "feed" for entry in entries), f"`{len(entries)} WHO STEP ACT = REPLY` of a client")
+        lines.want(entries.called, f"`{len(entries)} WHO STEP ACT = REPLY` of a client")
     return found
 
 

@@ -16,7 +16,7 @@ from ..stream.packets import ALL_PACKETS, PACKET
 from .walk import Answered, Walk
 
 if TYPE_CHECKING:
-    from typing import Mapping, Sequence, Tuple
+    from typing import Callable, Iterable, Mapping, Tuple
 
     from ..reports import Act, Entry, Reply
 
@@ -74,14 +74,6 @@ class Expiry(NamedTuple):
     told: int
 
 
-class Drop(NamedTuple):
-    """Unread bytes that a call drops: its place and the span."""
-
-    place: int
-    begin: int
-    end: int
-
-
 class Capture(Answered):
     """A capture: its first place and, where it has ended, the place of the call that ended it; `quiet` is where it takes no
     further packets, by a stop or a timeout; `labels` has what it takes from which place on, in words and in fewer; `keeps` says
@@ -127,20 +119,21 @@ class Capture(Answered):
 
 class History(Walk):
     """A node's captures, its size behind each entry, and the least and the most bytes that may be unread behind each entry (None
-    where nothing tells them)."""
+    where nothing tells them). The entries are gone through once, and each is shown to `see`."""
 
-    def __init__(self, node: int, entries: Sequence[Entry]) -> None:
+    def __init__(self, node: int, entries: Iterable[Entry], see: Callable[[Entry, Act], None] | None = None) -> None:
         super().__init__(node)
-        self.entries = entries
         self.capture: Capture | None = None
         self.sizes: list[int | None] = []
         self.captures: list[Capture] = []
-        self.drops: list[Drop] = []
         for entry in entries:
-            self.take(entry, reports.act_of(entry), reports.reply_of(entry))
+            act = reports.act_of(entry)
+            self.take(entry, act)
             self.sizes.append(self.size)
-        self.low: list[int | None] = [0] * len(entries)
-        self.high: list[int | None] = [0] * len(entries)
+            if see:
+                see(entry, act)
+        self.low: list[int | None] = [0] * len(self.sizes)
+        self.high: list[int | None] = [0] * len(self.sizes)
         for capture in self.captures:
             self.fill(capture)
 
@@ -152,58 +145,48 @@ class History(Walk):
         """All timeouts that are told."""
         return [capture.expiry for capture in self.captures if capture.expiry]
 
-    def take(self, entry: Entry, act: Act, reply: Reply) -> None:
+    def take(self, entry: Entry, act: Act) -> None:
         """Takes the next entry."""
-        name = act["name"]
+        name, capture = act["name"], self.capture
         if name == "pass":
-            self.take_pass(entry, act)
-        elif name == "read":
-            self.take_read(entry, act, reply)
-        elif name == "poll":
-            self.take_poll(entry, act, reply)
-        elif reply["name"] == "done":
-            self.accept(entry, act, reply)
+            if capture and capture.quiet is None:
+                self.take_pass(capture, entry, act)
+        elif name not in ("read", "poll"):
+            if (reply := reports.reply_of(entry))["name"] == "done":
+                self.accept(entry, act, reply)
+        elif capture and (reply := reports.reply_of(entry))["name"] not in reports.REFUSALS:
+            self.note_moment(capture, entry, act)
+            (self.take_read if name == "read" else self.take_poll)(capture, entry, act, reply)
 
     def note_moment(self, capture: Capture, entry: Entry, act: Act) -> None:
         """Notes the first entry at which the timeout may be over."""
         if self.due is not None and capture.over is None and capture.quiet is None and act["at"] >= self.due:
             capture.over = entry.place
 
-    def take_pass(self, entry: Entry, act: Act) -> None:
+    def take_pass(self, capture: Capture, entry: Entry, act: Act) -> None:
         """A batch passes, of the stream or of what a client has written."""
-        capture = self.capture
-        if capture and capture.quiet is None:
-            self.note_moment(capture, entry, act)
-            is_taken = (act["input"] == "dvr") == (self.filter is not None and self.filter.is_played)
-            capture.packets += act["count"] if is_taken else 0
-            capture.keep(entry.place)
-
-    def take_read(self, entry: Entry, act: Act, reply: Reply) -> None:
-        """A read and what it tells."""
-        capture, name = self.capture, reply["name"]
-        if capture is None or name in reports.REFUSALS:
-            return
         self.note_moment(capture, entry, act)
+        is_taken = (act["input"] == "dvr") == (self.filter is not None and self.filter.is_played)
+        capture.packets += act["count"] if is_taken else 0
+        capture.keep(entry.place)
+
+    def take_read(self, capture: Capture, entry: Entry, act: Act, reply: Reply) -> None:
+        """A read and what it tells."""
+        name = reply["name"]
         if name == "overflow":
             capture.know(entry.place, reply["span"][1])
             capture.lose(entry.place, reply)
             capture.skip_to(reply["span"][1])
         elif name == "timedout":
             self.expire(capture, entry)
-        elif name == "data":
-            capture.give(reply["length"])
-            if capture.kind != "section" and not capture.keeps and reply["length"] < act["count"]:
-                capture.know(entry.place, capture.answered)
         else:
-            capture.know(entry.place, capture.answered)
+            capture.give(reply.get("length", 0))
+            if name != "data" or capture.kind != "section" and not capture.keeps and reply["length"] < act["count"]:
+                capture.know(entry.place, capture.answered)
         capture.tell(entry.place, is_empty=name != "data")
 
-    def take_poll(self, entry: Entry, act: Act, reply: Reply) -> None:
+    def take_poll(self, capture: Capture, entry: Entry, _: Act, reply: Reply) -> None:
         """A poll and what it tells."""
-        capture = self.capture
-        if capture is None or reply["name"] != "ready":
-            return
-        self.note_moment(capture, entry, act)
         if reply["error"] == "timedout":
             self.expire(capture, entry)
         if reply["error"] == "overflow" and capture.pending is None:
@@ -242,8 +225,6 @@ class History(Walk):
     def end_capture(self, entry: Entry, reply: Reply) -> None:
         """The capture ends, where there is one, and its unread bytes are dropped."""
         begin, end = reply["drop"]
-        if end > begin:
-            self.drops.append(Drop(entry.place, begin, end))
         if self.capture:
             if end - begin >= (self.sizes[-1] or 1) and self.capture.pending is None:
                 self.capture.pending = entry.place
@@ -256,11 +237,11 @@ class History(Walk):
 
     def fill(self, capture: Capture) -> None:
         """Fills in the bytes unread behind each entry of a capture, and where its overflow spans are drawn from."""
-        last = len(self.entries) if capture.end is None else capture.end
+        last = len(self.sizes) if capture.end is None else capture.end
         bounds = [(low - step.answered, high - step.answered) for step, (low, high) in zip(capture.steps, bounds_of(capture))]
         capture.losses = [self.fill_before(loss, capture, bounds) for loss in capture.told_losses]
         if capture.pending is not None:
-            capture.losses.append(Untold(capture.pending, capture.pending, min(last, len(self.entries) - 1)))
+            capture.losses.append(Untold(capture.pending, capture.pending, min(last, len(self.sizes) - 1)))
         places = [step.place for step in capture.steps] + [last]
         for number, step in enumerate(capture.steps):
             is_told = step.packets <= capture.told_packets or capture.kind == "ts_tap"
@@ -277,16 +258,14 @@ class History(Walk):
         from then on only what is read leaves it; with KEEP it holds what comes before the span."""
         clear, told, loss = kept
         full = (self.sizes[loss.told] or 1) - 1 - loss.room
-        most = [loss.begin - step.answered if capture.keeps else full for step in capture.steps]
-        between = range(clear + 1, told)
-        last = max(clear + 1, told - 1)
-        sure = next((number for number in between if bounds[number][0] > most[number] or capture.steps[number].is_over), last)
-        first = min(sure, next((number for number in between if bounds[number][1] > most[number]), last))
-        for number in range(first, told):
-            read = capture.steps[number].answered - capture.steps[min(first, told - 1)].answered
-            left = most[number] if capture.keeps else full - read
+        steps, last = capture.steps, max(clear + 1, told - 1)
+        between = [(number, loss.begin - steps[number].answered if capture.keeps else full) for number in range(clear + 1, told)]
+        sure = next((number for number, most in between if bounds[number][0] > most or steps[number].is_over), last)
+        first = min(sure, next((number for number, most in between if bounds[number][1] > most), last))
+        for number, most in between[first - clear - 1 :]:
+            left = most if capture.keeps else full - steps[number].answered + steps[min(first, told - 1)].answered
             bounds[number] = (left if number >= sure else min(bounds[number][0], left), left)
-        first, sure = (capture.steps[min(number, told)].place for number in (first, sure))
+        first, sure = (steps[min(number, told)].place for number in (first, sure))
         return loss._replace(first=first, sure=sure)
 
 

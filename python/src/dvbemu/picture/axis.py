@@ -6,17 +6,20 @@ two calls on two nodes can stand on two sides of a batch though they came the ot
 """
 from __future__ import annotations
 
+from array import array
 from typing import TYPE_CHECKING
+
 from .. import reports
+from .marks import Group
 from .svg import LEFT, STRIP, WIDTH
 
 if TYPE_CHECKING:
-    from typing import Callable, Iterable, Tuple, TypeVar, Union
+    from typing import Iterable, Sequence, Tuple, TypeVar, Union
 
     from ..reports import Entry, Outcome, Report
 
     T = TypeVar("T")
-    # A call's step, or that of a command that makes none; and a call's client and step.
+    # A call's step, or that of a command that makes none: the step before it, and its number; and a call's client and step.
     Step = Union[int, Tuple[int, int]]
     Call = Tuple[int, Step]
 
@@ -29,10 +32,9 @@ class Gap:
     def __init__(self) -> None:
         self.nodes: dict[int, list[Call]] = {}
         self.clients: dict[int, list[tuple[Step, int | None]]] = {}
-        self.width = 0
 
     def add(self, node: int | None, client: int, step: Step) -> None:
-        """Adds a call; node is None for a command that makes none, whose step is a pair: the step before it, and its number."""
+        """Adds a call; node is None for a command that makes none."""
         if node is not None:
             self.nodes.setdefault(node, []).append((client, step))
         self.clients.setdefault(client, []).append((step, node))
@@ -44,34 +46,29 @@ class Gap:
         places: dict[Call, int] = {}
         behind: dict[tuple[str, int], int] = {}
         while any(own.values()):
-            if not self.place_some(waiting, own, places, behind):
-                self.place_rest(waiting, own, places)
-                break
-        self.width = max(places.values(), default=-1) + 1
+            before = len(places)
+            for client, calls in own.items():
+                self.place_some(client, calls, waiting, places, behind)
+            if len(places) == before:
+                # (what is left in the order of its node alone: in no report of a program is each of two callers before the other)
+                commands = [(client, step) for client, calls in own.items() for step, node in reversed(calls) if node is None]
+                left = [*(call for calls in waiting.values() for call in reversed(calls)), *commands]
+                first = max(places.values(), default=-1) + 1
+                return {**places, **{call: first + number for number, call in enumerate(left)}}
         return places
 
-    def place_some(self, waiting: dict[int, list[Call]], own: dict[int, list[tuple[Step, int | None]]], places: dict[Call, int], behind: dict[tuple[str, int], int]) -> bool:
-        """Places the calls that are the next ones of their client and their node; tells whether there was one."""
-        has_placed = False
-        for client, calls in own.items():
-            while calls and (calls[-1][1] is None or waiting[calls[-1][1]][-1] == (client, calls[-1][0])):
-                step, node = calls.pop()
-                keys = [("client", client)] + ([("node", node)] if node is not None else [])
-                places[client, step] = max(behind.get(key, 0) for key in keys)
-                behind.update(dict.fromkeys(keys, places[client, step] + 1))
-                if node is not None:
-                    waiting[node].pop()
-                has_placed = True
-        return has_placed
-
     @staticmethod
-    def place_rest(waiting: dict[int, list[Call]], own: dict[int, list[tuple[Step, int | None]]], places: dict[Call, int]) -> None:
-        """Places what is left in the order of its node alone: in no report of a program is each of two callers before the other."""
-        place = max(places.values(), default=-1) + 1
-        commands = [(client, step) for client, calls in own.items() for step, node in reversed(calls) if node is None]
-        for call in [*(call for calls in waiting.values() for call in reversed(calls)), *commands]:
-            places[call] = place
-            place += 1
+    def place_some(client: int, calls: list[tuple[Step, int | None]], waiting: dict[int, list[Call]], places: dict[Call, int],
+                   behind: dict[tuple[str, int], int]) -> None:  # fmt: skip
+        """Places the calls of a client that are the next ones of their node."""
+        while calls and (calls[-1][1] is None or waiting[calls[-1][1]][-1] == (client, calls[-1][0])):
+            step, node = calls.pop()
+            keys = [("client", client)]
+            if node is not None:
+                waiting[node].pop()
+                keys.append(("node", node))
+            places[client, step] = max(behind.get(key, 0) for key in keys)
+            behind.update(dict.fromkeys(keys, places[client, step] + 1))
 
 
 def order_of(call: tuple[Step, int | None]) -> tuple[int, ...]:
@@ -80,66 +77,61 @@ def order_of(call: tuple[Step, int | None]) -> tuple[int, ...]:
 
 
 class Axis:
-    """The columns from left to right. Where there are too many they are gathered in cells, and narrower."""
+    """The columns from left to right. Where there are too many they are gathered in cells, and narrower. `refused` has the steps of each
+    client that were refused or Busy."""
 
     def __init__(self, report: Report, width: float = WIDTH) -> None:
         self.width = width
-        self.gaps = self.gaps_of(report)
-        self.calls: dict[Call, int] = {}
-        starts, column = [], 0
-        for gap in self.gaps:
-            self.calls.update({call: column + place for call, place in gap.place().items()})
-            starts.append(column)
-            column += gap.width + 1
-        self.count = column - 1
-        self.batches = [start + gap.width for start, gap in zip(starts[:-1], self.gaps)]
+        self.calls: dict[int, dict[Step, int]] = {client: {} for client in range(reports.CLIENTS)}
+        self.refused: dict[int, set[int]] = {client: set() for client in range(reports.CLIENTS)}
+        gaps = self.gaps_of(report)
+        self.widths, self.batches, column = [0] * (self.passes + 1), array("Q"), 0
+        for number in range(self.passes + 1):
+            if gap := gaps.pop(number, None):
+                places = gap.place()
+                self.widths[number] = max(places.values()) + 1
+                for (client, step), place in places.items():
+                    self.calls[client][step] = column + place
+            column += self.widths[number] + 1
+            self.batches.append(column - 1)
+        self.count = self.batches.pop()
         self.gathers = self.count * CELL > width
-        self.edges = self.gathered_edges() if self.gathers else self.plain_edges()
-        self.right = self.edges[-1]
+        self.edges: Sequence[float] = array("d", self.gathered_edges()) if self.gathers else self.plain_edges()
+        self.right: float = self.edges[-1]
         self.cuts = self.strips()
 
-    def gaps_of(self, report: Report) -> list[Gap]:
-        """The calls between the batches, and the commands that make none, or none that a node has."""
-        found, seen = [Gap()], {}
+    def gaps_of(self, report: Report) -> dict[int, Gap]:
+        """The calls between the batches, by how many had passed: also the commands that make none, or none that a node has."""
+        found: dict[int, Gap] = {}
+        seen: dict[int, dict[int, int]] = {client: {} for client in range(reports.CLIENTS)}
+        passes: list[int] = []
         for node, entries in report.nodes.items():
-            passed = 0
-            for entry in entries:
-                if entry.who == "feed":
-                    passed += 1
-                    if passed == len(found):
-                        found.append(Gap())
-                else:
-                    client = int(entry.who[1])
-                    found[passed].add(node, client, entry.step)
-                    seen[client, entry.step] = passed
+            count = 0
+            for count, entry in enumerate(reports.calls_of(entries), 1):
+                client, passed = int(entry.who[1]), entry.place - count + 1
+                found.setdefault(passed, Gap()).add(node, client, entry.step)
+                seen[client][entry.step] = passed
+                is_refused = entry.reply.partition(" ")[0] in (*reports.REFUSALS, "busy")
+                (self.refused[client].add if is_refused else self.refused[client].discard)(entry.step)
+            passes.append(len(entries) - count)
+        self.passes, self.has_batches = max(passes, default=0), any(passes[:1])
         for client, outcomes in enumerate(report.clients):
             for number, outcome in enumerate(outcomes):
-                if not any((client, step) in seen for step in ends_of(outcome)):
-                    passed = seen.get((client, outcome.first - 1), 0)
-                    found[passed].add(None, client, self.step_of(outcome, number))
+                if not any(step in seen[client] for step in ends_of(outcome)):
+                    passed = seen[client].get(outcome.first - 1, 0)
+                    found.setdefault(passed, Gap()).add(None, client, (outcome.first - 1, number))
         return found
-
-    @staticmethod
-    def step_of(outcome: Outcome, number: int) -> tuple[int, int]:
-        """A step for a command that makes no call: the step before it, and its number."""
-        return outcome.first - 1, number
 
     def command(self, client: int, number: int, outcome: Outcome) -> tuple[int, int]:
         """The first and the last column of a command. One whose calls no node has stands where one without calls does."""
-        columns = [self.calls[client, step] for step in ends_of(outcome) if (client, step) in self.calls]
-        columns = columns or [self.calls.get((client, self.step_of(outcome, number)), 0)]
+        calls = self.calls[client]
+        columns = [calls[step] for step in ends_of(outcome) if step in calls] or [calls.get((outcome.first - 1, number), 0)]
         return min(columns), max(columns)
 
     def columns_of(self, entries: Iterable[Entry]) -> list[int]:
         """The column of each entry of a node."""
-        found, passed = [], 0
-        for entry in entries:
-            if entry.who == "feed":
-                found.append(self.batches[passed])
-                passed += 1
-            else:
-                found.append(self.calls[int(entry.who[1]), entry.step])
-        return found
+        batches = iter(self.batches)
+        return [next(batches) if entry.who == "feed" else self.calls[int(entry.who[1])][entry.step] for entry in entries]
 
     # ------ from columns to places on the paper
 
@@ -153,21 +145,28 @@ class Axis:
         have far more than the others, get zones of their own, together at most half of the width; each batch has as much as the
         others."""
         dense = self.dense_gaps()
-        columns = sum(gap.width * (number not in dense) + 1 for number, gap in enumerate(self.gaps)) - 1
-        pool = max(min(columns * CELL, self.width / 2), self.width - sum(self.gaps[number].width * CELL for number in dense))
-        zones = shares({number: self.gaps[number].width * CELL for number in dense}, self.width - min(pool, columns * CELL))
-        unit = min(pool, columns * CELL) / max(len(self.batches), 1)
+        columns = sum(wide * (number not in dense) + 1 for number, wide in enumerate(self.widths)) - 1
+        pool = max(min(columns * CELL, self.width / 2), self.width - sum(self.widths[number] * CELL for number in dense))
+        zones = shares({number: self.widths[number] * CELL for number in dense}, self.width - min(pool, columns * CELL))
+        unit = min(pool, columns * CELL) / max(self.passes, 1)
         edges: list[float] = [LEFT]
-        for number, gap in enumerate(self.gaps):
+        for number, wide in enumerate(self.widths):
             if number in dense:
-                edges += parts(edges[-1], zones[number], gap.width)
-            inside = (0 if number in dense else gap.width) + (number < len(self.batches))
-            edges += parts(edges[-1], unit if number < len(self.batches) else 0, inside)
+                edges += parts(edges[-1], zones[number], wide)
+            inside = (0 if number in dense else wide) + (number < self.passes)
+            edges += parts(edges[-1], unit if number < self.passes else 0, inside)
         return edges
+
+    def dense_gaps(self) -> list[int]:
+        """The first and the last gap, and at most four others that have far more calls than most."""
+        usual = sorted(self.widths)[len(self.widths) // 2]
+        most = sorted(range(1, len(self.widths) - 1), key=lambda number: -self.widths[number])[:MOST_DENSE]
+        inner = [number for number in most if self.widths[number] >= max(4, 3 * usual)]
+        return sorted({0, len(self.widths) - 1, *inner})
 
     def strips(self) -> list[float]:
         """Where the strips end, each at an edge of a cell; the last one with the columns."""
-        cells = self.edges[1:]
+        cells = list(self.edges[1:])
         if self.gathers:
             cells = [LEFT + CELL * cell for cell in range(1, int((self.right - LEFT) // CELL) + 1)]
         found: list[float] = []
@@ -186,13 +185,6 @@ class Axis:
         """What each strip shows of what is drawn between two places."""
         edges = [x, *(cut for cut in self.cuts if x < cut < to), to]
         return list(zip(edges, edges[1:]))
-
-    def dense_gaps(self) -> list[int]:
-        """The first and the last gap, and at most four others that have far more calls than most."""
-        usual = sorted(gap.width for gap in self.gaps)[len(self.gaps) // 2]
-        most = sorted(range(1, len(self.gaps) - 1), key=lambda number: -self.gaps[number].width)[:MOST_DENSE]
-        inner = [number for number in most if self.gaps[number].width >= max(4, 3 * usual)]
-        return sorted({0, len(self.gaps) - 1, *inner})
 
     def left(self, column: int) -> float:
         """The left edge of a column."""
@@ -214,12 +206,12 @@ class Axis:
         """The width of a cell."""
         return CELL if self.gathers else self.edges[1] - self.edges[0]
 
-    def gather(self, things: Iterable[T], column_of: Callable[[T], int]) -> list[tuple[int, list[T]]]:
-        """Lists of the things that fall into the same cell, by the cell, from left to right."""
-        found: dict[int, list[T]] = {}
-        for thing in things:
-            found.setdefault(self.cell(column_of(thing)), []).append(thing)
-        return sorted(found.items())
+    def gather(self, placed: Iterable[tuple[int, T]]) -> list[tuple[int, Group[T]]]:
+        """The things that fall into the same cell, each of which comes with its column, by the cell, from left to right."""
+        found: dict[int, Group[T]] = {}
+        for column, thing in placed:
+            found.setdefault(self.cell(column), Group()).add(thing)
+        return sorted(found.items(), key=lambda item: item[0])
 
 
 def ends_of(outcome: Outcome) -> tuple[int, ...]:
@@ -238,18 +230,3 @@ def shares(wanted: dict[int, float], room: float) -> dict[int, float]:
     for key in sorted(wanted, key=wanted.__getitem__):
         given[key] = min(wanted[key], (room - sum(given.values())) / (len(wanted) - len(given)))
     return given
-
-
-def moments_of(report: Report, axis: Axis) -> list[tuple[int, int]]:
-    """The columns at which the moment rises, each with the moment."""
-    found: dict[int, int] = {}
-    for entries in report.nodes.values():
-        for entry, column in zip(entries, axis.columns_of(entries)):
-            at = reports.moment(entry)
-            if at is not None:
-                found[column] = max(at, found.get(column, 0))
-    changes: list[tuple[int, int]] = []
-    for column, at in sorted(found.items()):
-        if not changes or at > changes[-1][1]:
-            changes.append((column, at))
-    return changes

@@ -9,9 +9,9 @@ from typing import TYPE_CHECKING, NamedTuple
 from xml.sax.saxutils import quoteattr
 
 from .axis import Axis
-from .lanes import lanes_of
+from .lanes import Part, Seen, lanes_of
 from .marks import legend
-from .strip import Part, Strip, least_width
+from .strip import Strip, least_width
 from .svg import GREY, LEFT, RIGHT, WHITE, WIDTH, fixed, rect
 
 if TYPE_CHECKING:
@@ -52,14 +52,13 @@ def drawing_of(report: Report, title: str, width: float = WIDTH) -> Drawing:
     """The shapes of a report's picture, whose columns are gathered where they'd be wider than this."""
     axis = Axis(report, width)
     strip = Strip(title, report, axis, 4)
-    lanes = lanes_of(report, axis, strip.bottom)
+    seen, used = Seen(axis, strip.wanted), {"count"} if axis.gathers else set()
+    lanes = lanes_of(report, axis, strip.bottom, seen, used)
     bottom = lanes[-1].bottom if lanes else strip.bottom
-    parts = strip.parts()
-    parts += [Part(lane.name, lane.y, lane.bottom, lane.draw()) for lane in lanes]
-    used = strip.used.union(*(lane.used for lane in lanes), ["count"] if axis.gathers else [])
+    parts = strip.parts(seen) + lanes
     count, top = len(axis.cuts), strip.passes_y
     below = top + count * (bottom - top) + (count - 1) * BETWEEN
-    told, end = legend(used, below)
+    told, end = legend(used | strip.used, below)
     width = max(widest(axis) + RIGHT, least_width(strip))
     return Drawing(axis, strip.head(), strip.guides(bottom), parts, told, top, bottom, below, end, width)
 

@@ -1,47 +1,63 @@
-"""The marks of a picture, the rows that they stand in, and the legend."""
+"""The marks of a picture as tables of data: which entries are one, how each is drawn, the rows that they stand in, and the legend."""
 from __future__ import annotations
 
 import textwrap
 from collections import Counter
-from typing import TYPE_CHECKING
+from functools import partial
+from typing import TYPE_CHECKING, Generic, NamedTuple, TypeVar
 
 from .. import reports
 from .svg import (
     BLACK, BLUE, GREEN, GREY, LEAST_WIDTH, MIDDLE, ORANGE, PALE, PURPLE, RED, SIGN, SKY, SMALL, WHITE, YELLOW, circle, counted,
     grouped, heading, path, rect, short_number, side, text, upright, width_of,
-)
+)  # fmt: skip
 
 if TYPE_CHECKING:
-    from typing import Callable, Collection, Iterable, List, Sequence, Tuple, TypeVar
+    from typing import Callable, Collection, Dict, List, Sequence, Tuple
 
     from ..reports import Entry
     from .axis import Axis
-    from .svg import Step
 
-    T = TypeVar("T")
-    Placed = Tuple[int, Entry]
     Mark = Callable[[float, float], List[str]]
     Point = Tuple[float, float]
-    # The fill, the edge and the ink of a count.
-    Colours = Tuple[str, str, str]
+    # The entries of each kind, by their cells.
+    Groups = Dict[str, Dict[int, "Group[Entry]"]]
 
-ROW = 18
-WORDS_AT_ONCE = 8
+T = TypeVar("T")
+ROW, WORDS_AT_ONCE = 18, 8
 
 
-def words_of(things: Sequence[T], say: Callable[[T], str]) -> str:
-    """What a title says of several things."""
-    said = [say(thing) for thing in things[:WORDS_AT_ONCE]]
-    more = len(things) - len(said)
-    return "\n".join(([f"{len(things)} here:"] if len(things) > 1 else []) + said + ([f"and {more} more"] if more else []))
+class Group(Generic[T]):
+    """Things that share a place: how many, those that are shown, the last one, and how often each name is among them."""
+
+    def __init__(self) -> None:
+        self.count = 0
+        self.shown: list[T] = []
+        self.names: Counter[str] = Counter()
+
+    def add(self, thing: T, name: str = "") -> None:
+        """Puts one behind the others."""
+        self.count += 1
+        self.last = thing
+        if self.count <= WORDS_AT_ONCE:
+            self.shown.append(thing)
+        self.names[name] += 1
+
+    def join(self, other: Group[T]) -> None:
+        """Puts those of another group behind the others."""
+        self.count, self.shown, self.last = self.count + other.count, (self.shown + other.shown)[:WORDS_AT_ONCE], other.last
+        self.names += other.names
+
+    def words(self, say: Callable[[T], str]) -> str:
+        """What a title says of them."""
+        more = self.count - len(self.shown)
+        head = [f"{self.count} here:"] if self.count > 1 else []
+        return "\n".join(head + list(map(say, self.shown)) + ([f"and {more} more"] if more else []))
 
 
 def reply_words(reply_text: str) -> str:
     """A reply, where data is told by its length."""
-    if reply_text.startswith("data "):
-        length = reports.read_reply(reply_text)["length"]
-        return f"data of {counted(length, 'byte')}"
-    return reply_text
+    return f"data of {counted(reports.data_length(reply_text), 'byte')}" if reply_text.startswith("data ") else reply_text
 
 
 def entry_words(entry: Entry) -> str:
@@ -49,7 +65,7 @@ def entry_words(entry: Entry) -> str:
     return f"{entry.place} {entry.who} {entry.step} {entry.act} = {reply_words(entry.reply)}"
 
 
-# ------ marks
+# ------ how marks are drawn
 
 
 def dot(radius: float, look: str) -> Mark:
@@ -57,25 +73,15 @@ def dot(radius: float, look: str) -> Mark:
     return lambda x, y: [circle(x, y, radius, look)]
 
 
-def box(half_width: float, half_height: float, look: str) -> Mark:
-    """A mark that is a box, so far to each side."""
-    return lambda x, y: [rect(x - half_width, y - half_height, 2 * half_width, 2 * half_height, look)]
+def box(half_width: float, half_height: float, look: str, above: float = 0) -> Mark:
+    """A mark that is a box, so far to each side, and its middle so far above."""
+    return lambda x, y: [rect(x - half_width, y - half_height - above, 2 * half_width, 2 * half_height, look)]
 
 
-def polygon(points: Sequence[Point], look: str) -> Mark:
-    """A mark that is a polygon, whose corners are told from its middle."""
-    return lambda x, y: [path([*steps_of(points, x, y), ("Z",)], look)]
-
-
-def cross(half: float, look: str) -> Mark:
-    """A mark that is a cross, so far to each side."""
-    strokes = [(-half, -half), (half, half)], [(-half, half), (half, -half)]
-    return lambda x, y: [path([step for stroke in strokes for step in steps_of(stroke, x, y)], look)]
-
-
-def steps_of(points: Iterable[Point], x: float, y: float) -> list[Step]:
-    """The steps of a path through points that are told from a place."""
-    return [("L" if number else "M", x + right, y + down) for number, (right, down) in enumerate(points)]
+def lines(strokes: Sequence[Sequence[Point]], look: str, end: str = "") -> Mark:
+    """A mark of lines through points, which are told from its middle; with `Z` each is closed."""
+    return lambda x, y: [path([*(("L" if number else "M", x + right, y + down) for stroke in strokes for number, (right, down) in enumerate(stroke)),
+                               *([(end,)] if end else [])], look)]  # fmt: skip
 
 
 def pill(x: float, y: float, words: str, fill: str, stroke: str, ink: str) -> list[str]:
@@ -84,108 +90,7 @@ def pill(x: float, y: float, words: str, fill: str, stroke: str, ink: str) -> li
     return [rect(x - 11, y - 7, 22, 14, look), text(x, y + 3.3, words, SMALL, f'{MIDDLE} fill="{ink}"')]
 
 
-# ------ rows
-
-
-class Row:
-    """A row of marks: its name at the left, and the entries. An entry comes with its column."""
-
-    height = ROW
-
-    def __init__(self, name: str, entries: Sequence[Placed], key: str) -> None:
-        self.name, self.entries, self.key, self.left_out = name, entries, key, False
-
-    def draw(self, axis: Axis, y: float) -> list[str]:
-        """The marks, in a row that begins at y."""
-        raise NotImplementedError
-
-
-class MarkRow(Row):
-    """A row of marks of one kind: how one is drawn, the colours of a count, and what is written beside a mark where there is room."""
-
-    def __init__(self, name: str, entries: Sequence[Placed], mark: Mark, colours: Colours, beside: Callable[[Entry], str] = lambda entry: "") -> None:
-        super().__init__(name, entries, "call" if name in CALLS else name)
-        self.mark, self.colours, self.beside = mark, colours, beside
-
-    def draw(self, axis: Axis, y: float) -> list[str]:
-        """The marks, in the middle of a row that begins at y; marks in the same cell are counted."""
-        found, middle = [side(y + 12, self.name)], y + ROW / 2
-        cells = axis.gather(self.entries, lambda thing: thing[0])
-        behind = [axis.cell_middle(cell) for cell, _ in cells[1:]] + [axis.right + 40]
-        for (cell, things), next_x in zip(cells, behind):
-            x, entries = axis.cell_middle(cell), [entry for _, entry in things]
-            shapes = self.mark(x, middle) if len(entries) == 1 else pill(x, middle, short_number(len(entries)), *self.colours)
-            words = self.beside(entries[0]) if len(entries) == 1 else ""
-            fits = x + 6 + width_of(words, SMALL) <= min(next_x - 8, axis.end_of_strip(x) + 4)
-            self.left_out = self.left_out or bool(words) and not fits
-            shapes += [text(x + 6, middle + 3, words if fits else SIGN, SMALL)] if words else []
-            found += grouped(shapes, words_of(entries, entry_words))
-        return found
-
-
-class WordRow(Row):
-    """A row of boxes with a word each: calls with their names, or refusals with their errors."""
-
-    def __init__(self, name: str, entries: Sequence[Placed], word: Callable[[Entry], str], look: str) -> None:
-        super().__init__(name, entries, f"{name} in words")
-        self.word, self.look = word, look
-
-    def draw(self, axis: Axis, y: float) -> list[str]:
-        """The boxes; each has a column of its own, unless several nodes share the row."""
-        found, wide = [side(y + 12, self.name)], axis.cell_width() - 1.5
-        for cell, things in axis.gather(self.entries, lambda thing: thing[0]):
-            x, entries = axis.cell_middle(cell), [entry for _, entry in things]
-            more = f" x{len(entries)}" if len(entries) > 1 else ""
-            found.append(rect(x - wide / 2, y + 2, wide, 14, f'rx="3" {self.look}', words_of(entries, entry_words)))
-            said = self.word(entries[0]) + more
-            said = said if width_of(said, SMALL) <= wide else f"{len(entries)}{SIGN}"
-            found.append(text(x, y + 12, said, SMALL, MIDDLE))
-        return found
-
-
-class UprightRow(Row):
-    """A row of boxes with the names of calls, upright, one or two a cell."""
-
-    height = 46
-
-    def __init__(self, entries: Sequence[Placed]) -> None:
-        super().__init__("calls", entries, "calls in words")
-
-    @staticmethod
-    def holds(axis: Axis, entries: Sequence[Placed]) -> bool:
-        """Whether no cell has more names than it has room for."""
-        cells = axis.gather(entries, lambda thing: thing[0])
-        return all(len({name_of(entry) for _, entry in things}) <= 2 for _, things in cells)
-
-    def draw(self, axis: Axis, y: float) -> list[str]:
-        """The boxes."""
-        found, wide = [side(y + 20, self.name)], axis.cell_width() - 1.5
-        for cell, things in axis.gather(self.entries, lambda thing: thing[0]):
-            x, entries = axis.cell_middle(cell), [entry for _, entry in things]
-            names = Counter(map(name_of, entries))
-            found.append(rect(x - wide / 2, y + 1, wide, 43, f'rx="3" {CALL_LOOK}', words_of(entries, entry_words)))
-            places = [x] if len(names) == 1 else [x - 5.5, x + 5.5]
-            for at, (name, count) in zip(places, names.items()):
-                said = name if count == 1 else f"{name} x{count}"
-                found.append(upright(at, y + 22.5, said if width_of(said, SMALL) <= 43 else f"{name[:3]} x{count}", SMALL))
-        return found
-
-
-CALLS = ("open", "close", "section", "pes", "add", "remove", "start", "stop", "size", "attach", "detach")
-CALL_LOOK, REFUSED_LOOK = f'fill="{PALE}" stroke="{GREY}"', f'fill="{WHITE}" stroke="{BLACK}" stroke-width="1.2"'
-EDGE = f'stroke="{BLACK}" stroke-width="0.7"'
-# How each kind of entry is drawn, the colours of a count of them, and what the legend says.
-MARKS: dict[str, tuple[Mark, Colours, str]] = {
-    "data": (dot(4, f'fill="{BLUE}"'), (BLUE, BLUE, WHITE), "read: data"),
-    "again": (dot(3.5, f'fill="{WHITE}" stroke="{BLUE}" stroke-width="1.5"'), (WHITE, BLUE, BLACK), "read: again"),
-    "overflow": (polygon([(0, -6), (6, 0), (0, 6), (-6, 0)], f'fill="{RED}"'), (RED, RED, WHITE), "read: overflow"),
-    "timed out": (polygon([(-5, -5), (5, -5), (-5, 5), (5, 5)], f'fill="{PURPLE}" {EDGE}'), (PURPLE, BLACK, BLACK), "read: timed out"),
-    "readable": (box(3.5, 3.5, f'fill="{GREEN}"'), (GREEN, GREEN, WHITE), "poll: readable"),
-    "not readable": (box(3, 3, f'fill="{WHITE}" stroke="{GREEN}" stroke-width="1.5"'), (WHITE, GREEN, BLACK), "poll: not readable"),
-    "refused": (cross(4, f'stroke="{BLACK}" stroke-width="2" fill="none"'), (WHITE, BLACK, BLACK), "refused or busy"),
-    "dropped": (polygon([(-5, -4), (5, -4), (0, 5)], f'fill="{ORANGE}" {EDGE}'), (ORANGE, BLACK, BLACK), "call that drops unread bytes"),
-    "played": (polygon([(-4, -5), (5, 0), (-4, 5)], f'fill="{YELLOW}" {EDGE}'), (YELLOW, BLACK, BLACK), "packets that a client has written pass"),
-}
+# ------ kinds of entries
 
 
 def name_of(entry: Entry) -> str:
@@ -204,11 +109,37 @@ def dropped_bytes(entry: Entry) -> int:
     return end - begin
 
 
-BESIDE: dict[str, Callable[[Entry], str]] = {"data": lambda entry: str(reports.reply_of(entry)["length"]), "dropped": lambda entry: str(dropped_bytes(entry))}
+class Kind(NamedTuple):
+    """A kind of entries: how one is drawn, the fill, the edge and the ink of a count, what the legend says, and what is written beside one."""
+
+    mark: Mark
+    colours: tuple[str, str, str]
+    legend: str = ""
+    beside: Callable[[Entry], str] = lambda entry: ""
+
+
+CALLS = ("open", "close", "section", "pes", "add", "remove", "start", "stop", "size", "attach", "detach")
+CALL_LOOK, REFUSED_LOOK = f'fill="{PALE}" stroke="{GREY}"', f'fill="{WHITE}" stroke="{BLACK}" stroke-width="1.2"'
+EDGE = f'stroke="{BLACK}" stroke-width="0.7"'
+KINDS = {
+    "data": Kind(dot(4, f'fill="{BLUE}"'), (BLUE, BLUE, WHITE), "read: data", lambda entry: str(reports.data_length(entry.reply))),
+    "again": Kind(dot(3.5, f'fill="{WHITE}" stroke="{BLUE}" stroke-width="1.5"'), (WHITE, BLUE, BLACK), "read: again"),
+    "overflow": Kind(lines([[(0, -6), (6, 0), (0, 6), (-6, 0)]], f'fill="{RED}"', "Z"), (RED, RED, WHITE), "read: overflow"),
+    "timed out": Kind(lines([[(-5, -5), (5, -5), (-5, 5), (5, 5)]], f'fill="{PURPLE}" {EDGE}', "Z"), (PURPLE, BLACK, BLACK), "read: timed out"),
+    "readable": Kind(box(3.5, 3.5, f'fill="{GREEN}"'), (GREEN, GREEN, WHITE), "poll: readable"),
+    "not readable": Kind(box(3, 3, f'fill="{WHITE}" stroke="{GREEN}" stroke-width="1.5"'), (WHITE, GREEN, BLACK), "poll: not readable"),
+    "refused": Kind(lines([[(-4, -4), (4, 4)], [(-4, 4), (4, -4)]], f'stroke="{BLACK}" stroke-width="2" fill="none"'), (WHITE, BLACK, BLACK),
+                    "refused or busy"),
+    "dropped": Kind(lines([[(-5, -4), (5, -4), (0, 5)]], f'fill="{ORANGE}" {EDGE}', "Z"), (ORANGE, BLACK, BLACK), "call that drops unread bytes",
+                    lambda entry: str(dropped_bytes(entry))),
+    "played": Kind(lines([[(-4, -5), (5, 0), (-4, 5)]], f'fill="{YELLOW}" {EDGE}', "Z"), (YELLOW, BLACK, BLACK),
+                   "packets that a client has written pass"),
+}  # fmt: skip
+CALL = Kind(box(5, 5, f'rx="3" {CALL_LOOK}'), (PALE, GREY, BLACK))
 
 
 def kinds_of(entry: Entry) -> list[str]:
-    """The rows that a client's entry stands in."""
+    """The kinds that a client's entry has; `call` and its name are two."""
     first = error_of(entry)
     if first in reports.REFUSALS or first == "busy":
         return ["refused"]
@@ -218,30 +149,89 @@ def kinds_of(entry: Entry) -> list[str]:
         return ["played"]
     if entry.act.startswith("read "):
         return ["timed out" if first == "timedout" else first]
-    return ["dropped", "call"] if dropped_bytes(entry) else ["call"]
+    return [*(["dropped"] if dropped_bytes(entry) else []), "call", name_of(entry)]
 
 
-def rows_of(placed: Iterable[Placed], axis: Axis) -> list[Row]:
-    """The rows of marks of the entries, which come with their columns, without the empty ones."""
-    found: dict[str, list[Placed]] = {kind: [] for kind in [*MARKS, "call"]}
-    for column, entry in placed:
-        if entry.who != "feed":
-            for kind in kinds_of(entry):
-                found[kind].append((column, entry))
-    calls, has_room = found.pop("call"), axis.cell_width() >= 41
-    rows: list[Row] = [MarkRow(kind, things, *MARKS[kind][:2], BESIDE.get(kind, lambda entry: "")) for kind, things in found.items() if things]
-    if not has_room and calls and UprightRow.holds(axis, calls):
-        return [*rows, UprightRow(calls)]
-    if not has_room:
-        by_name = [(name, [thing for thing in calls if name_of(thing[1]) == name]) for name in CALLS]
-        return rows + [MarkRow(name, things, box(5, 5, f'rx="3" {CALL_LOOK}'), (PALE, GREY, BLACK)) for name, things in by_name if things]
-    rows = [WordRow("refused", row.entries, error_of, REFUSED_LOOK) if row.name == "refused" else row for row in rows]
-    return rows + ([WordRow("calls", calls, name_of, CALL_LOOK)] if calls else [])
+# ------ rows
 
 
-# ------ the legend
+class Row(NamedTuple):
+    """A row of marks: its name at the left, what the legend has of it, its height, and what draws its cells from a height on, and notes what
+    else is used of the legend."""
+
+    name: str
+    key: str
+    height: float
+    paint: Callable[[Axis, float, set[str]], list[str]]
+
+    def draw(self, axis: Axis, y: float, used: set[str]) -> list[str]:
+        """Its name and its marks."""
+        used.add(self.key)
+        return [side(y + (20 if self.height > ROW else 12), self.name), *self.paint(axis, y, used)]
 
 
+def paint_marks(kind: Kind, groups: dict[int, Group[Entry]], axis: Axis, y: float, used: set[str]) -> list[str]:
+    """Marks of one kind, in the middle of a row; those in the same cell are counted."""
+    found: list[str] = []
+    cells = sorted(groups)
+    for cell, behind in zip(cells, [*map(axis.cell_middle, cells[1:]), axis.right + 40]):
+        group, x, middle = groups[cell], axis.cell_middle(cell), y + ROW / 2
+        shapes = kind.mark(x, middle) if group.count == 1 else pill(x, middle, short_number(group.count), *kind.colours)
+        if words := kind.beside(group.shown[0]) if group.count == 1 else "":
+            fits = x + 6 + width_of(words, SMALL) <= min(behind - 8, axis.end_of_strip(x) + 4)
+            shapes.append(text(x + 6, middle + 3, words if fits else SIGN, SMALL))
+            used |= set() if fits else {"sign"}
+        found += grouped(shapes, group.words(entry_words))
+    return found
+
+
+def paint_words(word: Callable[[Entry], str], look: str, groups: dict[int, Group[Entry]], axis: Axis, y: float, _: set[str]) -> list[str]:
+    """Boxes with a word each; each has a column of its own, unless several nodes share the row."""
+    found, wide = [], axis.cell_width() - 1.5
+    for cell, group in sorted(groups.items()):
+        x, said = axis.cell_middle(cell), word(group.shown[0]) + (f" x{group.count}" if group.count > 1 else "")
+        found.append(rect(x - wide / 2, y + 2, wide, 14, f'rx="3" {look}', group.words(entry_words)))
+        found.append(text(x, y + 12, said if width_of(said, SMALL) <= wide else f"{group.count}{SIGN}", SMALL, MIDDLE))
+    return found
+
+
+def paint_upright(groups: dict[int, Group[Entry]], axis: Axis, y: float, _: set[str]) -> list[str]:
+    """Boxes with the names of calls, upright, one or two a cell."""
+    found, wide = [], axis.cell_width() - 1.5
+    for cell, group in sorted(groups.items()):
+        x = axis.cell_middle(cell)
+        found.append(rect(x - wide / 2, y + 1, wide, 43, f'rx="3" {CALL_LOOK}', group.words(entry_words)))
+        for at, (name, count) in zip([x] if len(group.names) == 1 else [x - 5.5, x + 5.5], group.names.items()):
+            said = name if count == 1 else f"{name} x{count}"
+            found.append(upright(at, y + 22.5, said if width_of(said, SMALL) <= 43 else f"{name[:3]} x{count}", SMALL))
+    return found
+
+
+def gather(groups: Groups, cell: int, entry: Entry) -> None:
+    """Takes a client's entry into the groups of its kinds."""
+    for kind in kinds_of(entry):
+        groups.setdefault(kind, {}).setdefault(cell, Group()).add(entry, name_of(entry))
+
+
+def rows_of(groups: Groups, axis: Axis) -> list[Row]:
+    """The rows of entries, by their kinds: calls in words where there is room, else upright, else a row for each name."""
+
+    def boxed(name: str, kind: str, word: Callable[[Entry], str], look: str) -> Row:
+        return Row(name, f"{name} in words", ROW, partial(paint_words, word, look, groups[kind]))
+
+    has_room = axis.cell_width() >= 41
+    rows = [boxed(kind, kind, error_of, REFUSED_LOOK) if has_room and kind == "refused" else
+            Row(kind, kind, ROW, partial(paint_marks, look, groups[kind])) for kind, look in KINDS.items() if kind in groups]  # fmt: skip
+    if has_room:
+        return rows + ([boxed("calls", "call", name_of, CALL_LOOK)] if "call" in groups else [])
+    if "call" in groups and all(len(group.names) <= 2 for group in groups["call"].values()):
+        return [*rows, Row("calls", "calls in words", 46, partial(paint_upright, groups["call"]))]
+    return rows + [Row(name, "call", ROW, partial(paint_marks, CALL, groups[name])) for name in CALLS if name in groups]
+
+
+# ------ boxes, and the legend
+
+# The look of each kind of box, and what the legend says.
 BOXES = {
     "unread": (f'fill="{SKY}"', "bytes unread"),
     "perhaps": (f'fill="{SKY}" fill-opacity="0.35"', "bytes that may have come by then"),
@@ -274,25 +264,17 @@ def legend(used: Collection[str], y: float) -> tuple[list[str], float]:
     """What the marks mean that are used, from the height y on, and the height of its end."""
     found, row = [heading(8, y + 14, "legend")], y + 34
     x: float = 20
-    shown = [(mark, words) for kind, (mark, _, words) in MARKS.items() if kind in used]
     looks: dict[str, list[str]] = {}
-    for kind, (look, words) in BOXES.items():
-        if kind in used:
-            looks.setdefault(look, []).append(words)
-    shown += [(box_mark(look), "; ".join(words)) for look, words in looks.items()]
-    for mark, words in shown:
+    for look, words in (BOXES[kind] for kind in BOXES if kind in used):
+        looks.setdefault(look, []).append(words)
+    shown = [(kind.mark, kind.legend) for name, kind in KINDS.items() if name in used]
+    for mark, words in shown + [(box(7, 5, look, above=1), "; ".join(told)) for look, told in looks.items()]:
         if x + 14 + width_of(words, 10) > LEAST_WIDTH:
             x, row = 20, row + 18
         found += mark(x, row - 3) + [text(x + 11, row, words, 10)]
         x += 36 + width_of(words, 10)
     row += 4
-    for kind, words in NOTES.items():
-        for part in textwrap.wrap(words, 115) if kind in used else ():
-            row += 15
-            found.append(text(14, row, part, 10, f'fill="{GREY}"'))
+    for part in (part for kind, words in NOTES.items() if kind in used for part in textwrap.wrap(words, 115)):
+        row += 15
+        found.append(text(14, row, part, 10, f'fill="{GREY}"'))
     return found, row + 16
-
-
-def box_mark(look: str) -> Mark:
-    """A mark that is a box of this look."""
-    return lambda x, y: [rect(x - 7, y - 6, 14, 10, look)]

@@ -105,10 +105,11 @@ def short_number(value: int) -> str:
 
 class Labels:
     """Words side by side on one line between two edges, each only where it doesn't touch the one before and isn't cut where a strip ends.
-    `left_out` says whether one was left out."""
+    `used` tells of the legend whether one was left out."""
 
     def __init__(self, y: float, left: float, right: float, look: str = "", cuts: Sequence[float] = ()) -> None:
-        self.y, self.left, self.right, self.look, self.cuts, self.left_out = y, left, right, look, cuts, False
+        self.y, self.left, self.right, self.look, self.cuts = y, left, right, look, cuts
+        self.used: set[str] = set()
 
     def at(self, x: float, words: str) -> list[str]:
         """The words centred about x or near it; nothing where they don't fit."""
@@ -127,7 +128,7 @@ class Labels:
         found = self.at(x, words)
         if found:
             return found
-        self.left_out = True
+        self.used.add("sign")
         if x - 2 < self.left - 6:
             return []
         self.left = max(self.left, x + 6)
