@@ -32,7 +32,7 @@ PROGRAM = str(ROOT / "dvbemu")
 SERVED = ROOT / "tests" / "served.report"
 SERVER = ROOT / "crates" / "dvb_serve" / "out" / "dvb_serve"
 # The words that start a program, or are one.
-STARTS = {*command_line.PROVED, "serve", "calls", "test", "beside"}
+STARTS = {*command_line.PROVED, "serve", "fuzz", "calls", "test", "beside"}
 # The seconds in which a command must have ended.
 ENDS = 60
 EMPTY = b"dvbemu 1\npackets=0 skipped=0 rest=0\nend\n"

@@ -25,7 +25,8 @@ ALONE = {
     "bytes": (1, "dvbemu bytes: standard input: line 1: expected"), "pace": (1, "dvbemu pace: standard input: fewer than two PCRs"),
     "json": (1, "dvbemu json: standard input: line 1: expected"), "page": (1, "dvbemu page: standard input: line 1: expected"),
     "serve": (2, "STREAM, COMMAND; -- stands in front of COMMAND"), "words": (0, ""),
-    "beside": (3, "dvbemu: script line 1: nostream"), "test": (2, "PATH"), "session": (2, "REPORT, STREAM"), "merge": (2, "FOLDER"),
+    "beside": (3, "dvbemu: script line 1: nostream"), "fuzz": (2, "RECORDING, COMMAND; -- stands in front of COMMAND"),
+    "test": (2, "PATH"), "session": (2, "REPORT, STREAM"), "merge": (2, "FOLDER"),
     "packet": (2, "PID, COUNTER, KIND, BYTES"), "calls": (2, "PROGRAM"), "build": (2, "PROGRAM"),
 }  # fmt: skip
 # A word in the place of which a file stands, and the status where that isn't there, is a folder, or has random bytes. Those that read no
@@ -39,13 +40,15 @@ READS = {
     "session {} session": (1, 1, 1), "session report {}": (1, 1, 1), "pace {}": (1, 1, 1), "words {}": (1, 1, 0), "merge {}": (1, 1, 1),
     "test {}": (1, 1, 1), "calls {}": (127, 127, 127), "packet {} 0 payload 00": (2, 2, 2), "packet 0 0 payload {}": (1, 1, 1),
     "serve {} -- true": (1, 1, 1), "serve --channels {} -- true": (1, 1, 1), "build {}": (2, 2, 2),
+    "fuzz {} -- true": (1, 1, 1),
 }  # fmt: skip
 # Those that write: what they are given by standard input.
 WRITES = {
     "steps -": "session", "run -": "session", "make 7": None, "selftest 7": None, "explain": "report", "picture": "report", "page": "report",
-    "json": "report", "explain - session": "report", "beside": "session", "bytes": "report", "session - stream": "served", "words": "session", "pace --rate 1000": "stream",
+    "json": "report", "explain - session": "report", "beside": "session", "bytes": "report", "session - stream": "served",
+    "words": "session", "pace --rate 1000": "stream",
     "packet 0 0 payload 00": None, "test a.session": None, "check - session": "report", "calls true": None,
-    "merge kept": None, "build dvbemu": None, "serve --help": None, "--help": None, "--version": None,
+    "merge kept": None, "build dvbemu": None, "serve --help": None, "fuzz --help": None, "--help": None, "--version": None,
 }  # fmt: skip
 # Those that are done by the program alone.
 OWN = "make 7", "selftest 7"
@@ -59,7 +62,7 @@ WAITS = (
 REPORTS = "explain", "picture", "page", "json", "bytes", "session", "check -"
 BEGINS = {"check": b"report 9\n", "json --back": b"{"}
 # Those that wait for a reader, and for a program that has begun.
-FULL = "make 7", "selftest 7", "packet 0 0 payload 00", "merge kept", "build dvbemu"
+FULL = "make 7", "selftest 7", "packet 0 0 payload 00", "merge kept", "build dvbemu", "fuzz --help"
 READY = "-- sh -c echo${IFS}ready>&2;exec${IFS}sleep${IFS}600"
 BEGUN = f"calls {READY}", f"serve --packets 1500 --report r stream {READY}"
 INTERRUPTED = [line for line in WAITS if not line.startswith("serve ")]

@@ -21,8 +21,8 @@ ROOT_LINE, UNOPENED = re.compile("dvbemu serve: started by root: .*\n"), re.comp
 # A line of each word that ends with the status 0 and has written something.
 LINES = {
     "steps": "steps session", "run": "run session", "check": "check report session", "make": "make 7", "selftest": "selftest 7",
-    "serve": "serve --help", "explain": "explain report", "beside": "beside session", "picture": "picture report", "page": "page report", "json": "json report",
-    "bytes": "bytes report", "session": "session served recording",
+    "serve": "serve --help", "explain": "explain report", "beside": "beside session", "picture": "picture report", "page": "page report",
+    "json": "json report", "bytes": "bytes report", "session": "session served recording", "fuzz": "fuzz --help",
     "test": "test tests", "words": "words session", "packet": "packet 0 0 payload 00", "pace": "pace --rate 1000 stream",
     "calls": "calls true", "merge": "merge kept", "build": "build dvbemu", "--help": "--help", "--version": "--version",
 }  # fmt: skip

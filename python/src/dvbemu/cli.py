@@ -38,6 +38,7 @@ PROVED = {
 # The tools, each a module of `commands`, and what it does.
 TOOLS = {
     "serve": "runs DVB programs, as they are, on a recording, and writes a report of their calls",
+    "fuzz": "runs a program before mutated copies of a recording, and keeps small streams before which it fails",
     "explain": "tells a report in sentences, with hints; with its stream too, why filters got nothing",
     "beside": "tells which replies of a session Linux would give otherwise, and why",
     "picture": "draws a report",

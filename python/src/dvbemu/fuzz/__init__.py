@@ -1,0 +1,1 @@
+"""`dvbemu fuzz`: streams that nobody would send, before receivers as they are."""

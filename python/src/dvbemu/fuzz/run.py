@@ -1,0 +1,451 @@
+"""Runs of a command before streams, several at a time: each is a fork of this process, with a server, a folder and limits of its own.
+
+What a run has is in memory: its stream, its report, and the first and the last of what its programs write. However it ends, its whole tree of
+processes is ended; where this process is killed, the clearing of `serve` ends it.
+"""
+from __future__ import annotations
+
+import json
+import math
+import os
+import re
+import resource
+import select
+import shutil
+import signal
+import time
+from argparse import Namespace
+from dataclasses import dataclass, field
+from typing import TYPE_CHECKING, NamedTuple
+
+from .. import standard
+from ..child import in_memory
+from ..commands.serve import Outs
+from ..server import feeder
+from ..server.adapters import Adapter, Folder, adopt, end_with
+from ..server.channels import Channel, channels_of
+from ..server.clearing import end_all
+from ..server.commands import environment, still_there
+from ..stream.packets import PACKET
+
+if TYPE_CHECKING:
+    from typing import Any, BinaryIO, Iterator, NoReturn, Sequence
+
+# What is kept of the output, its beginning and its end; the bytes of a file that a program may write, the files and the processes that it may
+# have; the bytes of a file that is copied; the seconds of a pause, and those behind its limit in which a run has to be over.
+KEPT, FILES_OF, FILES, PROCESSES, COPIED, PAUSE, OVER = 32 << 10, 256 << 20, 1024, 256, 16 << 20, 0.02, 60
+# The signals by which a program is said to have crashed, also where a shell tells it as a status.
+CRASHES = {int(number) for number in (signal.SIGILL, signal.SIGTRAP, signal.SIGABRT, signal.SIGBUS, signal.SIGFPE, signal.SIGSEGV, signal.SIGSYS)}
+# The bytes of a loop: a short stream is played as so many of it.
+LOOP = 640 * PACKET
+STOPS = {signal.SIGINT, signal.SIGTERM, signal.SIGHUP}
+# What a sanitizer or valgrind says first, and the C library where it finds its heap or its stack broken.
+HEADS = re.compile(rb"^(?:==\d+==)?\s*(?:ERROR: (\w+Sanitizer: [\w-]+)|WARNING: (\w+Sanitizer: [\w-]+)|(.*runtime error: .*)"
+                   rb"|(Invalid (?:read|write|free)[^\n]*)|(\*\*\* [\w ]+ \*\*\*|.*(?:double free|corrupted|invalid pointer|invalid size).*))", re.M)  # fmt: skip
+# A frame of a program's stack, as gdb, a sanitizer and valgrind write it, and which are none of the program's own.
+FRAME = re.compile(rb"^(?:\s*#\d+ +(?:0x\w+ in )?|==\d+== +(?:at|by) 0x\w+: )([A-Za-z_][\w:~]*)(.*)$", re.M)
+NOT_OWN = re.compile(rb"^(?:__|_start|raise|abort|gsignal)|/lib[\w.-]*\.so|vgpreload|preload\.so|/libsanitizer/|(?:\.|\.\.)/(?:nptl|sysdeps|stdlib|string|debug|libio|malloc|csu)/")
+# What a report tells of filters that were set, and of what was read; and the lines of its nodes.
+SET = re.compile(rb"^\d+ c\d \d+ (?:section|pes|add) pid=(\d+)(?:.*? 0=(\w\w)/ff/00)?.* = done ", re.M)
+READ = re.compile(rb"^\d+ c\d (\d+) read \d+ at=\d+ = data (\w+)|^\d+ c\d \d+ (?:section|pes) pid=(\d+)", re.M)
+
+
+class Limits(NamedTuple):
+    """The seconds and the bytes of memory that a run may take."""
+
+    seconds: float
+    memory: int
+
+
+@dataclass
+class Plan:
+    """What is run, and how: the command, the packets a second, its limits, the words of further channels, the seconds of a lock, the words that
+    start the server, and whether the command never ends by itself."""
+
+    command: list[str]
+    packets: float
+    limits: Limits
+    tune: list[str] = field(default_factory=list)
+    lock: float = 0.0
+    server: list[str] = field(default_factory=list)
+    is_running: bool = False
+
+
+class Ended(NamedTuple):
+    """How a command has ended: `ended` with a status, by a `signal`, `no end` within its limit, `memory`, `processes`, or a `fault` of the run
+    itself; and the seconds and the processor's."""
+
+    kind: str
+    number: int = 0
+    seconds: float = 0.0
+    work: float = 0.0
+    told: str = ""
+
+
+class Ran(NamedTuple):
+    """A run that has ended, the output that is kept, and its report."""
+
+    ended: Ended
+    output: bytes
+    report: bytes
+
+    def is_reading(self) -> bool:
+        """Whether something was read in the second half of the stream."""
+        nodes = self.report.split(b"\nnode ")[1:]
+        return any(b" read " in node[len(node) // 2 :] and b"= data " in node[len(node) // 2 :] for node in nodes)
+
+    def asked(self) -> set[tuple[int, int]]:
+        """The PIDs that were asked for, each with a table_id, or -1."""
+        return {(int(pid), int(table, 16) if table else -1) for pid, table in SET.findall(self.report)}
+
+    def last_read(self) -> tuple[int, int]:
+        """What was read last: the PID, and the table_id or the first byte; -1 where nothing was."""
+        pid, last, found = b"", -1, (-1, -1)
+        for step, data, new in READ.findall(self.report):
+            pid = new or pid
+            if step and int(step) > last:
+                last, found = int(step), (int(pid or b"-1"), int(data[:2], 16))
+        return found
+
+    def last_text(self) -> str:
+        """The same in words."""
+        pid, table = self.last_read()
+        return f"PID {pid}, 0x{table:02X}" if table >= 0 else "nothing"
+
+    def head(self) -> str:
+        """What a sanitizer says first, with its frames; nothing where none has said something."""
+        found = HEADS.search(self.output)
+        if not found:
+            return ""
+        text = next(filter(None, found.groups())).decode(errors="replace").strip()
+        names = frames_in(self.output[found.end() :])
+        return re.sub(r"0x\w+|==\d+==", "", text)[:120] + (f" in {' < '.join(names)}" if names else "")
+
+    def kind(self, plan: Plan) -> str:
+        """What kind of failure this is; nothing where it is none."""
+        kind, number = self.ended[:2]
+        if kind == "ended" and number - 128 in CRASHES:
+            kind, number = "signal", number - 128
+        if self.head():
+            return f"{signal.Signals(number).name if kind == 'signal' else 'reported'}: {self.head()}"
+        if kind == "signal":
+            return signal.Signals(number).name
+        if plan.is_running:
+            return "" if kind == "no end" and self.is_reading() else "it reads no more" if kind == "no end" else f"{kind} {number or ''}".strip()
+        return f"status {number} of valgrind" if kind == "ended" and number in error_statuses(plan.command) else "" if kind == "ended" else kind
+
+
+def error_statuses(command: Sequence[str]) -> set[int]:
+    """The statuses by which valgrind says that it has found something."""
+    return {int(found[1]) for found in (re.fullmatch(r"--error-exitcode=(\d+)", word) for word in command) if found and found[1] != "0"}
+
+
+def frames_in(text: bytes) -> list[str]:
+    """The innermost functions of a stack that are a program's own."""
+    return [name.decode() for name, rest in FRAME.findall(text) if not NOT_OWN.search(name + rest)][:2]
+
+
+# ------ within a run
+
+
+class Held(feeder.Feeder):
+    """Plays from the beginning once a program has opened a demux or dvr device, so that a run is the same each time."""
+
+    def __init__(self, channels: Sequence[Channel], adapter: Adapter) -> None:
+        assert adapter.server.stdin
+        super().__init__(channels, adapter.front, adapter.server.stdin)
+        self.folder, self.has_begun = adapter.folder, False
+
+    def feed(self) -> bool:
+        if not self.has_begun and any(name.startswith("bell.") for name in os.listdir(self.folder)):
+            self.has_begun = True
+            if self.now:
+                self.players[self.now].begin(time.monotonic())
+        return self.has_begun and super().feed()
+
+
+class Output:
+    """The first and the last bytes of what comes through a pipe."""
+
+    def __init__(self) -> None:
+        self.end, self.theirs = os.pipe()
+        self.first, self.last, self.is_over = b"", b"", False
+
+    def take(self) -> None:
+        """Takes what has come."""
+        data = os.read(self.end, 1 << 16)
+        self.is_over = not data
+        room = KEPT - len(self.first)
+        self.first, self.last = self.first + data[:room], (self.last + data[room:])[-KEPT:]
+
+
+class Command:
+    """The command of a run: a fork that waits at a gate, and is begun when the adapter is there."""
+
+    def __init__(self, plan: Plan, folder: Folder, words: Sequence[str]) -> None:
+        self.output, self.plan = Output(), plan
+        gate, self.gate = os.pipe()
+        self.pid = os.fork()
+        if self.pid == 0:
+            os.close(self.gate)
+            begin(gate, self.output.theirs, words, folder)
+        os.close(gate)
+        os.close(self.output.theirs)
+        self.held = os.pidfd_open(self.pid)
+
+    def watch(self, servers: set[int]) -> Ended:
+        """Begins it, and waits until it has ended or is over a limit."""
+        os.write(self.gate, b".")
+        begun = time.monotonic()
+        while True:
+            ends = [self.held] + [self.output.end] * (not self.output.is_over)
+            ready = select.select(ends, [], [], PAUSE)[0]
+            if self.output.end in ready:
+                self.output.take()
+            seconds = time.monotonic() - begun
+            if self.held in ready:
+                _, status, used = os.wait4(self.pid, 0)
+                code = os.waitstatus_to_exitcode(status)
+                return Ended("signal" if code < 0 else "ended", abs(code), seconds, used.ru_utime + used.ru_stime)
+            if over := self.over(seconds, servers):
+                return Ended(over, 0, seconds, self.work())
+
+    def over(self, seconds: float, servers: set[int]) -> str:
+        """Which limit it is over."""
+        if seconds > self.plan.limits.seconds:
+            return "no end"
+        tree = [pid for pid in below(os.getpid()) if pid not in servers]
+        if sum(map(memory_of, tree)) > self.plan.limits.memory:
+            return "memory"
+        return "processes" if len(tree) > PROCESSES else ""
+
+    def work(self) -> float:
+        """The seconds of the processor that it has taken so far."""
+        try:
+            with open(f"/proc/{self.pid}/stat", encoding="ascii", errors="replace") as file:
+                return sum(map(int, file.read().rpartition(")")[2].split()[11:13])) / os.sysconf("SC_CLK_TCK")
+        except OSError:
+            return 0.0
+
+    def end(self, servers: set[int]) -> None:
+        """Ends it with all that it has started, at once; then what it has written is whole."""
+        try:
+            os.killpg(self.pid, signal.SIGKILL)
+        except OSError:
+            pass
+        end_all(lambda: still_there(servers), math.inf, lambda pid, _: os.kill(pid, signal.SIGKILL))
+        while not self.output.is_over and select.select([self.output.end], [], [], 0)[0]:
+            self.output.take()
+
+
+def below(pid: int) -> Iterator[int]:
+    """The processes below one."""
+    try:
+        for thread in os.listdir(f"/proc/{pid}/task"):
+            with open(f"/proc/{pid}/task/{thread}/children", encoding="ascii") as file:
+                for child in map(int, file.read().split()):
+                    yield child
+                    yield from below(child)
+    except OSError:
+        return
+
+
+def memory_of(pid: int) -> int:
+    """The bytes of memory that a process has to itself."""
+    try:
+        with open(f"/proc/{pid}/statm", encoding="ascii") as file:
+            words = file.read().split()
+        return (int(words[1]) - int(words[2])) * resource.getpagesize()
+    except OSError:
+        return 0
+
+
+def limit() -> None:
+    """Sets the limits of this process and of those that it starts: no core, and so many files, bytes of a file and processes."""
+    tasks = sum(1 for name in os.listdir("/proc") if name.isdecimal() and owner_of(name) == os.getuid())
+    for what, most in ((resource.RLIMIT_CORE, 0), (resource.RLIMIT_NOFILE, FILES), (resource.RLIMIT_FSIZE, FILES_OF),
+                       (resource.RLIMIT_NPROC, 4 * tasks + PROCESSES)):  # fmt: skip
+        hard = resource.getrlimit(what)[1]
+        most = most if hard == resource.RLIM_INFINITY else min(most, hard)
+        resource.setrlimit(what, (most, most))
+
+
+def owner_of(name: str) -> int:
+    """The user of a process; -1 where it has gone."""
+    try:
+        return os.stat(f"/proc/{name}").st_uid
+    except OSError:
+        return -1
+
+
+def copy_named(words: Sequence[str], here: str, room: str) -> None:
+    """Copies into the folder of a run the files that words of a command name as from here: a program that goes wild writes over none."""
+    for word in words:
+        source, copy = os.path.join(here, word), os.path.normpath(os.path.join(room, word))
+        if not os.path.isabs(word) and os.path.isfile(source) and copy.startswith(room + os.sep):
+            os.makedirs(os.path.dirname(copy), exist_ok=True)
+            if os.stat(source).st_size <= COPIED:
+                shutil.copy(source, copy)
+            else:
+                os.symlink(source, copy)
+
+
+def begin(gate: int, output: int, words: Sequence[str], folder: Folder) -> NoReturn:
+    """Waits at the gate, and becomes the command, in a folder of its own."""
+    try:
+        os.setsid()
+        room, here, env = os.path.join(folder.path, "room"), os.getcwd(), environment(folder)
+        os.mkdir(room)
+        copy_named(words[1:], here, room)
+        os.chdir(room)
+        limit()
+        for end in 1, 2:
+            os.dup2(output, end)
+        for number in signal.SIGINT, signal.SIGTERM, signal.SIGPIPE, signal.SIGHUP:
+            signal.signal(number, signal.SIG_DFL)
+        if os.read(gate, 1):
+            os.execvpe(words[0], [*words], {**env, "TMPDIR": room})
+    except OSError as fault:
+        os.write(2, f"{words[0]}: {fault.strerror}\n".encode(errors="replace"))
+    finally:
+        os._exit(127)
+
+
+def served(plan: Plan, path: str, words: Sequence[str], report: BinaryIO, kept: BinaryIO) -> Ended:
+    """Serves one run, and says how its command has ended."""
+    folder = Folder(1)
+    adopt()
+    feeder.LOCKS = plan.lock
+    adapter = command = None
+    try:
+        channels: list[Channel] = channels_of(plan.tune, None, path, plan.packets)
+        adapter = Adapter(plan.server, folder.adapters[0], channels, Namespace(seats=8, once=False, live=False), Outs(report, None, None, "all"))
+        adapter.feeder = Held(channels, adapter)
+        command, servers = Command(plan, folder, words), {adapter.server.pid}
+        adapter.start()
+        ended = command.watch(servers)
+        command.end(servers)
+        adapter.end()
+        return ended
+    except BaseException:
+        if adapter:
+            adapter.kill()
+        raise
+    finally:
+        if command:
+            command.end(set())
+            kept.write(command.output.first + command.output.last)
+            kept.flush()
+        folder.remove()
+
+
+# ------ the runs
+
+
+class Run:
+    """A run that is begun: this process's end of the pipe by which it tells how it has ended."""
+
+    def __init__(self, plan: Plan, stream: bytes, words: Sequence[str]) -> None:
+        self.stream, self.report, self.output = in_memory([stream] * max(LOOP // max(len(stream), 1), 1)), in_memory(), in_memory()
+        self.begun, self.parent = time.monotonic(), os.getpid()
+        self.end, theirs = os.pipe()
+        self.until = self.begun + plan.limits.seconds + OVER
+        # (a signal that comes meanwhile is this process's)
+        signal.pthread_sigmask(signal.SIG_BLOCK, STOPS)
+        self.pid = os.fork()
+        if self.pid == 0:
+            self.become(plan, words, theirs)
+        signal.pthread_sigmask(signal.SIG_UNBLOCK, STOPS)
+        os.close(theirs)
+
+    def become(self, plan: Plan, words: Sequence[str], theirs: int) -> NoReturn:
+        """This process serves the run, and ends."""
+        try:
+            os.setsid()
+            end_with(self.parent)
+            for number in signal.SIGINT, signal.SIGHUP, signal.SIGPIPE:
+                signal.signal(number, signal.SIG_IGN)
+            signal.signal(signal.SIGTERM, self.stop)
+            signal.pthread_sigmask(signal.SIG_UNBLOCK, STOPS)
+            null = os.open(os.devnull, os.O_RDWR)
+            for end in 0, 1, 2:
+                os.dup2(null, end)
+            ended = served(plan, f"/dev/fd/{self.stream.fileno()}", words, self.report, self.output)
+            os.write(theirs, json.dumps(ended).encode())
+        except BaseException as fault:  # pylint: disable=broad-exception-caught
+            os.write(theirs, json.dumps(Ended("fault", told=standard.told_of(fault)[0])).encode())
+        finally:
+            os._exit(0)
+
+    @staticmethod
+    def stop(*_: object) -> NoReturn:
+        """A run that is told to end ends what it has started."""
+        raise SystemExit(143)
+
+    def done(self) -> Ran:
+        """How it has ended, which it has told."""
+        told = b""
+        while data := os.read(self.end, 1 << 16):
+            told += data
+        os.waitpid(self.pid, 0)
+        os.close(self.end)
+        texts = []
+        for file in self.output, self.report:
+            with file:
+                file.seek(0)
+                texts.append(file.read())
+        self.stream.close()
+        return Ran(Ended(*json.loads(told)) if told else Ended("fault", told="the run was killed"), texts[0], texts[1])
+
+
+class Runner:
+    """Runs, so many at a time."""
+
+    def __init__(self, plan: Plan, jobs: int) -> None:
+        self.plan, self.jobs, self.count = plan, jobs, 0
+        self.running: dict[int, tuple[Any, Run]] = {}
+
+    def has_room(self) -> bool:
+        """Whether one more may be begun."""
+        return len(self.running) < self.jobs
+
+    def start(self, key: Any, stream: bytes, before: Sequence[str] = (), plan: Plan | None = None) -> None:
+        """Begins a run, which is known by a key; words may stand in front of the command."""
+        plan = plan or self.plan
+        run = Run(plan, stream, [*before, *plan.command])
+        self.running[run.end] = key, run
+        self.count += 1
+
+    def next(self) -> tuple[Any, Ran]:
+        """The next run that has ended."""
+        while True:
+            ready = select.select(list(self.running), [], [], 1)[0]
+            late = [run for _, run in self.running.values() if time.monotonic() > run.until]
+            for run in late:
+                os.kill(run.pid, signal.SIGKILL)
+            if ready:
+                key, run = self.running.pop(ready[0])
+                return key, run.done()
+
+    def all(self, streams: Sequence[bytes], before: Sequence[str] = (), plan: Plan | None = None) -> list[Ran]:
+        """Runs of these streams, by their order."""
+        found: dict[int, Ran] = {}
+        waiting = list(enumerate(streams))
+        while waiting or self.running:
+            while waiting and self.has_room():
+                self.start(*waiting.pop(0), before, plan)
+            key, ran = self.next()
+            found[key] = ran
+        return [found[number] for number in range(len(streams))]
+
+    def one(self, stream: bytes, before: Sequence[str] = (), plan: Plan | None = None) -> Ran:
+        """One run."""
+        self.start(0, stream, before, plan)
+        return self.next()[1]
+
+    def end(self) -> None:
+        """Ends all that run."""
+        for _, run in self.running.values():
+            os.kill(run.pid, signal.SIGTERM)
+        while self.running:
+            self.next()

@@ -1,0 +1,256 @@
+"""`dvbemu fuzz`: its mutations, what makes a stream small, and hunts before a receiver of C with planted faults (planted.c).
+
+Of a mutation is known what it says, and that a CRC_32 is right is asked by the standard's own register (ISO/IEC 13818-1, annex A), bit by bit.
+"""
+import os
+import re
+import shutil
+import signal
+import subprocess
+import sys
+import time
+
+import pytest
+from conftest import EXAMPLES, PROGRAM, ROOT, comes
+from dvbemu import Report
+from dvbemu.fuzz import grammar, mutate, reduce
+from dvbemu.fuzz.found import Folder, Hunt, Options
+from dvbemu.fuzz.mutate import Draw, Item
+from dvbemu.fuzz.right import PROGRAMS, RIGHT, tables_of
+from dvbemu.psi.descriptors import NAMES, texts_of
+from dvbemu.stream import tables
+from dvbemu.stream.packets import PACKET, counter_of, pcr_of, pid_of
+from dvbemu.stream.sections import sections_of
+
+RECORDING = str(EXAMPLES / "programs" / "scan.ts")
+# Of each fault the seed and the number of a stream that meets it, the kind of failure, and the cause where gdb isn't needed for it.
+FAULTS = {
+    "length": (1, 110, "SIGABRT", r"SIGABRT: \*\*\* stack smashing detected \*\*\*( in describe.*)?"),
+    "zero": (1, 115, "no-end", "no end behind PID 409[67], 0x02"),
+    "absent": (3, 212, "SIGSEGV", "SIGSEGV (in main|behind .*)"),
+    "version": (15, 220, "no-end", "no end behind PID 17, 0x42"),
+    "leak": (18, 220, "memory", "memory behind PID 17, 0x42"),
+}
+WORDS = ["--jobs", "1", "--packets", "3000", "--tries", "12", "--limit", "4", "--memory", "120"]
+
+
+def crc(data):
+    """The register of the standard's decoder behind these bytes: 0 where they end with their CRC_32."""
+    register = 0xFFFFFFFF
+    for bit in (byte >> place & 1 for byte in data for place in range(7, -1, -1)):
+        register = (register << 1 & 0xFFFFFFFF) ^ (0x04C11DB7 if register >> 31 ^ bit else 0)
+    return register
+
+
+def fuzz(room, *words, command=(), **more):
+    """`dvbemu fuzz` in a folder: its status, its lines and what it tells."""
+    asked = [PROGRAM, "fuzz", *words, "--", *command]
+    ran = subprocess.run(asked, cwd=room, capture_output=True, text=True, check=False, timeout=300, **more)
+    return ran.returncode, ran.stdout.splitlines(), ran.stderr
+
+
+@pytest.fixture(scope="module")
+def planted(compiled, server):
+    """The receiver with planted faults."""
+    return compiled("planted.c", "-g", "-O0", "-fstack-protector-all")
+
+
+@pytest.fixture
+def items():
+    return mutate.items_of(mutate.packets_in(RECORDING))
+
+
+# ------ tables that are right in form, and mutations
+
+
+def test_each_descriptor_is_right():
+    """There is one of each tag that a standard names, and none that the reader of tables finds too short."""
+    assert set(NAMES) - {one.descriptor.tag for one in RIGHT} == set()
+    assert not [text for one in RIGHT for text in texts_of([one.descriptor]) if "too short" in text]
+
+
+@pytest.mark.parametrize("chosen", [[], *([one] for one in RIGHT), RIGHT], ids=len)
+def test_tables_are_right(chosen):
+    """Each table is one by its form, stands in packets as it is, and has the descriptors that may stand there."""
+    made = tables_of(PROGRAMS, chosen)
+    for pid, data in made:
+        table = tables.read(data)
+        assert table is not None and (not grammar.has_crc(data) or crc(data) == 0)
+        assert [found.data for found in sections_of(mutate.section_packets(pid, data))] == [data]
+    for letter, table_id in {"N": 0x40, "B": 0x4A, "S": 0x42, "E": 0x4E, "T": 0x73, "P": 0x02}.items():
+        table = next(table for table in (tables.read(data) for _, data in made) if table.table_id == table_id)
+        found = [one for part in [table, *table.parts] for one in part.descriptors]
+        assert {one.descriptor for one in chosen if letter in one.tables} <= set(found)
+
+
+# A PMT by hand: program_info_length 6 with a language of 4 bytes; a stream on PID 256 with a registration of 4 bytes, one on PID 257 with none.
+PMT = bytes.fromhex("02b0230101c30000e100f0060a0464657500" "02e100f006050448444d56" "03e101f000") + bytes(4)
+PMT = grammar.mended(PMT[:1] + bytes([0xB0, len(PMT) - 3]) + PMT[3:])
+SITES = {"section_length": 12, "table_id_extension": 24, "version_number": 42, "section_number": 48, "PCR_PID": 67, "descriptors_length": 84}
+
+
+def test_map():
+    """Where the fields and the regions of that PMT stand, worked out by hand."""
+    found = grammar.map_of(PMT)
+    first = {}
+    for site in found.sites:
+        first.setdefault(site.name, site.at)
+    assert {name: first[name] for name in SITES} == SITES
+    assert [region[:3] for region in found.regions] == [
+        ("loop", 8, 34), ("loop", 12, 18), ("descriptor", 12, 18), ("data", 14, 18), ("part", 18, 29), ("loop", 23, 29), ("descriptor", 23, 29),
+        ("data", 25, 29), ("part", 29, 34), ("loop", 34, 34)]  # fmt: skip
+    assert [grammar.number_at(PMT, site) for site in found.sites if site.name.endswith("_length")] == [35, 6, 4, 6, 4, 0]
+
+
+def test_bytes_are_counted():
+    """A descriptor that goes is counted in each length that counted it: by hand."""
+    region = next(region for region in grammar.map_of(PMT).regions if region[:2] == ("descriptor", 23))
+    less = grammar.with_bytes(PMT, region.first, region.after, b"", region.lengths)
+    assert less[:-4].hex() == "02b01d0101c30000e100f0060a0464657500" "02e100f000" "03e101f000" and crc(less) == 0
+    assert grammar.with_bytes(PMT, 12, 18, bytes(4100), ()) is None
+
+
+@pytest.mark.parametrize("change", sorted({*mutate.CHANGES, mutate.bits}, key=lambda change: change.__name__), ids=lambda change: change.__name__)
+def test_changes(change):
+    """A change changes a section, so that it says what is told of it, and its CRC_32 is mended, but where that is told."""
+    made = 0
+    for number in range(300):
+        for _, data in tables_of(PROGRAMS, RIGHT[number % 90 : number % 90 + 6]):
+            item = Item(16, data)
+            found = mutate.changed(Draw(change.__name__, number), item, change)
+            if found is None or found[0].data == data:
+                continue
+            new, told = found[0].data, found[1]
+            made += 1
+            length = (new[1] & 15) << 8 | new[2]
+            is_whole = len(new) == 3 + length and length >= 4 + 5 * (new[1] >> 7)
+            assert not (is_whole and grammar.has_crc(new)) or (crc(new) == 0) != ("CRC_32 is wrong" in told)
+            if says := re.search(r"(\w+) at byte (\d+) is (\d+) in place of", told):
+                site = next(site for site in grammar.map_of(data).sites if site.name == says[1] and site.at // 8 == int(says[2]))
+                is_cut = site.at + site.bits > 8 * (len(new) - 4)
+                assert is_cut or grammar.number_at(new, site) == int(says[3])
+        if made > 200:
+            break
+    assert made > 100
+
+
+STREAMS = """
+import hashlib, sys
+sys.path.insert(0, sys.argv[1])
+from dvbemu.fuzz import mutate
+items = mutate.items_of(mutate.packets_in(sys.argv[2]))
+print([hashlib.sha256(mutate.stream_of(mutate.mutated(mutate.Draw(7, number), items, {17, 4096, 0})[0])).hexdigest() for number in range(40)])
+"""
+
+
+def test_one_seed_one_stream():
+    """The streams of a seed are the same wherever they are drawn, and each is another one."""
+    words = [sys.executable, "-B", "-c", STREAMS, str(ROOT / "python" / "src"), RECORDING]
+    first, second = (subprocess.run(words, capture_output=True, check=True, env={"PYTHONHASHSEED": seed}).stdout for seed in ("1", "2"))
+    assert first == second and len(set(first.split())) > 35
+
+
+@pytest.mark.parametrize("how", sorted(mutate.PACKETS))
+def test_packets(how):
+    """What is changed of packets."""
+    some = mutate.section_packets(17, tables_of(PROGRAMS, RIGHT)[5][1])
+    new = mutate.PACKETS[how](list(some), 9)
+    at = 9 % len(some)
+    assert all(len(one) == PACKET and pid_of(one) == 17 for one in new) and new != some
+    seen = {
+        "is lost": len(new) == len(some) - 1, "comes twice": new[at] == new[at + 1] if len(new) > at + 1 else None, "comes last": new[-1] == some[at],
+        "has an adaptation field": (new[at][3] & 0x20, new[at][4]) == (0x20, 9) if how.startswith("has an ad") else None,
+        "has another pointer_field": new[min(at, len(new) - 1)][4] == 9, "is scrambled": new[min(at, len(new) - 1)][3] & 0xC0 == 0xC0,
+        "has an error": new[min(at, len(new) - 1)][1] & 0x80, "has another continuity_counter": counter_of(new[min(at, len(new) - 1)]) == 9,
+        "begins no section": not any(one[1] & 0x40 for one in new[at : at + 1]), "has no payload": not new[min(at, len(new) - 1)][3] & 0x10,
+        "begins with a PES packet's head": new[min(at, len(new) - 1)][4:7] == b"\0\0\1", "has a PCR": pcr_of(new[min(at, len(new) - 1)]) is not None,
+    }  # fmt: skip
+    assert seen[how]
+
+
+def test_a_recording(items):
+    """Each table of the recording once, and packets of its two other PIDs; played, they are the same sections."""
+    assert sorted({(item.pid, item.data[0]) for item in items if item.is_section}) == [(0, 0), (16, 0x40), (17, 0x42), (0x1000, 2), (0x1001, 2)]
+    assert {item.pid for item in items if not item.is_section} == {256, 257}
+    stream = mutate.stream_of(items)
+    again = mutate.items_of([stream[at : at + PACKET] for at in range(0, len(stream), PACKET)])
+    assert [item for item in again if item.is_section] == [item for item in items if item.is_section]
+
+
+def test_without_a_tag():
+    """No descriptor of a tag is left, and the tables are whole."""
+    items = [Item(pid, data) for pid, data in tables_of(PROGRAMS, RIGHT)]
+    for item in mutate.without(items, {0x4A, 0x05}):
+        table = tables.read(item.data)
+        assert table and not {0x4A, 0x05} & {one.tag for part in [table, *table.parts] for one in part.descriptors}
+
+
+# ------ made small
+
+
+def test_reduced():
+    """Of sixty items the two that are asked for stay, with the one descriptor and the change that are."""
+    items = [Item(pid, data) for pid, data in tables_of(PROGRAMS, RIGHT)]
+    items += [Item(256, bytes([0x47, 1, 0, 0x10 | count % 16]) + bytes([count]) * 184, False) for count in range(44)]
+    items[3] = items[3]._replace(changes=(("is lost", 0), ("has an error", 1)))
+    tried = []
+
+    def holds(some):
+        tried.append(some)
+        has_region = any(item.is_section and b"\x05\x04HDMV" in item.data and item.pid == 0x1000 for item in some)
+        return has_region and any(("has an error", 1) in item.changes for item in some)
+
+    def first(candidates):
+        return next((at for at, some in enumerate(candidates) if holds(some)), None)
+
+    small = reduce.Reducer(items, first, 2).reduced()
+    assert len(small) == 2 and holds(small) and len(tried) < 400
+    assert [item.changes for item in small] == [(), (("has an error", 1),)]
+    assert len(small[0].data) <= 26 and crc(small[0].data) == 0
+
+
+# ------ hunts
+
+
+@pytest.mark.parametrize("fault", FAULTS)
+def test_planted(tmp_path, planted, fault):
+    """Each fault is found, and the stream made small: at most three packets, which do it again, also by their session's replies."""
+    seed, number, kind, cause = FAULTS[fault]
+    (tmp_path / "found").mkdir()
+    (tmp_path / "found" / "state").write_text(f"{seed} {number}\n")
+    status, lines, told = fuzz(tmp_path, *WORDS, "--runs", "1", "--out", "found", RECORDING, command=[planted, fault])
+    assert (status, told) == (1, "") and lines[0].startswith("ok 1 - the recording as it is: the command ends with the status 0; ")
+    point = re.fullmatch(rf"not ok 2 - ({kind}[\w-]*): {cause}", lines[1])
+    assert point and re.match(r"# [1-3] packets?: ", lines[2]), lines
+    assert lines[3].startswith("# again: dvbemu serve --packets 3000 --report r found/") and lines[4] == "1..2"
+    stream = (tmp_path / "found" / f"{point[1]}.ts").read_bytes()
+    assert len(stream) <= 3 * PACKET and (tmp_path / "found" / "state").read_text() == f"{seed} {number + 1}\n"
+    text = (tmp_path / "found" / f"{point[1]}.txt").read_text()
+    assert re.match(cause, text) and "\nWhat was changed\n" in text and "sets a section filter on n0" in text
+
+
+def test_mended(tmp_path, planted):
+    """A second run with a folder tries what is known first: it is told as it is, and as mended before a receiver without the fault. The hunt
+    goes on behind the last number."""
+    folder = tmp_path / "found"
+    folder.mkdir()
+    (folder / "SIGABRT-1.ts").write_bytes(mutate.stream_of([Item(pid, data) for pid, data in tables_of(PROGRAMS, [])[:2]]))
+    bad = bytes.fromhex("02b0210101c10000e100f00e05ff") + b"\xaa" * 12 + b"\x02\xe1\x00\xf0\x00" + bytes(1)
+    bad = Item(0x1000, grammar.mended(bad[:1] + bytes([0xB0, len(bad) + 1]) + bad[3:] + bytes(4)))
+    (folder / "SIGABRT-2.ts").write_bytes(mutate.stream_of([Item(*tables_of(PROGRAMS, [])[0]), bad]))
+    (folder / "SIGABRT-2.txt").write_text("SIGABRT in describe\n")
+    status, lines, told = fuzz(tmp_path, *WORDS, "--time", "0", "--out", "found", RECORDING, command=[planted, "length"])
+    assert (status, told) == (1, "")
+    assert lines[1:3] == ["ok 2 - SIGABRT-1: mended: ", "not ok 3 - SIGABRT-2: still: SIGABRT in describe"]
+    status, lines, _ = fuzz(tmp_path, *WORDS, "--time", "0", "--out", "found", RECORDING, command=[planted])
+    assert status == 0 and lines[1:4] == ["ok 2 - SIGABRT-1: mended: ", "ok 3 - SIGABRT-2: mended: SIGABRT in describe", "1..3"]
+
+
+def test_no_fault(tmp_path, planted):
+    """A receiver without the faults: no failure."""
+    (tmp_path / "fuzz").mkdir()
+    (tmp_path / "fuzz" / "state").write_text("1 100\n")
+    status, lines, told = fuzz(tmp_path, "--jobs", "2", "--packets", "3000", "--limit", "20", "--runs", "24", RECORDING, command=[planted])
+    assert (status, told, lines[1]) == (0, "", "1..1"), lines
+    assert re.fullmatch(r"# 25 runs in \d+ s, [\d.]+ a second; 0 failures", lines[2])
+    assert sorted(os.listdir(tmp_path)) == ["fuzz"] and os.listdir(tmp_path / "fuzz") == ["state"]
