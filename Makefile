@@ -20,12 +20,13 @@ all:
 	./dvbemu build dvbemu
 	./dvbemu build dvb_serve
 	./dvbemu-serve --packets 3000 --keep none examples/programs/scan.ts -- true
+	[ ! -d /usr/include/fuse3 ] || PYTHONPATH=python/src python3 -B -c 'from dvbemu.build import build_fuse; build_fuse()'
 
 # What is installed. lib/dvbemu has the repository's folders, so that the commands find one another there as here.
 tree: all
 	rm -rf $(tree)
 	mkdir -p $(library)/python $(doc) $(tree)/bin
-	cp --parents dvbemu dvbemu-serve crates.txt preload/*.[ch] preload/out/preload.so $(programs) $(library)
+	cp --parents dvbemu dvbemu-serve crates.txt preload/*.[ch] fuse/*.[ch] preload/out/preload.so $$(ls fuse/out/dvbemu-fuse) $(programs) $(library)
 	cd python && cp --parents $(modules) ../$(library)/python
 	cd python && python3 -W ignore -c 'import setuptools; setuptools.setup()' -q egg_info --egg-base ../$(library)/python/src
 	rm $(library)/python/src/dvbemu.egg-info/SOURCES.txt

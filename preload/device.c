@@ -7,10 +7,8 @@
 #include <errno.h>
 #include <fcntl.h>
 #include <limits.h>
-#include <linux/dvb/dmx.h>
 #include <linux/dvb/frontend.h>
 #include <linux/futex.h>
-#include <stddef.h>
 #include <string.h>
 #include <sys/ioctl.h>
 #include <sys/stat.h>
@@ -20,7 +18,7 @@
 
 #include "preload.h"
 
-enum { MOST_READ = 65536, PAUSE_NS = 10000000, LONG_S = 3600 };
+enum { PAUSE_NS = 10000000, LONG_S = 3600 };
 
 struct device *device_at(struct at at) { return &at.line->table->devices[at.place]; }
 
@@ -351,32 +349,11 @@ ssize_t device_read(int fd, struct at at, void *into, size_t count)
 	return n;
 }
 
-/* notes what a request has changed of a node, and says whether it has begun to run */
-static int note(struct device *device, uint32_t number, const void *argument)
-{
-	const struct dmx_sct_filter_params *section = argument;
-	const struct dmx_pes_filter_params *pes = argument;
-	int begins = number == DMX_START;
-	if (number == DMX_SET_FILTER) {
-		device->section = 1;
-		device->is_tap = 0;
-		device->timeout = (int)(section->timeout & 0x7fffffff);
-		begins = !!(section->flags & DMX_IMMEDIATE_START);
-	} else if (number == DMX_SET_PES_FILTER) {
-		device->section = device->timeout = 0;
-		device->is_tap = pes->output == DMX_OUT_TS_TAP;
-		begins = !!(pes->flags & DMX_IMMEDIATE_START);
-	}
-	device->due = begins && device->timeout ? milliseconds() + device->timeout + 1 : number == DMX_STOP ? 0 : device->due;
-	device->state = UNKNOWN;
-	return begins;
-}
-
 /* a request has changed a node */
 static void changed(int fd, struct at at, uint32_t number, const void *argument)
 {
 	struct device *device = device_at(at);
-	if (note(device, number, argument) && !device->is_tap)
+	if (node_changed(device, number, argument) && !device->is_tap)
 		look(at, fd);
 	if (device->due)
 		watch_changed();
@@ -395,7 +372,7 @@ void devices_found(struct line *line, const struct request *asked, const struct 
 		} else if (is_node && device->node == asked->node && asked->verb == CLOSE) {
 			device->kind = NONE;
 		} else if (is_node && device->node == asked->node && asked->verb == IOCTL && is_done) {
-			note(device, asked->number, asked->argument);
+			node_changed(device, asked->number, asked->argument);
 		}
 		device->state = UNKNOWN;
 		device->tokens += 2;
@@ -403,33 +380,16 @@ void devices_found(struct line *line, const struct request *asked, const struct 
 	}
 }
 
-/* what lies between the fields of a structure is no part of a request, and may never have been written */
-static void clean(uint32_t number, char *bytes)
-{
-	const size_t section = offsetof(struct dmx_sct_filter_params, filter) + sizeof(struct dmx_filter), pes = sizeof(__u16);
-	if (number == DMX_SET_FILTER)
-		memset(bytes + section, 0, offsetof(struct dmx_sct_filter_params, timeout) - section);
-	else if (number == DMX_SET_PES_FILTER)
-		memset(bytes + pes, 0, offsetof(struct dmx_pes_filter_params, input) - pes);
-}
-
 static int demux_ioctl(int fd, struct at at, uint32_t number, void *argument)
 {
 	struct reply reply;
 	char bytes[ARGUMENT] = { 0 };
 	struct device *device = device_at(at);
-	uint32_t size = (uint32_t)(uintptr_t)argument, length = _IOC_SIZE(number);
-	if (number == DMX_GET_PES_PIDS && device->kind == DEMUX)
-		return -EINVAL;
-	if (length > ARGUMENT)
-		length = 0;
-	if (number == DMX_SET_BUFFER_SIZE)
-		memcpy(bytes, &size, length = sizeof size);
-	else if (!is_readable(argument, bytes, length))
-		return -EFAULT;
-	clean(number, bytes);
+	int length = node_bytes(device, number, argument, bytes);
+	if (length < 0)
+		return length;
 	HOLD_LINE(at.line);
-	int error = device->kind ? ask(at.line, IOCTL, device->node, number, bytes, length, &reply, NULL) : -EBADF;
+	int error = device->kind ? ask(at.line, IOCTL, device->node, number, bytes, (uint32_t)length, &reply, NULL) : -EBADF;
 	if (!error)
 		changed(fd, at, number, bytes);
 	return error;

@@ -110,12 +110,11 @@ static int is_granted(const struct front *front)
 	return front->wanted && __atomic_load_n(&front->granted, __ATOMIC_SEQ_CST) == front->wanted;
 }
 
-/* this program has found no seat, which is told once */
+/* a program has found no seat */
 void frontend_seatless(int adapter)
 {
-	static int is_told;
 	struct front *front = front_of(adapter);
-	if (front && !__atomic_exchange_n(&is_told, 1, __ATOMIC_SEQ_CST))
+	if (front)
 		__atomic_add_fetch(&front->seatless, 1, __ATOMIC_SEQ_CST);
 }
 

@@ -20,7 +20,7 @@
 
 #include "preload.h"
 
-enum { NAME = 64, SEAT_MS = 5000, SCRATCH = 512, MOST_TRIES = 8, SLEEP_NS = 100000000 };
+enum { NAME = 64, SCRATCH = 512, MOST_TRIES = 8, SLEEP_NS = 100000000 };
 
 /* a reply that hasn't come, and one to a request of no node, which no device makes */
 static const uint32_t untold = UINT32_MAX;
@@ -172,7 +172,8 @@ static ino_t ino_of(int fd)
 	return syscall(SYS_fstat, fd, &now) ? 0 : now.st_ino;
 }
 
-static int make_table(struct line *line, int adapter)
+/* a line without pipes */
+int line_made(struct line *line, int adapter)
 {
 	pthread_mutexattr_t shared;
 	int fd = high((int)syscall(SYS_memfd_create, "dvbemu", 1 /* closed by exec */));
@@ -222,7 +223,7 @@ struct line *line_to(int adapter)
 		if (!unused && is_free(line))
 			unused = line;
 	}
-	return unused && !make_table(unused, adapter) ? unused : NULL;
+	return unused && !line_made(unused, adapter) ? unused : NULL;
 }
 
 /* ------ locks of opens: whoever has opened a device holds one, and each child, as a description of the table that stands at its
@@ -287,7 +288,7 @@ static int knock(const char *folder, const char *name)
 }
 
 /* Makes the two pipes and tells their name, which no other program has, also not one that counts its processes anew. */
-static int come_in(struct line *line, char *ask, char *tell)
+int line_comes(struct line *line, char *ask, char *tell)
 {
 	const char *folder = folders[line->table->adapter];
 	char name[NAME];
@@ -308,14 +309,9 @@ static int come_in(struct line *line, char *ask, char *tell)
 	return knock(folder, name);
 }
 
-/* Waits for a seat, which answers the first request, and then holds the replies' end alone, so that a server's end is seen. */
-static int sit_down(struct line *line, const char *tell)
+/* A seat has answered the first request: the replies' end is held alone from now on, so that a server's end is seen. */
+int line_sits(struct line *line, const char *tell)
 {
-	struct pollfd one = { line->tell, POLLIN, 0 };
-	if (wait_raw(&one, 1, SEAT_MS) < 1) {
-		frontend_seatless(line->table->adapter);
-		return -1;
-	}
 	int fd = high(open_raw(tell, O_RDONLY | O_NONBLOCK));
 	if (fd < 0)
 		return -1;
@@ -324,6 +320,18 @@ static int sit_down(struct line *line, const char *tell)
 	line->tell = fd;
 	watch_changed();
 	return 0;
+}
+
+/* waits for a seat; that there is none is told once */
+static int sit_down(struct line *line, const char *tell)
+{
+	static int is_told;
+	struct pollfd one = { line->tell, POLLIN, 0 };
+	if (wait_raw(&one, 1, SEAT_MS) == 1)
+		return line_sits(line, tell);
+	if (!__atomic_exchange_n(&is_told, 1, __ATOMIC_SEQ_CST))
+		frontend_seatless(line->table->adapter);
+	return -1;
 }
 
 /* ------ a request and its reply */
@@ -438,7 +446,7 @@ static int exchange(struct line *line, const struct request *request, struct rep
 	*ask = 0;
 	if (is_cut(line))
 		return -EIO;
-	int bad = table->is_gone || (first && come_in(line, ask, tell));
+	int bad = table->is_gone || (first && line_comes(line, ask, tell));
 	table->told.code = untold;
 	table->asked = *request;
 	bad = bad || put(line, request, sizeof *request);

@@ -34,6 +34,8 @@ enum { MOST_ADAPTERS = 8, MOST_LINES = 16, MOST_DEVICES = 48, FOLDER = 256, PATH
 enum { OPEN_DEMUX = 1, OPEN_DVR, CLOSE, IOCTL, READ, POLL };
 enum { READABLE = 1, OVERFLOW = 2, TIMED_OUT = 4, SOMETHING = READABLE | OVERFLOW | TIMED_OUT };
 enum { ARGUMENT = 60, DVR_NODE = 32, NO_NODE = 64 };
+/* how long a program waits for a seat, and how many bytes a read asks for at once */
+enum { SEAT_MS = 5000, MOST_READ = 65536 };
 
 struct request {
 	uint32_t verb, node, number, length;
@@ -105,6 +107,9 @@ void give(struct pause *pause);
 #define HOLD_LINE(line) HOLD(line_pause, line)
 void hold_for_good(void);
 struct line *line_to(int adapter);
+int line_made(struct line *line, int adapter);
+int line_comes(struct line *line, char *ask, char *tell);
+int line_sits(struct line *line, const char *tell);
 void line_lost(struct line *line);
 int lock_of(const struct line *line, uint32_t number);
 int is_locked(const struct line *line, uint32_t number);
@@ -147,6 +152,10 @@ void ring(struct at at);
 void wake_readers(struct at at);
 void sweep(void);
 void sweep_all(void);
+
+/* node.c */
+int node_bytes(const struct device *device, uint32_t number, const void *argument, char *bytes);
+int node_changed(struct device *device, uint32_t number, const void *argument);
 
 /* watch.c */
 void watch(void);

@@ -15,10 +15,11 @@ from typing import TYPE_CHECKING
 
 
 from .. import tool
-from ..build import Stopped, build_preload, built_server
+from ..build import Stopped, build_fuse, build_preload, built_server
 from ..server.adapters import Adapter, Folder, adopt
 from ..server.channels import LINE, SATELLITE, SYSTEMS, channels_of, lines_in
 from ..server.commands import Interrupted, Signals, end_all_but, run_command, unseen_as
+from ..server.fuse import Mount
 from ..server.recording import Unplayable
 from ..server.trace import Trace
 from ..stream.packets import PACKET
@@ -104,6 +105,11 @@ def command() -> Serve:
     words.add_argument("--adapter", action="append", default=[], metavar="STREAM|CHANNELS", help="one adapter more: adapter0, adapter1 and so on")
     words.add_argument("--trace", action="store_true", help="tells each call of a program on standard error when it comes back, and one that "
                        "waits")  # fmt: skip
+    way = words.add_mutually_exclusive_group()
+    way.add_argument("--fuse", action="store_true", help="/dev/dvb is a mount by FUSE in a namespace of its own, which any program sees, also "
+                     "one that is linked statically")  # fmt: skip
+    way.add_argument("--preload", action="store_true", help="what is loaded into each program stands in the place of the C library's calls; "
+                     "without --fuse, this")  # fmt: skip
     words.add_argument("--played", metavar="FILE", help="keeps the packets as they were played")
     words.add_argument("stream", nargs="?", metavar="STREAM", help="a transport stream; `-` is standard input")
     return words
@@ -128,19 +134,21 @@ def asked(words: list[str], known: Serve) -> tuple[Namespace, list[str]]:
         known.error(f"the following arguments are required: {', '.join(missing)}")
     if options.keep != "all" and options.report:
         known.error(f"--report: with --keep {options.keep} no report is written")
+    if options.trace and options.fuse:
+        known.error("--trace: not allowed with --fuse")
     if len(adapters_in(options)) > MOST_ADAPTERS:
         known.error(f"--adapter: there are {MOST_ADAPTERS} adapters at most")
-    see_command(command[0], known)
+    see_command(command[0], options, known)
     return options, command
 
 
-def see_command(name: str, known: Serve) -> None:
+def see_command(name: str, options: Namespace, known: Serve) -> None:
     """Ends where the command isn't there, and says so where it won't see the adapter."""
     path = name if os.sep in name else shutil.which(name)
     if path is None or not os.path.exists(path):
         quoted = "; is the command quoted as one word?" if len(name.split()) > 1 else ""
         known.exit(127, f"{known.teller}: {name}: No such file or directory{quoted}\n")
-    if os.path.isfile(path) and (why := unseen_as(path)):
+    if os.path.isfile(path) and not options.fuse and (why := unseen_as(path)):
         print(f"{known.teller}: {name} {why}: it will not see the emulated adapter", file=sys.stderr)
 
 
@@ -251,8 +259,8 @@ def outs_of(options: Namespace, air: Sequence[Sequence[Channel]], opened: contex
 def tell_end(options: Namespace, count: int, adapters: Sequence[Adapter], status: int) -> None:
     """Says where the report is, where no word has, and of a command that no signal has ended that nobody has opened an adapter."""
     if status < 128 and not any(adapter.was_opened() for adapter in adapters):
-        print("dvbemu serve: no program opened the adapter; one that is linked statically, made by Go, for musl or 32 bits, or setuid doesn't see it",
-              file=sys.stderr)  # fmt: skip
+        unseen = "" if options.fuse else "; one that is linked statically, made by Go, for musl or 32 bits, or setuid doesn't see it (but by --fuse)"
+        print(f"dvbemu serve: no program opened the adapter{unseen}", file=sys.stderr)
     if seatless := sum(adapter.front.seatless() for adapter in adapters):
         print(f"dvbemu serve: {seatless} program{'s' * (seatless > 1)} found no seat, as {options.seats} may be in at a time (--seats)", file=sys.stderr)
     last = f".0 to .{count - 1}" if count > 1 else ""
@@ -262,11 +270,20 @@ def tell_end(options: Namespace, count: int, adapters: Sequence[Adapter], status
         print(f"dvbemu serve: the report is {REPORT}{last}; `dvbemu explain {REPORT}{last[:2]}` tells it", file=sys.stderr)
 
 
+def mounted(options: Namespace, folder: Folder) -> Mount | None:
+    """The mount by FUSE, where it is asked for."""
+    try:
+        return Mount(folder) if options.fuse else None
+    except Stopped as fault:
+        raise Stopped(f"--fuse: {fault}; --preload needs no mount") from None
+
+
 def serve(options: Namespace, command: Sequence[str], air: Sequence[Sequence[Channel]], folder: Folder, outs: Sequence[Outs], server: Sequence[str]) -> int:
     """Runs the command beside the servers, and says how it ended."""
     signals = Signals()
     adapters: list[Adapter] = []
     adopt()
+    mount = mounted(options, folder)
     for out in outs:
         out.empty()
     try:
@@ -276,15 +293,19 @@ def serve(options: Namespace, command: Sequence[str], air: Sequence[Sequence[Cha
             adapter.feeder.on_fault = signals.end_command
             adapter.start()
         trace = Trace(folder.adapters[0], sys.stderr) if options.trace else None
-        status = run_command(command, folder, signals)
-        end_all_but({adapter.server.pid for adapter in adapters}, folder)
+        status = run_command(command, folder, mount, signals)
+        end_all_but({adapter.server.pid for adapter in adapters} | ({mount.pid} if mount else set()), folder)
         if trace:
             trace.end()
+        if mount:
+            mount.end()
         for adapter in adapters:
             adapter.end()
     except BaseException:
         for adapter in adapters:
             adapter.kill()
+        if mount:
+            mount.kill()
         end_all_but(set(), folder)
         raise
     tell_end(options, len(air), adapters, status)
@@ -310,9 +331,9 @@ def main() -> int:
             outs = outs_of(options, air, opened)
             for channels in air:
                 tell_paces(channels)
-            build_preload()
+            (build_fuse if options.fuse else build_preload)()
             server = built_server()
-            folder = Folder(len(air))
+            folder = Folder(len(air), not options.fuse)
             status = serve(options, words, air, folder, outs, server)
         return status
     except Interrupted as fault:

@@ -93,9 +93,9 @@ def sweep(place: str) -> None:
 
 
 class Folder:
-    """A folder that is held by this process, with a tree that stands for /dev/dvb, and a folder for each adapter."""
+    """A folder that is held by this process, with a folder for each adapter; and for the preload itself and a tree that stands for /dev/dvb."""
 
-    def __init__(self, count: int) -> None:
+    def __init__(self, count: int, has_preload: bool) -> None:
         place = place_of_folders()
         sweep(place)
         self.path = tempfile.mkdtemp(prefix=PREFIX, dir=place)
@@ -104,17 +104,23 @@ class Folder:
         self.held = os.open(os.path.join(self.path, HELD), os.O_RDWR | os.O_CREAT | os.O_CLOEXEC, 0o600)
         fcntl.flock(self.held, fcntl.LOCK_EX)
         os.write(self.held, MARK)
-        for number, adapter in enumerate(self.adapters):
+        for adapter in self.adapters:
             os.mkdir(adapter, 0o700)
+        self.preload = os.path.join(self.path, "preload.so")
+        if has_preload:
+            self.make_tree()
+            shutil.copyfile(PRELOAD, self.preload)
+        if has_preload and os.geteuid() == 0:
+            self.show_to_others()
+            tell_root(place)
+
+    def make_tree(self) -> None:
+        """Makes what stands for /dev/dvb."""
+        for number in range(len(self.adapters)):
             tree = os.path.join(self.adapters[0], "dev", "dvb", f"adapter{number}")
             os.makedirs(tree)
             for node in NODES:
                 os.close(os.open(os.path.join(tree, node), os.O_CREAT | os.O_WRONLY, 0o660))
-        self.preload = os.path.join(self.path, "preload.so")
-        shutil.copyfile(PRELOAD, self.preload)
-        if os.geteuid() == 0:
-            self.show_to_others()
-            tell_root(place)
 
     def show_to_others(self) -> None:
         """Who has given up root's rights has the preload and sees the tree, and not the machine's own devices; the rest is root's alone."""

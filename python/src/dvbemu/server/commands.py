@@ -18,6 +18,7 @@ if TYPE_CHECKING:
     from typing import Collection, Mapping, Sequence
 
     from .adapters import Folder
+    from .fuse import Mount
 
 # Of an executable file: the kind of a segment that names the system's loader, the kind and name of a note of Go's linker, and the loader of musl.
 PT_INTERP, GO_NOTE, MUSL = b"\3\0\0\0", b"\4\0\0\0Go\0\0", b"/ld-musl-"
@@ -109,18 +110,20 @@ class Signals:
             self.command.send_signal(number)
 
 
-def environment(folder: Folder) -> dict[str, str]:
+def environment(folder: Folder, mount: Mount | None) -> dict[str, str]:
     """The environment of the command, in which the user's own preloads come first. A sanitizer of gcc is told that this
-    is meant."""
+    is meant; and libudev that by FUSE it is no kernel that tells of devices in /sys."""
+    if mount:
+        return {**os.environ, VARIABLE: folder.value(), "SYSTEMD_DEVICE_VERIFY_SYSFS": "0"}
     ours = {"LD_PRELOAD": folder.preload, "ASAN_OPTIONS": "verify_asan_link_order=0"}
     both = {name: ":".join(filter(None, [os.environ.get(name), word])) for name, word in ours.items()}
     return {**os.environ, VARIABLE: folder.value(), **both}
 
 
-def run_command(command: Sequence[str], folder: Folder, signals: Signals) -> int:
+def run_command(command: Sequence[str], folder: Folder, mount: Mount | None, signals: Signals) -> int:
     """Runs the command, and says how it ended."""
     try:
-        running = signals.start(command, environment(folder))
+        running = signals.start(mount.words(command) if mount else command, environment(folder, mount))
     except OSError as fault:
         print(f"dvbemu serve: {command[0]}: {fault.strerror}", file=sys.stderr)
         return 127
