@@ -138,17 +138,17 @@ def asked(words: list[str], known: Serve) -> tuple[Namespace, list[str]]:
         known.error("--trace: not allowed with --fuse")
     if len(adapters_in(options)) > MOST_ADAPTERS:
         known.error(f"--adapter: there are {MOST_ADAPTERS} adapters at most")
-    see_command(command[0], options, known)
+    see_command(command[0], known, options.fuse)
     return options, command
 
 
-def see_command(name: str, options: Namespace, known: Serve) -> None:
+def see_command(name: str, known: Serve, is_mount: bool = False) -> None:
     """Ends where the command isn't there, and says so where it won't see the adapter."""
     path = name if os.sep in name else shutil.which(name)
     if path is None or not os.path.exists(path):
         quoted = "; is the command quoted as one word?" if len(name.split()) > 1 else ""
         known.exit(127, f"{known.teller}: {name}: No such file or directory{quoted}\n")
-    if os.path.isfile(path) and not options.fuse and (why := unseen_as(path)):
+    if os.path.isfile(path) and not is_mount and (why := unseen_as(path)):
         print(f"{known.teller}: {name} {why}: it will not see the emulated adapter", file=sys.stderr)
 
 

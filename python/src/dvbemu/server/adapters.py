@@ -95,7 +95,7 @@ def sweep(place: str) -> None:
 class Folder:
     """A folder that is held by this process, with a folder for each adapter; and for the preload itself and a tree that stands for /dev/dvb."""
 
-    def __init__(self, count: int, has_preload: bool) -> None:
+    def __init__(self, count: int, has_preload: bool = True) -> None:
         place = place_of_folders()
         sweep(place)
         self.path = tempfile.mkdtemp(prefix=PREFIX, dir=place)

@@ -110,7 +110,7 @@ class Signals:
             self.command.send_signal(number)
 
 
-def environment(folder: Folder, mount: Mount | None) -> dict[str, str]:
+def environment(folder: Folder, mount: Mount | None = None) -> dict[str, str]:
     """The environment of the command, in which the user's own preloads come first. A sanitizer of gcc is told that this
     is meant; and libudev that by FUSE it is no kernel that tells of devices in /sys."""
     if mount:
