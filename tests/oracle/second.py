@@ -355,7 +355,7 @@ class Demux(Node):
                 return "EBUSY"
         return None
 
-    # RULES: ae925da8 Calls
+    # RULES: 79f5bcf6 Calls
     def call(self, who, act, moment):
         name, args = act[0], act[1:]
         if name == "open":
