@@ -7,13 +7,15 @@ from __future__ import annotations
 
 import gc
 import sys
+from typing import TYPE_CHECKING
 
 from .. import progress
 from .. import reports
 from .. import tool
-from ..explain import played
-from ..explain.offered import Stream
 from ..explain.told import Part, page
+
+if TYPE_CHECKING:
+    from ..explain.offered import Stream
 
 
 def command() -> tool.Command:
@@ -42,8 +44,9 @@ def client_of(word: str) -> int:
 
 def stream_of(words: tool.Command, name: str, report: reports.Report) -> Stream:
     """The stream that a report is of."""
+    from ..explain import offered, played  # pylint: disable=import-outside-toplevel
     try:
-        return Stream(played.packets_of(words.bytes_of(name), report))
+        return offered.Stream(played.packets_of(words.bytes_of(name), report))
     except played.NotPlayed as wrong:
         words.fail_on(name, wrong)
 
