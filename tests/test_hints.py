@@ -535,7 +535,7 @@ def test_nobody_opened_a_device():
 @pytest.mark.parametrize("script, wanted", SEARCHES)
 def test_searches_for_a_node(report_of, script, wanted):
     clients = story_of(report_of(script)).clients
-    assert {number: [line for line, _ in client.refused] for number, client in clients.items() if client.refused} == wanted
+    assert {number: sum(client.refused.values(), []) for number, client in clients.items() if client.refused} == wanted
 
 
 def test_width_of_lines():

@@ -81,23 +81,17 @@ def bytes_text(count: int) -> str:
 
 
 class Work:
-    """Work in parts over files: how far their reading is, and behind that what is done, and at which of so many lines."""
+    """Work in parts over files: how far their reading is, and behind that what is done."""
 
     def __init__(self, files: Sequence[Input | Counted], what: str) -> None:
-        self.files, self.what, self.has_read, self.line, self.last = files, what, False, 0, 0
+        self.files, self.what, self.has_read = files, what, False
 
     def begin(self, what: str) -> None:
         """All is read, and this is done now."""
-        self.what, self.has_read, self.line = what, True, 0
-
-    def at(self, line: int, last: int) -> None:
-        """A line that is looked at, of so many."""
-        self.line, self.last = line, last
+        self.what, self.has_read = what, True
 
     def text(self) -> str:
         """How far it is."""
-        if self.line:
-            return f"{self.what}: line {self.line:,} of {self.last:,}"
         taken, sizes = bytes_text(sum(file.taken for file in self.files)), [file.size for file in self.files]
         if self.has_read:
             return f"{taken} read, {self.what} .."

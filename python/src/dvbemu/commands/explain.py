@@ -12,13 +12,10 @@ from typing import TYPE_CHECKING
 from .. import progress
 from .. import reports
 from .. import tool
-from ..explain import played
-from ..explain.offered import Stream
 from ..explain.told import Part, Told, page, text_of
-from ..linux.beside import first_difference
 
 if TYPE_CHECKING:
-    from typing import Sequence
+    from argparse import Namespace
 
 
 def command() -> tool.Command:
@@ -45,18 +42,18 @@ def client_of(word: str) -> int:
     return reports.number(word.removeprefix("c"), reports.CLIENTS - 1)
 
 
-def packets_of(words: tool.Command, name: str, session: bytes, report: reports.Report) -> Sequence[bytes]:
-    """The packets that a report is of."""
+def with_session(words: tool.Command, given: Namespace, report: reports.Report, part: Part) -> str:
+    """What is told of a report with its session: behind the rest, what Linux would answer otherwise, where there is a script."""
+    from ..explain import offered, played  # pylint: disable=import-outside-toplevel
+    from ..linux.beside import first_difference  # pylint: disable=import-outside-toplevel
+    session = words.bytes_of(given.session)
     try:
-        return played.packets_of(session, report)
+        packets = played.packets_of(session, report)
     except played.NotPlayed as wrong:
-        return words.fail_on(name, wrong)
-
-
-def linux_part(session: bytes, report: reports.Report, packets: Sequence[bytes]) -> str:
-    """What Linux would answer otherwise, where there is a script."""
-    told = "" if played.is_recording(session) else first_difference(report, session, packets)
-    return "\n" + text_of(["On Linux 6.1", "", Told(2, told)]) if told else ""
+        words.fail_on(given.session, wrong)
+    text = page(report, part, offered.Stream(packets))
+    told = "" if part != Part() or played.is_recording(session) else first_difference(report, session, packets)
+    return text + "\n" + text_of(["On Linux 6.1", "", Told(2, told)]) if told else text
 
 
 def main() -> None:
@@ -71,11 +68,7 @@ def main() -> None:
             words.fail(f"no client called {reports.node_name(part.node)}")
         if part.client is not None and part.client >= len(report.clients):
             words.fail(f"the report has no client {part.client}")
-        session = words.bytes_of(given.session) if given.session else b""
-        packets = packets_of(words, given.session, session, report) if given.session else []
-        text = page(report, part, Stream(packets) if given.session else None)
-        if given.session and part == Part():
-            text += linux_part(session, report, packets)
+        text = with_session(words, given, report, part) if given.session else page(report, part, None)
     except (reports.NotAReport, OSError) as wrong:
         words.fail_on(given.report, wrong)
     progress.clear()

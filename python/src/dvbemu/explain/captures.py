@@ -6,12 +6,12 @@ from typing import TYPE_CHECKING
 from ..psi.fields import streams_in
 from ..stream.packets import PACKET
 from . import walk
-from .offered import Brought
 
 if TYPE_CHECKING:
     from typing import Iterable
 
     from ..reports import Act, Entry
+    from .offered import Brought
     from .story import Stumble
 
 
@@ -82,7 +82,7 @@ class Capture(walk.Answered):
     end. Of a dvr node's capture `tapped` says whether a tap was attached, and `dry` has the lines of the reads that found nothing. With the
     stream at hand `places` has those of the packets that the capture was offered, and `brought` what they brought."""
 
-    def __init__(self, client: int, used: Filter | None, line: int, passed: int, passes: int, is_late: bool) -> None:
+    def __init__(self, client: int, line: int, passed: int, passes: int, is_late: bool) -> None:
         super().__init__()
         self.client, self.line, self.begin, self.is_late = client, line, passed, is_late
         self.items, self.have, self.digits, self.tail = 0, 0, "", ""
@@ -94,7 +94,7 @@ class Capture(walk.Answered):
         self.lag, self.waits = 0, False
         self.over: Stumble | None = None
         self.places: list[int] = []
-        self.brought = Brought(used)
+        self.brought: Brought | None = None
         self.dry: list[int] = []
 
     def hold(self, least: int, most: int, count: int) -> int:

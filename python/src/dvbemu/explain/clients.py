@@ -1,16 +1,16 @@
 """The clients of a report, what they called, and what they got."""
 from __future__ import annotations
 
+from array import array
 from bisect import bisect_right
 from typing import TYPE_CHECKING, NamedTuple
 
 from ..psi.fields import NAMES, head_of
 from ..reports import DVR
 from ..stream.packets import PACKET
-from ..stream.tables import read
 
 if TYPE_CHECKING:
-    from typing import Optional, Sequence, Tuple
+    from typing import Any, Iterator, Mapping, Optional, Sequence, Tuple
 
     from ..reports import Entry, Outcome, Reply
     from .story import Node
@@ -19,24 +19,73 @@ if TYPE_CHECKING:
     Kind = Tuple[int, Optional[int], bool]
 
 
+class Note(NamedTuple):
+    """What is known of a call beside its entry: a reason that the entry hasn't, what is there of the section that it begins or ends to give,
+    whether that is all of it, the stream_ids of the PES packets that begin in its bytes, what is known of what was lost where it is answered
+    an Overflow, and how many sections it drops that are as long as those read before."""
+
+    reason: str = ""
+    section: bytes = b""
+    whole: bool = False
+    streams: Sequence[int] = ()
+    lost: Lost | None = None
+    repeats: int = 0
+
+
+NOTHING = Note()
+
+
 class Call:
-    """A call of a client: its node, its entry, the names of its act and its reply, a reason that the entry hasn't, what is there of the
-    section that it begins or ends to give, whether that is all of it, the stream_ids of the PES packets that begin in its bytes, what
-    is known of what was lost where it is answered an Overflow, and how many sections it drops that are as long as those read before."""
+    """A call of a client: its node, its entry, the names of its act and its reply, and what is known of it beside."""
 
-    __slots__ = ("node", "entry", "act", "reply", "reason", "section", "whole", "streams", "lost", "repeats")
+    __slots__ = ("node", "entry", "act", "reply", "note")
 
-    def __init__(self, node: int, entry: Entry) -> None:
-        self.node, self.entry, self.reason = node, entry, ""
-        self.streams: list[int] = []
-        self.lost: Lost | None = None
-        self.section, self.whole, self.repeats = b"", False, 0
+    def __init__(self, node: int, entry: Entry, note: Note = NOTHING) -> None:
+        self.node, self.entry, self.note = node, entry, note
         self.act = entry.act.partition(" ")[0]
         self.reply = entry.reply.partition(" ")[0]
+
+    def know(self, **known: Any) -> None:
+        """Notes what is known of it."""
+        self.note = self.note._replace(**known)
 
     def length(self) -> int:
         """How many bytes a read gave."""
         return 0 if self.reply != "data" or self.entry.reply == "data -" else (len(self.entry.reply) - 5) // 2
+
+
+class Calls:
+    """The calls of a client. Kept are their steps, nodes and places, and what is known beside their entries, which stay in the report."""
+
+    def __init__(self, nodes: Mapping[int, Sequence[Entry]]) -> None:
+        self.entries, self.steps, self.nodes, self.places = nodes, array("Q"), array("B"), array("Q")
+        self.order: Sequence[int] = ()
+        self.notes: dict[tuple[int, int], Note] = {}
+
+    def keep(self, call: Call) -> None:
+        """Takes a call, of whatever step."""
+        self.steps.append(call.entry.step)
+        self.nodes.append(call.node)
+        self.places.append(call.entry.place)
+        self.note(call)
+
+    def note(self, call: Call) -> None:
+        """Takes what is known of a call now."""
+        if call.note is not NOTHING:
+            self.notes[call.node, call.entry.place] = call.note
+
+    def sort(self) -> None:
+        """Orders them by their steps."""
+        self.order = array("Q", sorted(range(len(self.steps)), key=self.steps.__getitem__))
+
+    def are_all(self) -> bool:
+        """Whether their steps are just those from 0 on."""
+        return all(self.steps[at] == step for step, at in enumerate(self.order))
+
+    def __iter__(self) -> Iterator[Call]:
+        for at in self.order:
+            node, place = self.nodes[at], self.places[at]
+            yield Call(node, self.entries[node][place], self.notes.get((node, place), NOTHING))
 
 
 class Lost(NamedTuple):
@@ -91,6 +140,7 @@ class Got:
 
     def tables(self) -> dict[Kind, list[set[int]]]:
         """The values of each field of the sections' heads, by table_id and table_id_extension, and whether it is the table of this number."""
+        from ..stream.tables import read  # pylint: disable=import-outside-toplevel
         found: dict[Kind, list[set[int]]] = {}
         for data in self.sections:
             head = head_of(data)
@@ -112,24 +162,37 @@ class Waits:
 class Client:
     """What one client asked and got."""
 
-    def __init__(self, number: int, outcomes: Sequence[Outcome]) -> None:
-        self.number, self.outcomes = number, outcomes
-        calling = [outcome for outcome in outcomes if outcome.first < outcome.after]
-        self.firsts, self.lines = [outcome.first for outcome in calling], [outcome.line for outcome in calling]
-        self.afters, self.begins = [outcome.after for outcome in calling], set(self.firsts)
-        self.calls: list[Call] = []
+    def __init__(self, number: int, outcomes: Sequence[Outcome], nodes: Mapping[int, Sequence[Entry]]) -> None:
+        self.number, self.outcomes, self.calls, self.writes = number, outcomes, Calls(nodes), False
+        self.firsts, self.lines, self.afters = array("Q"), array("Q"), array("Q")
+        for outcome in outcomes:
+            if outcome.first < outcome.after:
+                self.firsts.append(outcome.first)
+                self.lines.append(outcome.line)
+                self.afters.append(outcome.after)
         self.got: dict[Through, Got] = {}
         self.waits: dict[int, Waits] = {}
         self.lost: list[tuple[int, Call, tuple[int, int]]] = []
         self.timed: list[tuple[int, Call, int | None]] = []
-        self.refused: list[tuple[int, Call]] = []
+        self.refused: dict[tuple[str, str, int], list[int]] = {}
 
     def line_of(self, step: int) -> int:
         """The line of the command that made this call, or 0 where no command did."""
         place = bisect_right(self.firsts, step) - 1
         return self.lines[place] if place >= 0 else 0
 
+    def begins(self, step: int) -> bool:
+        """Whether this call is the first one of its command."""
+        place = bisect_right(self.firsts, step) - 1
+        return place >= 0 and self.firsts[place] == step
+
     def is_last(self, step: int) -> bool:
         """Whether this call is the last one of its command."""
         place = bisect_right(self.firsts, step) - 1
         return place < 0 or self.afters[place] == step + 1
+
+    def refuse(self, line: int, call: Call) -> None:
+        """Takes a call that was refused, by its error, its reason and its node."""
+        lines = self.refused.setdefault((call.reply, call.note.reason, call.node), [])
+        if line not in lines[-1:]:
+            lines.append(line)

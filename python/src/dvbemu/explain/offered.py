@@ -35,6 +35,10 @@ class Stream:
             found.update(places[bisect_left(places, first) : bisect_left(places, after)])
         return sorted(found)
 
+    def brought(self, used: Filter | None) -> Brought:
+        """What it brings to a capture of a filter, or of the dvr node."""
+        return Brought(used)
+
 
 # ------ items
 

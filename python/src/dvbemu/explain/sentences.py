@@ -1,18 +1,18 @@
 """Calls and replies of a report in plain words."""
 from __future__ import annotations
 
+from collections import Counter
 from typing import TYPE_CHECKING
 
 from ..inputs import many
 from ..psi.fields import NAMES as FIELD_NAMES
 from ..psi.fields import filter_texts, head_of, head_text, pid_name, pid_text, stream_text, table_text
-from ..psi.tables import short_text, text_of
 from ..reports import DVR, act_of, moment, node_name, reply_of
 from ..stream.packets import ALL_PACKETS, PACKET
 from .refusals import FLAGS
 
 if TYPE_CHECKING:
-    from typing import Iterable, Mapping, Sequence, Tuple, Union
+    from typing import Iterable, Iterator, Mapping, Sequence, Tuple, Union
 
     from ..reports import Act, Outcome, Reply
     from .clients import Call, Got, Kind, Lost, Through, Waits
@@ -123,7 +123,7 @@ def act_text(call: Call) -> str:
     if call.act == "detach":
         return f"detaches the tap of {node_name(act['node'])} from the dvr node"
     if call.act == "poll":
-        return f"polls {on}" + (f", {call.reason}" if call.reply == "ready" and call.reason else "")
+        return f"polls {on}" + (f", {call.note.reason}" if call.reply == "ready" and call.note.reason else "")
     return {"open": "opens", "close": "closes", "start": "starts", "stop": "stops"}[call.act] + " " + on
 
 
@@ -160,20 +160,21 @@ def ready_text(reply: Reply) -> str:
 
 def section_words(call: Call) -> str:
     """Which table the section is that a read gives, or what its head says where it begins and is none."""
-    if call.whole and (table := short_text(call.section)):
+    from ..psi.tables import short_text  # pylint: disable=import-outside-toplevel
+    if call.note.whole and (table := short_text(call.note.section)):
         return f": {table}"
-    return f": {head_text(head_of(call.section))}" if "end" not in call.reason else ""
+    return f": {head_text(head_of(call.note.section))}" if "end" not in call.note.reason else ""
 
 
 def data_text(call: Call) -> str:
     """Data in words: how much, and what stands in it."""
     length = call.length()
-    text = f"Data of {many(length, 'byte') if length else 'no bytes'}" + (f", {call.reason}" if call.reason else "")
-    if call.section:
+    text = f"Data of {many(length, 'byte') if length else 'no bytes'}" + (f", {call.note.reason}" if call.note.reason else "")
+    if call.note.section:
         text += section_words(call)
-    if call.streams:
-        packets = many(len(call.streams), "PES packet")
-        text += f", in which the stream_id of {packets} stands: {joined(map(stream_text, sorted(set(call.streams))))}"
+    if call.note.streams:
+        packets = many(len(call.note.streams), "PES packet")
+        text += f", in which the stream_id of {packets} stands: {joined(map(stream_text, sorted(set(call.note.streams))))}"
     return text
 
 
@@ -188,7 +189,7 @@ def reply_text(call: Call) -> str:
     if call.reply == "done":
         return done_text(call, reply)
     if call.reply == "busy":
-        return f"Busy, {call.reason}"
+        return f"Busy, {call.note.reason}"
     if call.reply == "data":
         return data_text(call)
     if call.reply == "again":
@@ -202,7 +203,7 @@ def reply_text(call: Call) -> str:
         return ready_text(reply)
     if call.reply == "passed":
         return "Passed"
-    return call.reply + (f", {call.reason}" if call.reason else "")
+    return call.reply + (f", {call.note.reason}" if call.note.reason else "")
 
 
 def call_text(call: Call) -> str:
@@ -226,28 +227,34 @@ def kind_of_reply(call: Call) -> str:
     return {"overflow": "answered Overflow", "timedout": "answered TimedOut"}.get(call.reply, f"answered {call.reply}")
 
 
-def looks_text(calls: Iterable[Call]) -> str:
-    """Reads and polls of one node, gathered by what they ask."""
-    groups: dict[tuple[int, str], list[Call]] = {}
-    for call in calls:
-        asked = call.entry.act.partition(" at=")[0]
-        groups.setdefault((call.node, asked), []).append(call)
-    return "; ".join(group_text(group) if len(group) > 1 else call_text(group[0]) for group in groups.values())
+class Looks:
+    """Reads and polls of one node, gathered by what they ask: of each the first one, how many, how their replies are counted, and how many
+    bytes they gave."""
+
+    def __init__(self, calls: Iterable[Call] = ()) -> None:
+        self.groups: dict[tuple[int, str], tuple[Call, Counter[str]]] = {}
+        self.given: Counter[tuple[int, str]] = Counter()
+        self.add(calls)
+
+    def add(self, calls: Iterable[Call]) -> None:
+        """Takes some more."""
+        for call in calls:
+            asked = call.node, call.entry.act.partition(" at=")[0]
+            self.groups.setdefault(asked, (call, Counter()))[1][kind_of_reply(call)] += 1
+            self.given[asked] += call.length()
+
+    def text(self) -> str:
+        """All of them in words."""
+        return "; ".join(group_text(*group, self.given[asked]) if sum(group[1].values()) > 1 else call_text(group[0]) for asked, group in self.groups.items())
 
 
-def group_text(calls: Sequence[Call]) -> str:
+def group_text(first: Call, counted: Counter[str], given: int) -> str:
     """Reads or polls that ask the same."""
-    first, given = calls[0], 0
-    counted: dict[str, int] = {}
-    for call in calls:
-        kind = kind_of_reply(call)
-        counted[kind] = counted.get(kind, 0) + 1
-        given += call.length()
     on = node_text(first.node)
     asked = f"of {at_most_text(act_of(first.entry))} from {on}" if first.act == "read" else f"of {on}"
     summed = f" ({many(given, 'byte')}{' in all' if counted.get(GIVEN) != 1 else ''})"
     counts = [f"{count:,} {kind}{summed if kind == GIVEN else ''}" for kind, count in counted.items()]
-    return f"{many(len(calls), first.act)} {asked}: {joined(counts)}"
+    return f"{many(sum(counted.values()), first.act)} {asked}: {joined(counts)}"
 
 
 def calls_text(calls: Sequence[Call]) -> str:
@@ -255,7 +262,7 @@ def calls_text(calls: Sequence[Call]) -> str:
     if not calls:
         return "makes no call"
     if len(calls) > 1 and all(call.act in LOOKS for call in calls):
-        return looks_text(calls)
+        return Looks(calls).text()
     if len(calls) > 1 and all(call.act == "pass" for call in calls[1:]):
         passed = f"passes {packets_text(act_of(calls[1].entry))} to {node_name(calls[1].node)} to {node_name(calls[-1].node)}"
         return f"writes to the dvr device, so it {call_text(calls[0])}; {passed}{moment_text(calls[1])}"
@@ -289,34 +296,45 @@ def command_text(outcome: Outcome, calls: Sequence[Call]) -> str:
     return f"{text}; no node is free (EMFILE)" if outcome.kind == "EMFILE" else text
 
 
-def asked_texts(commands: Sequence[tuple[Outcome, list[Call]]]) -> list[str]:
+class Like:
+    """A row of commands that are alike: the first of them, of as many as aren't gathered, how many they are, and what they read or dropped."""
+
+    def __init__(self, like: Likeness | None) -> None:
+        self.like, self.count, self.dropped, self.looks = like, 0, 0, Looks()
+        self.first: list[tuple[Outcome, Sequence[Call]]] = []
+
+    def add(self, outcome: Outcome, calls: Sequence[Call]) -> None:
+        """Takes the next command."""
+        self.last, self.count = outcome, self.count + 1
+        if self.count < GATHERED:
+            self.first.append((outcome, calls))
+        if self.like and self.like[0] == "looks":
+            self.looks.add(calls)
+        elif self.like and calls[0].reply == "done":
+            begin, end = reply_of(calls[0].entry)["drop"]
+            self.dropped += end - begin
+
+    def texts(self) -> Iterator[str]:
+        """They in words: each, or a long row of them together."""
+        if self.count < GATHERED:
+            yield from (f"line {outcome.line}: {command_text(outcome, calls)}" for outcome, calls in self.first)
+            return
+        (outcome, (call, *_)), end = self.first[0], f"; {many(self.dropped, 'unread byte')} dropped in all" if self.dropped else ""
+        row = f"{self.count:,} times {act_text(call)}: {'Done' if call.reply == 'done' else call.reply}{end}"
+        told = self.looks.text() if self.like and self.like[0] == "looks" else row
+        yield f"lines {outcome.line} to {self.last.line}, {self.count:,} commands: {told}"
+
+
+def asked_texts(commands: Iterable[tuple[Outcome, Sequence[Call]]]) -> Iterator[str]:
     """The commands of a client, pairs of an outcome and its calls, in words; long rows of like ones are gathered."""
-    found: list[str] = []
-    place = 0
-    while place < len(commands):
-        like, after = likeness(commands[place][1]), place + 1
-        while like is not None and after < len(commands) and likeness(commands[after][1]) == like:
-            after += 1
-        if like is None or after - place < GATHERED:
-            after = place + 1
-            found.append(f"line {commands[place][0].line}: {command_text(*commands[place])}")
-        else:
-            row = commands[place:after]
-            head = f"lines {row[0][0].line} to {row[-1][0].line}, {len(row):,} commands: "
-            found.append(head + row_text(like, [call for _, calls in row for call in calls]))
-        place = after
-    return found
-
-
-def row_text(like: Likeness, calls: Sequence[Call]) -> str:
-    """A row of like commands in words."""
-    if like[0] == "looks":
-        return looks_text(calls)
-    dropped = 0
-    if calls[0].reply == "done":
-        dropped = sum(after - first for first, after in (reply_of(call.entry)["drop"] for call in calls))
-    end = f"; {many(dropped, 'unread byte')} dropped in all" if dropped else ""
-    return f"{len(calls):,} times {act_text(calls[0])}: {calls[0].reply if calls[0].reply != 'done' else 'Done'}{end}"
+    row = Like(None)
+    for outcome, calls in commands:
+        like = likeness(calls)
+        if like is None or like != row.like:
+            yield from row.texts()
+            row = Like(like)
+        row.add(outcome, calls)
+    yield from row.texts()
 
 
 # ------ what a client got
@@ -371,6 +389,9 @@ def merged(tables: dict[Kind, list[set[int]]]) -> dict[Kind, list[set[int]]]:
 
 def said_by(got: Got) -> str:
     """What the sections say that are tables, each in a line of its own, of many the first ones."""
+    if not got.sections:
+        return ""
+    from ..psi.tables import text_of  # pylint: disable=import-outside-toplevel
     known = [text for text in map(text_of, got.sections) if text]
     more = [f"And {len(known) - SAID:,} more tables' sections"] if len(known) > SAID else []
     return "".join(f".\n{text}" for text in known[:SAID] + more)
@@ -386,16 +407,16 @@ def lost_text(line: int, call: Call, span: tuple[int, int]) -> str:
     """A span that the client never got, in words."""
     reply, length = reply_of(call.entry), many(span[1] - span[0], "byte")
     head = f"line {line}, {node_text(call.node)}: {length}, {span[0]}..{span[1]} of the capture, "
-    if call.lost is None:
+    if call.note.lost is None:
         unread = f"unread when {NAMES.get(call.act, call.act)} dropped them"
-        return head + unread + (f", as long as {many(call.repeats, 'section')} of those read before" if call.repeats else "")
+        return head + unread + (f", as long as {many(call.note.repeats, 'section')} of those read before" if call.note.repeats else "")
     room = f"item {reply['item']}, counted from 0, needs {many(reply['need'], 'byte')} and found room for {reply['room']:,}"
-    buffer = f", in a buffer of size {call.reason}, which holds {int(call.reason) - 1}" if call.reason else ""
-    if call.lost.kept:
+    buffer = f", in a buffer of size {call.note.reason}, which holds {int(call.note.reason) - 1}" if call.note.reason else ""
+    if call.note.lost.kept:
         why = f"all items from {reply['item']} on until a read told the Overflow, behind those that KEEP has kept"
     else:
         why = "all that was unread at an Overflow"
-    return head + f"{lost_items(call.lost)}{why}: {room}{buffer}"
+    return head + f"{lost_items(call.note.lost)}{why}: {room}{buffer}"
 
 
 def lost_items(lost: Lost) -> str:
@@ -429,15 +450,8 @@ def timed_text(line: int, call: Call, pid: int | None) -> str:
     return f"line {line}, {node_text(call.node)}: the section filter{of}, {expired_text(reply_of(call.entry))}"
 
 
-def refused_texts(refused: Iterable[tuple[int, Call]]) -> list[str]:
-    """The refusals of a client in words, those with the same reason on the same node together."""
-    groups: dict[tuple[str, str, int], list[int]] = {}
-    for line, call in refused:
-        lines = groups.setdefault((call.reply, call.reason, call.node), [])
-        if line not in lines[-1:]:
-            lines.append(line)
-    found = []
-    for (error, reason, number), lines in groups.items():
-        name = "Busy" if error == "busy" else error
-        found.append(f"{lines_text(lines)}, {node_text(number)}: {name}, {reason or 'for which the report alone has no reason'}")
-    return found
+def refused_text(refused: tuple[str, str, int], lines: Sequence[int]) -> str:
+    """Refusals with the same error and reason on the same node in words."""
+    error, reason, number = refused
+    name = "Busy" if error == "busy" else error
+    return f"{lines_text(lines)}, {node_text(number)}: {name}, {reason or 'for which the report alone has no reason'}"

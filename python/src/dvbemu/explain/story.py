@@ -5,10 +5,10 @@ accepted so far are kept beside them.
 """
 from __future__ import annotations
 
+from itertools import chain
 from typing import TYPE_CHECKING, NamedTuple
 
 from ..psi.fields import as_hex, is_pes_head
-from ..psi.tables import carried_by
 from ..reports import DVR, act_of, first_moment, moment, reply_of
 from ..stream.packets import ALL_PACKETS, LAST_PID, PACKET
 from .captures import Capture, Filter
@@ -108,7 +108,7 @@ class Node(Walk):
             self.filter.started = True
         if self.is_ahead:
             self.story.unsure.add(self.number)
-        self.capture = Capture(int(entry.who[1]), self.filter, self.story.line_of(entry), self.passed, self.passes, is_late)
+        self.capture = Capture(int(entry.who[1]), self.story.line_of(entry), self.passed, self.passes, is_late)
         self.story.ran = True
         if self.filter:
             self.filter.places.append(self.capture.places)
@@ -209,7 +209,7 @@ class Story:
         self.ran = False
         self.silent: list[tuple[int, Filter]] = []
         self.exact: list[tuple[int, int, int, tuple[int, int], Lost]] = []
-        self.clients = {number: Client(number, outcomes) for number, outcomes in enumerate(report.clients)}
+        self.clients = {number: Client(number, outcomes, report.nodes) for number, outcomes in enumerate(report.clients)}
         self.packets = {row.pid: row for row in report.pids}
         self.stumbles: dict[tuple[str, int | None, int | None, Hashable], Stumble] = {}
         self.first_moment, self.is_served, self.joints = first_moment(report), is_served(report), joints(report)
@@ -227,7 +227,7 @@ class Story:
                 self.leave_tap(node, tapped)
             self.tell_untapped(node)
         for client in self.clients.values():
-            client.calls.sort(key=lambda call: call.entry.step)
+            client.calls.sort()
             self.look_at_slots(client)
             self.look_at_writes(client)
         if report.clients and not any(report.clients):
@@ -237,11 +237,14 @@ class Story:
 
     def tell_carried(self) -> None:
         """Tells the hints on section filters what a PMT that was read says of their PIDs."""
+        told = [stumble for stumble in self.stumbles.values() if stumble.kind in ("selects nothing", "packets as sections")]
+        if not told:
+            return
+        from ..psi.tables import carried_by  # pylint: disable=import-outside-toplevel
         sections = {data for client in self.clients.values() for got in client.got.values() for data in got.sections}
         carried = {pid: text for data in sections for pid, text in carried_by(data).items()}
-        for stumble in self.stumbles.values():
-            if stumble.kind in ("selects nothing", "packets as sections"):
-                stumble.facts["carried"] = carried.get(stumble.facts["pid"])
+        for stumble in told:
+            stumble.facts["carried"] = carried.get(stumble.facts["pid"])
 
     def line_of(self, entry: Entry) -> int:
         """The line of the command that made this entry's call."""
@@ -269,10 +272,13 @@ class Story:
     @staticmethod
     def look_at_writes(client: Client) -> None:
         """Of a client that writes packets to the dvr device a poll of the dvr node alone may be a write too."""
-        if any(call.act == "pass" for call in client.calls):
-            for call, behind in zip(client.calls, [*client.calls[1:], None]):
-                if (call.node, call.act, call.reply) == (DVR, "poll", "ready") and not (behind and behind.act == "pass"):
-                    call.reason = "as a write does that completes no packet"
+        before: Call | None = None
+        behind: list[Call | None] = [None]
+        for call in chain(client.calls, behind) if client.writes else behind:
+            if before and (before.node, before.act, before.reply) == (DVR, "poll", "ready") and not (call and call.act == "pass"):
+                before.know(reason="as a write does that completes no packet")
+                client.calls.note(before)
+            before = call
 
     def join_sizes(self) -> None:
         """The size that is named holds what came at each Overflow of a client's node, of whatever kind each of them is. None is named where
@@ -303,9 +309,10 @@ class Story:
             self.take_feed(node, entry)
             return
         number = int(entry.who[1])
-        client = self.clients.setdefault(number, Client(number, []))
+        if number not in self.clients:
+            self.clients[number] = Client(number, [], self.report.nodes)
+        client = self.clients[number]
         call, line = Call(node.number, entry), client.line_of(entry.step)
-        client.calls.append(call)
         self.end_wait(node, client, call, line)
         node.calls += 1
         if call.reply[0] == "E":
@@ -319,9 +326,10 @@ class Story:
         elif call.act in ("attach", "detach"):
             self.take_tap(node, client, call, line)
         elif call.act == "pass":
-            self.take_played(node, call)
+            self.take_played(node, client, call)
         else:
             self.take_change(node, client, call, line)
+        client.calls.keep(call)
 
     def take_feed(self, node: Node, entry: Entry) -> None:
         """A batch or End passes a node."""
@@ -345,15 +353,16 @@ class Story:
             pids = node.pids if node.filter else {pid for _, pids in node.attached.values() for pid in pids}
             capture.places += self.stream.places(pids, act["first"], node.passed)
 
-    def take_played(self, node: Node, call: Call) -> None:
+    def take_played(self, node: Node, client: Client, call: Call) -> None:
         """Packets that a client has written pass a node."""
+        client.writes = True
         if node.runs and node.capture and node.filter:
             node.filter.written += act_of(call.entry)["count"]
 
     def end_wait(self, node: Node, client: Client, call: Call, line: int) -> None:
         """Where the call before was a wait of the same command, notes what came in between."""
         before = node.waiting.pop(client.number, None)
-        if before is None or call.entry.step != before.step + 1 or call.entry.step in client.begins:
+        if before is None or call.entry.step != before.step + 1 or client.begins(call.entry.step):
             return
         waits = client.waits.setdefault(node.number, Waits())
         if line not in waits.lines[-1:]:
@@ -370,8 +379,9 @@ class Story:
     def take_refused(self, node: Node, client: Client, call: Call, line: int) -> None:
         """A call that the node refused."""
         found = refusal(node, client.number, act_of(call.entry))
-        call.reason = found[1] if found and found[0] == call.reply else ""
-        client.refused.append((line, call))
+        if found and found[0] == call.reply:
+            call.know(reason=found[1])
+        client.refuse(line, call)
         act = act_of(call.entry)
         if call.reply == "EBADF" and client.number in node.busy:
             self.stumble("busy", client.number, node, line, facts={"opened": node.busy[client.number]})
@@ -384,12 +394,12 @@ class Story:
         """An Open, accepted or Busy. One of demux0 looks for a free node and asks the next one where a node is Busy: no call is refused then."""
         if call.reply == "busy":
             owner = int(reply_of(call.entry)["owner"][1])
-            call.reason = f"client {owner} itself is its owner" if owner == client.number else f"client {owner} is its owner"
+            call.know(reason=f"client {owner} {'itself ' if owner == client.number else ''}is its owner")
             if not client.is_last(call.entry.step):
                 return
             if owner != client.number:
                 node.busy[client.number] = line
-            client.refused.append((line, call))
+            client.refuse(line, call)
             return
         node.busy.pop(client.number, None)
         node.openers.add(client.number)
@@ -442,8 +452,8 @@ class Story:
         """A Done that names unread bytes."""
         client.lost.append((line, call, span))
         if node.capture and node.filter and node.filter.kind == "section":
-            call.repeats = node.capture.repeats(span[1] - span[0])
-        if call.act in ("section", "pes", "start", "size") and not call.repeats:
+            call.know(repeats=node.capture.repeats(span[1] - span[0]))
+        if call.act in ("section", "pes", "start", "size") and not call.note.repeats:
             self.stumble("dropped", client.number, node, line, call.act, {"call": call.act, "bytes": span[1] - span[0]})
 
     # ------ ends
@@ -622,24 +632,25 @@ class Story:
             got.take_section(data)
         else:
             self.stumble("part", client.number, node, line, facts={"count": act_of(call.entry)["count"], "of": of})
-        call.reason = ("the end of a section" if begun else "a section") if whole else "a part of a section"
-        call.section, call.whole = data if whole or not begun else b"", whole
+        reason = ("the end of a section" if begun else "a section") if whole else "a part of a section"
+        call.know(reason=reason, section=data if whole or not begun else b"", whole=whole)
 
     def take_payload(self, capture: Capture, call: Call, got: Got) -> None:
         """Payloads, in which PES packets begin."""
-        call.streams = capture.take_payload(call.entry.reply[5:])
-        for stream in call.streams:
+        if streams := capture.take_payload(call.entry.reply[5:]):
+            call.know(streams=streams)
+        for stream in streams:
             got.streams[stream] = got.streams.get(stream, 0) + 1
 
     def take_no_bytes(self, node: Node, client: Client, call: Call, line: int) -> None:
         """Data of no bytes: why, as far as the state says."""
         if node.capture is None:
             without = "no capture has begun" if node.filter else "no filter is set"
-            call.reason = node.ended_by or without
+            call.know(reason=node.ended_by or without)
             if act_of(call.entry)["count"]:
-                self.stumble("no capture", client.number, node, line, call.reason, {"why": call.reason})
+                self.stumble("no capture", client.number, node, line, call.note.reason, {"why": call.note.reason})
         elif not act_of(call.entry)["count"]:
-            call.reason = "a count of 0"
+            call.know(reason="a count of 0")
 
     # ------ overflows
 
@@ -674,7 +685,7 @@ class Story:
         if capture is None:
             return
         capture.known = capture.answered, node.passed
-        if self.is_served or capture.held == capture.answered or capture.loops and call.entry.step not in client.begins:
+        if self.is_served or capture.held == capture.answered or capture.loops and not client.begins(call.entry.step):
             capture.hold_all()
         elif client.is_last(call.entry.step):
             self.hold(node, call, capture.answered, capture.answered)
@@ -685,14 +696,16 @@ class Story:
         """An Overflow that a read answered."""
         reply, capture = reply_of(call.entry), node.capture
         client.lost.append((line, call, reply["span"]))
-        call.lost = lost_by(node, reply)
+        lost_here = lost_by(node, reply)
+        call.know(lost=lost_here)
         if self.stream and capture and not (node.filter and node.filter.is_played):
-            capture.brought.take(self.stream.packets, capture.places)
-            if lost := capture.brought.lost(*reply["span"]):
+            brought = capture.brought = capture.brought or self.stream.brought(node.filter)
+            brought.take(self.stream.packets, capture.places)
+            if lost := brought.lost(*reply["span"]):
                 self.exact.append((client.number, line, node.number, reply["span"], lost))
         if node.size is None:
             return  # no report of a program
-        call.reason = str(node.size)
+        call.know(reason=str(node.size))
         is_larger, is_first = reply["need"] > node.size - 1, node.size == node.first_size
         kind = "larger" if is_larger else "first size" if is_first else "overflow"
         facts: Facts = {"item": reply["item"], "need": reply["need"], "size": node.size, "wanted": 0, "times": 0, "batch": node.batch,
@@ -702,13 +715,13 @@ class Story:
         if capture:
             self.look_at_pace(node, client, call, found)
             wanted = self.hold(node, call, reply["span"][1], reply["span"][1])
-            found.facts["wanted"] = 0 if call.lost.kept else max(found.facts["wanted"], wanted + 1)
+            found.facts["wanted"] = 0 if lost_here.kept else max(found.facts["wanted"], wanted + 1)
             capture.over, capture.loops, capture.known = found, not client.is_last(call.entry.step), (reply["span"][1], node.passed)
             capture.skip_to(reply["span"][1])
             capture.clear, capture.clear_passes = node.passed, node.passes
 
     def look_at_pace(self, node: Node, client: Client, call: Call, found: Stumble) -> None:
         """Looks whether one batch alone had come since the client last found nothing, and it looked as soon as that had passed."""
-        waits = self.is_served or call.entry.step not in client.begins
+        waits = self.is_served or not client.begins(call.entry.step)
         is_single = waits and node.capture is not None and node.passes - node.capture.clear_passes == 1 and node.batch > 1
         found.facts["batch"] = max(found.facts["batch"], node.batch) if is_single and found.facts["batch"] else 0

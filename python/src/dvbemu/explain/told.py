@@ -6,13 +6,13 @@ from typing import TYPE_CHECKING, NamedTuple
 from .. import reports
 from ..inputs import many
 from ..psi.fields import pid_text
-from . import sentences, streamed
+from . import sentences
 from .hints import hint_text, rule_texts
-from .sentences import asked_texts, got_text, joined, lost_text, refused_texts, timed_text, waits_text
+from .sentences import asked_texts, got_text, joined, lost_text, refused_text, timed_text, waits_text
 from .story import Story, joints
 
 if TYPE_CHECKING:
-    from typing import Callable, Iterable, ParamSpec, Sequence, Union
+    from typing import Callable, Iterable, Iterator, ParamSpec, Sequence, Union
 
     from .clients import Call, Client
     from .offered import Stream
@@ -97,17 +97,16 @@ def part_lines(title: str, texts: Sequence[Callable[[], str]], nothing: str) -> 
     return lines + (wrapped(f"And {len(texts) - len(shown):,} more.", 4) if len(texts) > len(shown) else [])
 
 
-def commands_of(client: Client) -> list[tuple[reports.Outcome, list[Call]]]:
+def commands_of(client: Client) -> Iterator[tuple[reports.Outcome, list[Call]]]:
     """Each outcome of a client with its calls."""
-    found: list[tuple[reports.Outcome, list[Call]]] = []
-    place = 0
+    calls = iter(client.calls)
+    call = next(calls, None)
     for outcome in client.outcomes:
-        calls = []
-        while place < len(client.calls) and client.calls[place].entry.step < outcome.after:
-            calls.append(client.calls[place])
-            place += 1
-        found.append((outcome, calls))
-    return found
+        mine = []
+        while call is not None and call.entry.step < outcome.after:
+            mine.append(call)
+            call = next(calls, None)
+        yield outcome, mine
 
 
 def later(function: Callable[P, str], *arguments: P.args, **named: P.kwargs) -> Callable[[], str]:
@@ -117,7 +116,7 @@ def later(function: Callable[P, str], *arguments: P.args, **named: P.kwargs) -> 
 
 def lost_title(lost: Sequence[tuple[int, Call, tuple[int, int]]]) -> str:
     """The bytes that were lost, and how many of them may be repeats."""
-    counts = [(after - first, call.repeats) for _, call, (first, after) in lost]
+    counts = [(after - first, call.note.repeats) for _, call, (first, after) in lost]
     count, again = sum(count for count, _ in counts), sum(count for count, repeats in counts if repeats)
     most = "all" if again == count else f"{again:,}"
     return f"What was lost, {many(count, 'byte')}" + (f", {most} as long as repeats of what was read" if again else "")
@@ -128,11 +127,9 @@ def asked_lines(client: Client, part: Part) -> list[Row]:
     commands = commands_of(client)
     if part.node is not None:
         on_node = ((outcome, [call for call in calls if call.node == part.node]) for outcome, calls in commands)
-        commands = [(outcome, calls) for outcome, calls in on_node if calls]
-    lines = wrapped("What it asked:" if commands else "What it asked: nothing.", 2)
-    for text in asked_texts(commands):
-        lines += wrapped(text + ".", 4)
-    return lines
+        commands = ((outcome, calls) for outcome, calls in on_node if calls)
+    lines: list[Row] = [Told(4, text + ".") for text in asked_texts(commands)]
+    return wrapped("What it asked:" if lines else "What it asked: nothing.", 2) + lines
 
 
 def idle_lines(clients: Sequence[Client]) -> list[Row]:
@@ -151,7 +148,7 @@ def client_lines(client: Client, part: Part, is_asked: bool = True) -> list[Row]
     lost = [later(lost_text, *row) for row in spans]
     waits = [later(waits_text, *pair) for pair in sorted(client.waits.items()) if part.of_node(pair[0])]
     timed = [later(timed_text, *row) for row in client.timed if part.of_node(row[1].node)]
-    refused = [later(str, text) for text in refused_texts([row for row in client.refused if part.of_node(row[1].node)])]
+    refused = [later(refused_text, *row) for row in client.refused.items() if part.of_node(row[0][2])]
     lines += [*asked_lines(client, part), ""] if is_asked else []
     lines += part_lines("What it got", got, "no read was accepted")
     lines += part_lines(lost_title(spans) if lost else "What was lost", lost, "nothing")
@@ -174,6 +171,7 @@ def hint_lines(story: Story, part: Part) -> list[Row]:
 
 def stream_hints(story: Story, stream: Stream, part: Part) -> list[Row]:
     """What the stream says of filters that got nothing, and of what was lost."""
+    from . import streamed  # pylint: disable=import-outside-toplevel
     lines: list[Row] = []
     for node, used in story.silent:
         if part.of_node(node) and part.of_client(used.client):
@@ -191,10 +189,10 @@ def check_steps(report: reports.Report, story: Story) -> None:
         if number >= len(report.clients):
             raise reports.NotAReport(line + 1, f"`client {number}`, of which a node has an entry")
         line += 1 + len(client.outcomes)
-        made = [call.entry.step for call in client.calls]
-        told = [step for outcome in client.outcomes for step in (outcome.first, outcome.after)]
-        right = not told or (told[0] == 0 and told[1:-1:2] == told[2::2] and told[-1] == len(made))
-        if not right or made != list(range(len(made))) or (made and not told):
+        step = 0
+        for outcome in client.outcomes:
+            step = outcome.after if outcome.first == step else -1
+        if step != len(client.calls.steps) or not client.calls.are_all():
             what = f"the commands of client {number} up to here to have just the steps of its entries"
             raise reports.NotAReport(line, what)
 
@@ -211,7 +209,7 @@ def page(report: reports.Report, part: Part, stream: Stream | None = None) -> st
     story = story_of(report, stream)
     lines = stream_lines(report) if part == Part() else []
     shown = [client for number, client in sorted(story.clients.items()) if part.of_client(number)
-             and (part.node is None or any(call.node == part.node for call in client.calls))]  # fmt: skip
+             and (part.node is None or part.node in client.calls.nodes)]  # fmt: skip
     asking = [client for client in shown if client.outcomes]
     lines += [line for client in asking for line in client_lines(client, part)]
     lines += idle_lines(shown) if shown and not asking else []

@@ -11,7 +11,7 @@ from typing import TYPE_CHECKING, NamedTuple
 from .sections import crc, section, short_section, with_crc, with_length
 
 if TYPE_CHECKING:
-    from typing import Dict, Iterable, List, Mapping, Sequence, Tuple
+    from typing import Dict, Iterable, Mapping, Sequence, Tuple
 
     # The numbers of a table, or of one of the things that it lists, by their names in the standard.
     Fields = Dict[str, int]
