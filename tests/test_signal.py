@@ -1,4 +1,4 @@
-"""`serve --tune ..:snr=DB:lock=MS:drop=S+S`: what a frontend tells, when it locks, and what a lock costs that is lost for a while."""
+"""`serve --tune ..:snr=DB:lock=MS:drop=S+S`: what a frontend tells, when it locks, and what a lock costs that is lost."""
 import os
 import re
 import struct
@@ -11,8 +11,8 @@ from conftest import EXAMPLES, PROGRAM
 from dvbemu.server import channels
 
 STREAM = EXAMPLES / "programs" / "scan.ts"
-# A program that tunes to 474 MHz, notes when the status changes, for so many seconds, and meanwhile how many bytes a recording gets; an
-# event each time too. Numbers and structures as linux/dvb/frontend.h and dmx.h have them.
+# A program that tunes to 474 MHz, notes when the status changes, for so many seconds, and meanwhile how many bytes a recording
+# gets; an event each time too. Numbers and structures as linux/dvb/frontend.h and dmx.h have them.
 LOOKS = """
 import ctypes, fcntl, os, struct, sys, time
 fd = os.open("/dev/dvb/adapter0/frontend0", os.O_RDWR | os.O_NONBLOCK)
@@ -50,16 +50,19 @@ def looks(server, tmp_path):
     def run(seconds, *words):
         source = tmp_path / "looks.py"
         source.write_text(LOOKS)
-        command = [PROGRAM, "serve", "--packets", "3000", "--report", tmp_path / "r", *words, "--", sys.executable, "-S", source, str(seconds)]
+        command = [PROGRAM, "serve", "--packets", "3000", "--report", tmp_path / "r", *words, "--"]
+        command += [sys.executable, "-S", source, str(seconds)]
         ran = subprocess.run(command, stdout=subprocess.PIPE, text=True, check=True, cwd=tmp_path)
         return [line.split() for line in ran.stdout.splitlines()], (tmp_path / "r.tunings").read_text().splitlines()
 
     return run
 
 
-@pytest.mark.parametrize("quality, told", [("", ["49152", "2", "49152"]), (":snr=12.5", ["125", "1", "12500"]), (":snr=7", ["70", "1", "7000"])])
+@pytest.mark.parametrize("quality, told", [
+    ("", ["49152", "2", "49152"]), (":snr=12.5", ["125", "1", "12500"]), (":snr=7", ["70", "1", "7000"]),
+])  # fmt: skip
 def test_ratio(looks, quality, told):
-    """In dB where it is known (FE_SCALE_DECIBEL is 1, in 0.001 dB), or else relative (2); without a lock it isn't available (0)."""
+    """In dB where it is known (FE_SCALE_DECIBEL is 1, in 0.001 dB), or else relative (2); without a lock not available (0)."""
     lines, _ = looks(1.5, "--tune", f"474000000{quality}={STREAM}")
     assert [line[1:5] for line in lines] == [["0", "0", "0", "0"], ["31", *told]]
 
@@ -80,7 +83,8 @@ def test_drop(looks):
     # (4,500 packets would be 1.5 s; what is read then are the last ones, and batches filled with null packets)
     assert int(lines[2][6]) > 188 * 1000 and int(lines[3][6]) < 188 * 1000
     first, second, third = (line.split(" ", 1) for line in tunings)
-    assert (first, second[1], third) == (["0", f"474000000 DVBT {STREAM}"], "474000000 DVBT lock lost", [second[0], f"474000000 DVBT {STREAM}"])
+    here = f"474000000 DVBT {STREAM}"
+    assert (first, second[1], third) == (["0", here], "474000000 DVBT lock lost", [second[0], here])
     assert int(second[0]) % 64 == 0
 
 
@@ -92,16 +96,19 @@ def test_a_file_of_channels(looks, tmp_path):
     assert lines[1][1:4] == ["31", "30", "1"] and tunings == ["0 474000000 DVBT on/a=b:snr=1.ts"]
 
 
-@pytest.mark.parametrize("word", ["474:snr=x=a.ts", "474:snr=100=a.ts", "474:lock=-1=a.ts", "474:drop=5=a.ts", "474:drop=5+2", "474:drop=+2=a.ts"])
+@pytest.mark.parametrize("word", [
+    "474:snr=x=a.ts", "474:snr=100=a.ts", "474:lock=-1=a.ts", "474:drop=5=a.ts", "474:drop=5+2", "474:drop=+2=a.ts",
+])  # fmt: skip
 def test_wrong_words(word):
     ran = subprocess.run([PROGRAM, "serve", "--tune", word, "--", "true"], capture_output=True, text=True, check=False)
     assert ran.returncode == 2 and re.search(rf"--tune: .*{re.escape(word)}", ran.stderr)
 
 
 @pytest.mark.parametrize("word, head, quality", [
-    ("474=a.ts", ("474", None, None), (0, 0.1)), ("474:DVBT2:snr=12.34=a.ts", None, None), ("474:DVBT2:snr=12.3=a.ts", ("474", "DVBT2", None), (123, 0.1)),
-    ("11362:DVBS2:H:lock=0:snr=8=a.ts", ("11362", "DVBS2", "H"), (80, 0)), ("11362:H:drop=1+2=a.ts", ("11362", "H", None), (0, 0.1)),
-    ("474=x:snr=3=a.ts", ("474", None, None), (0, 0.1)),
+    ("474=a.ts", ("474", None, None), (0, 0.1)), ("474:DVBT2:snr=12.34=a.ts", None, None),
+    ("474:DVBT2:snr=12.3=a.ts", ("474", "DVBT2", None), (123, 0.1)),
+    ("11362:DVBS2:H:lock=0:snr=8=a.ts", ("11362", "DVBS2", "H"), (80, 0)),
+    ("11362:H:drop=1+2=a.ts", ("11362", "H", None), (0, 0.1)), ("474=x:snr=3=a.ts", ("474", None, None), (0, 0.1)),
 ])  # fmt: skip
 def test_words(word, head, quality):
     found = channels.LINE.fullmatch(word)
@@ -110,7 +117,7 @@ def test_words(word, head, quality):
 
 
 def test_page():
-    """The page as preload/frontend.c has it: nine words, two more, packets behind a place of eight bytes, eight systems, the properties."""
+    """The page as preload/frontend.c has it: nine words, two more, packets at a place of eight bytes, systems, properties."""
     page = channels.Front
     assert (page.SEATLESS_AT, page.RATIO_AT) == (9 * 4, 10 * 4) and page.PACKETS_AT == struct.calcsize("@11IQ") - 8 == 48
     assert (page.SYSTEMS_AT, page.SYSTEM_AT) == (56, 56 + 8 * 4 + 17 * 4)

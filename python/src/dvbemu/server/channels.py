@@ -31,8 +31,8 @@ TONE_ON, VOLTAGE_OFF = 0, 2
 
 
 class Quality(NamedTuple):
-    """How a signal is received: signal to noise in 0.1 dB, 0 where that is unknown; the seconds until a tuner locks; and the seconds behind the
-    lock at which it is lost and comes back."""
+    """How a signal is received: signal to noise in 0.1 dB, 0 where that is unknown; the seconds until a tuner locks; and the seconds
+    behind the lock at which it is lost and comes back."""
 
     ratio: int = 0
     lock: float = 0.1
@@ -43,7 +43,8 @@ def quality_of(words: str) -> Quality:
     """What words :snr=DB, :lock=MS and :drop=SECONDS+SECONDS say; of two the last."""
     known = dict(word.split("=") for word in words.split(":")[1:])
     after, lasts = map(float, known["drop"].split("+")) if "drop" in known else (math.inf, 0.0)
-    return Quality(round(float(known.get("snr", 0)) * 10), int(known["lock"]) / 1000 if "lock" in known else Quality().lock, (after, after + lasts))
+    lock = int(known["lock"]) / 1000 if "lock" in known else Quality().lock
+    return Quality(round(float(known.get("snr", 0)) * 10), lock, (after, after + lasts))
 
 
 class Channel:
@@ -156,7 +157,8 @@ class Front:
     """The page that a frontend's programs and this one share."""
 
     SIZE, MOST_SYSTEMS = 4096, 7
-    HEAD, STATUS_AT, TAKEN_AT, SEATLESS_AT, RATIO_AT, PACKETS_AT, SYSTEMS_AT, SYSTEM_AT = struct.Struct("=9I"), 8, 12, 36, 40, 48, 56, 88 + 4 * 17
+    HEAD, STATUS_AT, TAKEN_AT = struct.Struct("=9I"), 8, 12
+    SEATLESS_AT, RATIO_AT, PACKETS_AT, SYSTEMS_AT, SYSTEM_AT = 36, 40, 48, 56, 88 + 4 * 17
 
     def __init__(self, path: str, systems: Sequence[int]) -> None:
         self.file = os.open(path, os.O_RDWR | os.O_CREAT | os.O_CLOEXEC, 0o600)
