@@ -23,9 +23,10 @@ enum { SYSTEMS = 8, COMMANDS = DTV_MAX_COMMAND + 1, MOST_PROPERTIES = 64, GOOD =
 /* What python/src/dvbemu/server/channels.py has too. All frequencies are in Hz, or in kHz behind a satellite's converter. */
 struct front {
 	uint32_t wanted, granted, status,
-		taken; /* tunings: how many were asked for, done, with what status, and told as an event */
+		taken; /* tunings: how many were asked for, done, with what status, and told as events */
 	uint32_t frequency, system, voltage, tone, stream; /* what is tuned to; and what is on the cable */
-	uint32_t seatless;				   /* how many programs have found no seat of the server */
+	uint32_t seatless,
+		ratio; /* how many programs have found no seat of the server; signal to noise in 0.1 dB, or 0: unknown */
 	uint64_t packets;
 	uint32_t systems[SYSTEMS]; /* which it has; behind the last a 0 */
 	uint32_t asked[COMMANDS];  /* the properties, by their commands */
@@ -131,7 +132,11 @@ static uint16_t strength_of(const struct front *front)
 	return status_of(front) & FE_HAS_LOCK ? GOOD : status_of(front) ? GOOD / 2 : 0;
 }
 
-static uint16_t ratio_of(const struct front *front) { return status_of(front) & FE_HAS_LOCK ? GOOD : 0; }
+static uint16_t ratio_of(const struct front *front)
+{
+	uint16_t known = front->ratio ? (uint16_t)front->ratio : GOOD;
+	return status_of(front) & FE_HAS_LOCK ? known : 0;
+}
 
 /* ------ the older calls, which know four types */
 
@@ -294,7 +299,8 @@ static int tell_property(const struct front *front, struct dtv_property *one)
 		tell_stat(one, 1, FE_SCALE_RELATIVE, strength_of(front));
 		return 0;
 	case DTV_STAT_CNR:
-		tell_stat(one, locked, FE_SCALE_RELATIVE, ratio_of(front));
+		tell_stat(one, locked, front->ratio ? FE_SCALE_DECIBEL : FE_SCALE_RELATIVE,
+			  ratio_of(front) * (front->ratio ? 100 : 1));
 		return 0;
 	case DTV_STAT_PRE_ERROR_BIT_COUNT:
 	case DTV_STAT_POST_ERROR_BIT_COUNT:

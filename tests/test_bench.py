@@ -9,7 +9,8 @@ import pytest
 from conftest import ROOT
 
 PATH = str(ROOT / "bench" / "bench")
-ROWS = re.findall(r"^\| (.*) \| `(\w+)` \| ([\d.]+)(.*) \| ([\d.]+)[^:]*: (met|MISSED) \|$", (ROOT / "bench/README.md").read_text(), re.M)
+ROW = re.compile(r"^\| (.*) \| `(\w+)` \| ([\d.]+)(.*) \| ([\d.]+)[^:]*: (met|MISSED) \|$", re.M)
+ROWS = ROW.findall((ROOT / "bench/README.md").read_text())
 
 
 @pytest.fixture(scope="module")
@@ -29,7 +30,9 @@ def test_verdicts():
     assert [row for row in ROWS if (float(row[4]) <= float(row[2])) != (row[5] == "met")] == []
 
 
-@pytest.mark.parametrize("median, least, told", [(1.5, 1.2, "1.5 (1.2): met"), (1.51, 1.5, "1.51 (1.5): MISSED"), (1, 1, "1: met")])
+@pytest.mark.parametrize("median, least, told", [
+    (1.5, 1.2, "1.5 (1.2): met"), (1.51, 1.5, "1.51 (1.5): MISSED"), (1, 1, "1: met"),
+])  # fmt: skip
 def test_table(bench, median, least, told):
     rows = bench.table({"packet": bench.Figure(median, least)}).split("\n")
     assert rows[2:] == [f"| `steps` over a session of one packet | `steps` | 1.5 ms | {told} |"]
@@ -39,7 +42,9 @@ def test_multiples(bench):
     assert bench.figure([3, 1, 2]) == (2, 1) and bench.Figure(3, 2).less(bench.Figure(1, 1)).by(bench.Figure(4, 2)) == (0.5, 0.5)
 
 
-@pytest.mark.parametrize("words, told", [("nothing", "nothing: the words are all, steps"), ("--repeats x", "argument --repeats: invalid int")])
+@pytest.mark.parametrize("words, told", [
+    ("nothing", "nothing: the words are all, steps"), ("--repeats x", "argument --repeats: invalid int"),
+])  # fmt: skip
 def test_wrong_words(words, told):
     ran = subprocess.run([PATH, *words.split()], capture_output=True, text=True, check=False)
     assert ran.returncode == 2 and f"bench/bench: error: {told}" in ran.stderr

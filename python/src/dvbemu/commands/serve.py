@@ -38,7 +38,7 @@ if TYPE_CHECKING:
 SLOW, FASTEST, MOST_ADAPTERS = 640, 10_000_000, 8
 # The report that no word names, and how one begins.
 REPORT, BEGINS = "dvbemu.report", b"dvbemu 1\n"
-CHANNEL = "HZ[:SYSTEM][:POL]=STREAM"
+CHANNEL = "HZ[:SYSTEM][:POL][:snr=DB][:lock=MS][:drop=S+S]=STREAM"
 EARTHLY = ", ".join(name for name, number in SYSTEMS.items() if number not in SATELLITE)
 ABOUT = """\
 Runs COMMAND, which finds /dev/dvb/adapter0, as all programs that it starts, and writes a report of their calls.
@@ -99,7 +99,8 @@ def command() -> Serve:
                        "is no report; or a line each, as they come, in a new or empty folder, of which `dvbemu merge` makes it")  # fmt: skip
     words.add_argument("--tune", action="append", nargs="+", default=[], metavar=CHANNEL, type=tool.reader(channel, CHANNEL),
                        help=f"a recording at a frequency: in Hz, 2 MHz near, for a delivery system ({EARTHLY}; DVBS and "
-                       "DVBS2, with kHz and H, V, L or R); a number below 100,000 is MHz")  # fmt: skip
+                       "DVBS2, with kHz and H, V, L or R); a number below 100,000 is MHz; with so many dB of signal to noise, a lock behind so many "
+                       "milliseconds, and one that is lost behind so many seconds for so many more")  # fmt: skip
     words.add_argument("--channels", metavar="FILE", help="a file of such lines")
     words.add_argument("--live", action="store_true", help="a recording goes on while another is watched")
     words.add_argument("--adapter", action="append", default=[], metavar="STREAM|CHANNELS", help="one adapter more: adapter0, adapter1 and so on")

@@ -2,11 +2,12 @@
 too."""
 from __future__ import annotations
 
+import math
 import mmap
 import os
 import re
 import struct
-from typing import TYPE_CHECKING
+from typing import TYPE_CHECKING, NamedTuple
 
 from .recording import Recording, Unplayable
 
@@ -16,7 +17,9 @@ if TYPE_CHECKING:
 # The delivery systems, by the numbers of linux/dvb/frontend.h.
 SYSTEMS = {"DVBC": 1, "DVBCB": 2, "DVBT": 3, "DVBS": 5, "DVBS2": 6, "ISDBT": 8, "ATSC": 11, "DVBT2": 16}
 SATELLITE, TERRESTRIAL, WITH_STREAMS, ANY_STREAM, FIRST = (5, 6), (3,), (6, 16), 0xFFFFFFFF, {6: 5, 16: 3}
-LINE = re.compile(r"(\d+)(?::([A-Za-z0-9/-]+?))?(?::([HVLR]))?=(.+)")
+SECONDS = r"\d{1,5}(?:\.\d{1,3})?"
+LINE = re.compile(r"(\d+)(?::(?!(?:snr|lock|drop)=)([A-Za-z0-9/-]+?))?(?::([HVLR]))?"
+                  rf"((?::(?:snr=\d{{1,2}}(?:\.\d)?|lock=\d{{1,6}}|drop={SECONDS}\+{SECONDS}))*)=(.+)")  # fmt: skip
 # Below this many Hz, and of a satellite kHz, nothing is sent: such a number is one of MHz.
 LEAST = 100_000
 # How far a tuner may be off, in Hz, and for a satellite in kHz; and the converters' oscillators in kHz: for the lower band, the upper
@@ -27,11 +30,30 @@ LOCKED, SIGNAL, NOTHING = 0x1F, 0x01, 0x00
 TONE_ON, VOLTAGE_OFF = 0, 2
 
 
+class Quality(NamedTuple):
+    """How a signal is received: signal to noise in 0.1 dB, 0 where that is unknown; the seconds until a tuner locks; and the seconds
+    behind the lock at which it is lost and comes back."""
+
+    ratio: int = 0
+    lock: float = 0.1
+    drop: tuple[float, float] = (math.inf, math.inf)
+
+
+def quality_of(words: str) -> Quality:
+    """What words :snr=DB, :lock=MS and :drop=SECONDS+SECONDS say; of two the last."""
+    known = dict(word.split("=") for word in words.split(":")[1:])
+    after, lasts = map(float, known["drop"].split("+")) if "drop" in known else (math.inf, 0.0)
+    lock = int(known["lock"]) / 1000 if "lock" in known else Quality().lock
+    return Quality(round(float(known.get("snr", 0)) * 10), lock, (after, after + lasts))
+
+
 class Channel:
     """A recording at a frequency: in Hz, or in kHz for a satellite. A frequency of None is any."""
 
-    def __init__(self, frequency: int | None, systems: Sequence[int], polarisation: str | None, recording: Recording) -> None:
+    def __init__(self, frequency: int | None, systems: Sequence[int], polarisation: str | None, recording: Recording,
+                 quality: Quality = Quality()) -> None:  # fmt: skip
         self.frequency, self.systems, self.polarisation, self.recording = frequency, systems, polarisation, recording
+        self.quality = quality
 
     def is_near(self, asked: Asked) -> bool:
         """Whether a frontend that is set so finds a signal."""
@@ -68,7 +90,7 @@ def channel_of(word: str, rate: float | None) -> Channel:
     """The channel of a word HZ[:SYSTEM][:POL]=FILE."""
     found = LINE.fullmatch(word)
     if not found:
-        raise Unplayable(f"{word}: HZ[:SYSTEM][:H|V|L|R]=FILE is wanted")
+        raise Unplayable(f"{word}: HZ[:SYSTEM][:H|V|L|R][:snr=DB][:lock=MS][:drop=S+S]=FILE is wanted")
     system = found[2] and found[2].upper().replace("-", "").replace("/", "")
     if system in ("H", "V", "L", "R"):
         system, polarisation = None, system
@@ -79,11 +101,11 @@ def channel_of(word: str, rate: float | None) -> Channel:
     systems = (SYSTEMS[system],) if system else SATELLITE if polarisation else ()
     if polarisation and not set(systems) <= set(SATELLITE):
         raise Unplayable(f"{word}: {system} has no polarisation")
-    frequency, recording = int(found[1]), Recording(found[4], rate)
+    frequency, recording = int(found[1]), Recording(found[5], rate)
     if frequency < LEAST:
         recording.told.append(f"{word}: {frequency} is taken as {frequency} MHz")
         frequency *= 1_000 if set(systems) & set(SATELLITE) else 1_000_000
-    return Channel(frequency, systems, polarisation, recording)
+    return Channel(frequency, systems, polarisation, recording, quality_of(found[4]))
 
 
 def lines_in(path: str) -> list[str] | None:
@@ -94,10 +116,10 @@ def lines_in(path: str) -> list[str] | None:
     except (OSError, UnicodeDecodeError):
         return None
     lines = [line for line in lines if line and not line.startswith("#")]
-    if not lines or not all(LINE.fullmatch(line) for line in lines):
+    found = [LINE.fullmatch(line) for line in lines]
+    if not lines or not all(found):
         return None
-    parts = (line.split("=", 1) for line in lines)
-    return [f"{head}={os.path.join(os.path.dirname(path), file)}" for head, file in parts]
+    return [line[0][:line.start(5)] + os.path.join(os.path.dirname(path), line[5]) for line in found if line]
 
 
 def not_lines(path: str) -> str:
@@ -135,7 +157,8 @@ class Front:
     """The page that a frontend's programs and this one share."""
 
     SIZE, MOST_SYSTEMS = 4096, 7
-    HEAD, SEATLESS_AT, PACKETS_AT, SYSTEMS_AT, SYSTEM_AT = struct.Struct("=9I"), 36, 40, 48, 80 + 4 * 17
+    HEAD, STATUS_AT, TAKEN_AT = struct.Struct("=9I"), 8, 12
+    SEATLESS_AT, RATIO_AT, PACKETS_AT, SYSTEMS_AT, SYSTEM_AT = 36, 40, 48, 56, 88 + 4 * 17
 
     def __init__(self, path: str, systems: Sequence[int]) -> None:
         self.file = os.open(path, os.O_RDWR | os.O_CREAT | os.O_CLOEXEC, 0o600)
@@ -158,10 +181,16 @@ class Front:
         found: int = struct.unpack_from("=I", self.page, self.SEATLESS_AT)[0]
         return found
 
-    def grant(self, wanted: int, status: int) -> None:
+    def grant(self, wanted: int, status: int, ratio: int = 0) -> None:
         """A tuning is done. Programs that wait are told of it by the file."""
-        os.pwrite(self.file, struct.pack("=I", status), 8)
+        os.pwrite(self.file, struct.pack("=I", ratio), self.RATIO_AT)
+        os.pwrite(self.file, struct.pack("=I", status), self.STATUS_AT)
         os.pwrite(self.file, struct.pack("=I", wanted), 4)
+
+    def change(self, status: int) -> None:
+        """The lock is lost, or comes back: an event, as a tuning is."""
+        os.pwrite(self.file, struct.pack("=I", status), self.STATUS_AT)
+        os.pwrite(self.file, struct.pack("=I", (self.HEAD.unpack_from(self.page)[1] - 1) & 0xFFFFFFFF), self.TAKEN_AT)
 
     def pass_packets(self, count: int) -> None:
         """So many packets have passed."""

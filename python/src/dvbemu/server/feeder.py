@@ -2,6 +2,7 @@
 from __future__ import annotations
 
 import fcntl
+import math
 import os
 import struct
 import termios
@@ -10,7 +11,7 @@ import time
 from typing import TYPE_CHECKING
 
 from ..stream.packets import PACKET
-from .channels import LOCKED, NOTHING
+from .channels import LOCKED, NOTHING, Quality
 from .recording import PAUSE, Player, Unplayable
 
 if TYPE_CHECKING:
@@ -18,8 +19,8 @@ if TYPE_CHECKING:
 
     from .channels import Asked, Channel, Front
 
-# The most packets of a write; the packets of a batch, which pass the server together; and the seconds that a tuner takes to lock.
-MOST, BATCH, LOCKS = 640, 64, 0.1
+# The most packets of a write; and the packets of a batch, which pass the server together.
+MOST, BATCH, NEVER = 640, 64, (math.inf, math.inf)
 NULL = bytes([0x47, 0x1F, 0xFF, 0x10]) + b"\xff" * (PACKET - 4)
 
 
@@ -37,6 +38,8 @@ class Feeder(threading.Thread):
         self.on_fault: Callable[[], object] | None = None
         self.ended, self.count, self.begun = threading.Event(), 0, time.monotonic()
         self.now = next((channel for channel in channels if channel.frequency is None), None)
+        # (what was tuned to, from when until when its lock is lost, and whether it is)
+        self.words, self.drop, self.is_lost = "", NEVER, False
 
     def write(self, piece: bytes) -> None:
         """Writes packets."""
@@ -75,22 +78,46 @@ class Feeder(threading.Thread):
         if tuning is None:
             return
         found, status = self.channel_for(tuning[1])
+        self.words = tuning[1].words()
+        quality = found.quality if found else Quality()
         if found is not self.now:
             if self.now:
                 self.pass_all()
-            time.sleep(LOCKS)
+            self.wait_for_lock(tuning[0], quality.lock)
             now = time.monotonic()
             if found:
                 self.players[found].begin(now, now - self.begun if self.live else 0.0)
-            self.now = found
-        what = found.recording.path if found else "no lock"
-        self.keep(self.tunings, os.fsencode(f"{self.count} {tuning[1].words()} {what}\n"))
-        self.front.grant(tuning[0], status)
+            self.now, self.is_lost, self.drop = found, False, (now + quality.drop[0], now + quality.drop[1])
+        self.tell(found.recording.path if found else "no lock")
+        self.front.grant(tuning[0], NOTHING if self.is_lost else status, quality.ratio)
+
+    def tell(self, what: str) -> None:
+        """Tells what is on the air from the next packet on."""
+        self.keep(self.tunings, os.fsencode(f"{self.count} {self.words} {what}\n"))
+
+    def wait_for_lock(self, wanted: int, seconds: float) -> None:
+        """Waits until a tuner locks, or a program tunes anew."""
+        until = time.monotonic() + seconds
+        while (left := until - time.monotonic()) > 0 and not self.ended.is_set() and (self.front.asked() or (0,))[0] == wanted:
+            time.sleep(min(left, PAUSE))
+
+    def see_drop(self) -> None:
+        """Loses the lock, and gets it back, where the channel asks for that: what is sent meanwhile isn't received."""
+        is_lost = self.drop[0] <= time.monotonic() < self.drop[1]
+        if self.now is None or is_lost == self.is_lost:
+            return
+        if is_lost:
+            self.pass_all()
+            # (it takes its time until that has passed)
+            self.drop = self.drop[0], self.drop[1] + time.monotonic() - self.drop[0]
+        self.is_lost = is_lost
+        self.tell("lock lost" if is_lost else self.now.recording.path)
+        self.front.change(NOTHING if is_lost else LOCKED)
 
     def feed(self) -> bool:
         """Writes what is due now, and says whether there was any."""
         piece = self.players[self.now].due(time.monotonic(), MOST) if self.now else b""
-        if piece:
+        if piece and not self.is_lost:
             self.write(piece)
         return bool(piece)
 
@@ -104,6 +131,7 @@ class Feeder(threading.Thread):
             self.players[self.now].begin(self.begun)
         while not self.ended.is_set() and not self.is_over():
             self.tune()
+            self.see_drop()
             if not self.feed():
                 time.sleep(PAUSE)
 

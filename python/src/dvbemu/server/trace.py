@@ -1,5 +1,5 @@
-"""`serve --trace`: the calls of programs as they come, a line each on standard error. preload/trace.c writes a record of each call
-into a pipe, and a thread reads them here. What goes wrong here ends the telling, and nothing else."""
+"""`serve --trace`: the calls of programs as they come, a line each on standard error. preload/trace.c writes a record of each
+call into a pipe, and a thread reads them here. What goes wrong here ends the telling, and nothing else."""
 from __future__ import annotations
 
 import contextlib
@@ -19,8 +19,8 @@ from ..reports import filter_words
 if TYPE_CHECKING:
     from typing import TextIO
 
-# The layout of a record; the result of a call that waits; how many seconds it waits until that is told; how many records are read at
-# once; the bytes of the pipe.
+# The layout of a record; the result of a call that waits; how many seconds it waits until that is told; how many records are read
+# at once; the bytes of the pipe.
 LAYOUT, WAITS, PATIENCE, MANY, ROOM = struct.Struct("<QIIIiHHIII16s256s"), -(2**31), 0.2, 200, 1 << 20
 OPEN_DEMUX, OPEN_DVR, CLOSE, IOCTL, READ, POLL, WAIT, FRONTEND, OPEN_FRONTEND, CLOSE_FRONTEND = range(1, 11)
 DVR, NO_NODE = 32, 64
@@ -28,15 +28,16 @@ CALLS = {OPEN_DEMUX: "open", OPEN_DVR: "open", OPEN_FRONTEND: "open", CLOSE: "cl
 # The requests of a demux and of a frontend, and the properties of the latter, as their headers call them.
 DEMUX = {one.number: f"DMX_{name}" for name, one in vars(abi).items() if isinstance(one, abi.Request)}
 TUNER = {
-    61: "GET_INFO", 62: "DISEQC_RESET_OVERLOAD", 63: "DISEQC_SEND_MASTER_CMD", 64: "DISEQC_RECV_SLAVE_REPLY", 65: "DISEQC_SEND_BURST",
-    66: "SET_TONE", 67: "SET_VOLTAGE", 68: "ENABLE_HIGH_LNB_VOLTAGE", 69: "READ_STATUS", 70: "READ_BER", 71: "READ_SIGNAL_STRENGTH",
-    72: "READ_SNR", 73: "READ_UNCORRECTED_BLOCKS", 76: "SET_FRONTEND", 77: "GET_FRONTEND", 78: "GET_EVENT",
-    81: "SET_FRONTEND_TUNE_MODE", 82: "SET_PROPERTY", 83: "GET_PROPERTY",
+    61: "GET_INFO", 62: "DISEQC_RESET_OVERLOAD", 63: "DISEQC_SEND_MASTER_CMD", 64: "DISEQC_RECV_SLAVE_REPLY",
+    65: "DISEQC_SEND_BURST", 66: "SET_TONE", 67: "SET_VOLTAGE", 68: "ENABLE_HIGH_LNB_VOLTAGE", 69: "READ_STATUS", 70: "READ_BER",
+    71: "READ_SIGNAL_STRENGTH", 72: "READ_SNR", 73: "READ_UNCORRECTED_BLOCKS", 76: "SET_FRONTEND", 77: "GET_FRONTEND",
+    78: "GET_EVENT", 81: "SET_FRONTEND_TUNE_MODE", 82: "SET_PROPERTY", 83: "GET_PROPERTY",
 }  # fmt: skip
 PROPERTIES = {
     first + at: name
     for first, names in (
-        (1, "TUNE CLEAR FREQUENCY MODULATION BANDWIDTH_HZ INVERSION DISEQC_MASTER SYMBOL_RATE INNER_FEC VOLTAGE TONE PILOT ROLLOFF"),
+        (1, "TUNE CLEAR FREQUENCY MODULATION BANDWIDTH_HZ INVERSION DISEQC_MASTER SYMBOL_RATE INNER_FEC VOLTAGE TONE"),
+        (12, "PILOT ROLLOFF"),
         (17, "DELIVERY_SYSTEM"),
         (35, "API_VERSION CODE_RATE_HP CODE_RATE_LP GUARD_INTERVAL TRANSMISSION_MODE HIERARCHY ISDBT_LAYER_ENABLED STREAM_ID"),
         (43, "DVBT2_PLP_ID_LEGACY ENUM_DELSYS"),
