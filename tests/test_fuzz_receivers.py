@@ -254,3 +254,108 @@ def test_no_fault(tmp_path, planted):
     assert (status, told, lines[1]) == (0, "", "1..1"), lines
     assert re.fullmatch(r"# 25 runs in \d+ s, [\d.]+ a second; 0 failures", lines[2])
     assert sorted(os.listdir(tmp_path)) == ["fuzz"] and os.listdir(tmp_path / "fuzz") == ["state"]
+
+
+# ------ what goes wild is ended, and what can't be done is told
+
+# Runs a command once, before a packet: how it has ended, the beginning and the end of what it wrote, and how much of that is kept.
+ONE = """
+import sys
+sys.path.insert(0, sys.argv[1])
+from dvbemu.build import build_preload, built_server
+from dvbemu.fuzz.run import Limits, Plan, Runner
+from dvbemu.stream.packets import NULL_PACKET
+build_preload()
+runner = Runner(Plan(sys.argv[4:], 3000, Limits(float(sys.argv[2]), int(sys.argv[3])), server=built_server()), 1)
+ran = runner.one(NULL_PACKET)
+print(ran.kind(runner.plan), ran.ended.number, len(ran.output), ran.output[:40].decode(), ran.output[-40:].decode())
+"""
+WILD = "trap '' TERM INT; (setsid sh -c \"trap '' TERM; sleep 4321\" &); head -c 1000000000 /dev/zero; echo end; kill -SEGV $$"
+ENDS_BY = {
+    "exit 3": " 3 0  ", "kill -SEGV $$": "SIGSEGV 11 0  ", "sh -c 'kill -ABRT $$'; exit $?": "SIGABRT 134 8 Aborted\n Aborted\n",
+    "echo 'x.c:1:2: runtime error: shift'; exit 0": "reported: x.c:1:2: runtime error: shift 0 30 x.c:1:2: runtime error: shift\n x.c:1:2: runtime error: shift\n",
+    "ulimit -c; ulimit -n; ulimit -f": " 0 14 0\n1024\n524288\n 0\n1024\n524288\n", "exec cat": " 0 0  ",
+}  # fmt: skip
+
+
+@pytest.fixture
+def one(room, server):
+    """How a shell's script ends before a stream of nothing, within these limits; and those of its processes that are left."""
+
+    def run(script, seconds=20, memory=1 << 30):
+        words = [sys.executable, "-B", "-c", ONE, str(ROOT / "python" / "src"), str(seconds), str(memory), "/bin/sh", "-c", script]
+        ran = subprocess.run(words, cwd=room.folder, capture_output=True, text=True, check=False, env={**os.environ, "FUZZ_MARK": str(room.folder)})
+        assert ran.returncode == 0, ran.stderr
+        return ran.stdout[:-1], marked(room.folder)
+
+    return run
+
+
+def marked(folder):
+    """The processes that have a mark in their environment, but for this one."""
+    found = []
+    for number in filter(str.isdecimal, os.listdir("/proc")):
+        try:
+            with open(f"/proc/{number}/environ", "rb") as file:
+                found += [number] if f"FUZZ_MARK={folder}\0".encode() in file.read() else []
+        except OSError:
+            pass
+    return found
+
+
+@pytest.mark.parametrize("script", ENDS_BY, ids=range(len(ENDS_BY)))
+def test_how_it_ends(one, script):
+    """Signals, also through a shell, what a sanitizer says, and the limits that a program has; standard input is empty."""
+    assert one(script) == (ENDS_BY[script], [])
+
+
+def test_wild(one):
+    """A program that writes a gigabyte, passes over signals and leaves others behind: 64 KiB are kept, and nothing is left running."""
+    told, left = one(WILD, 120)
+    zero = "\0"
+    assert told == f"SIGSEGV 11 65536 {zero * 40} {zero * 36}end\n" and left == []
+
+
+def test_memory_and_processes(one):
+    assert one("exec tail /dev/zero", 60, 100 << 20)[0].startswith("memory 0 ")
+    told, left = one("for i in $(seq 400); do sleep 4321 & done; wait", 60)
+    assert told.startswith("processes 0 ") and left == []
+
+
+def test_ctrl_c(tmp_path, planted):
+    """Ctrl-C: what was found till then is told, and nothing is left running."""
+    words = [PROGRAM, "fuzz", "--jobs", "2", "--packets", "3000", RECORDING, "--", planted]
+    mark = {**os.environ, "FUZZ_MARK": str(tmp_path)}
+    with subprocess.Popen(words, cwd=tmp_path, stdout=subprocess.PIPE, stderr=subprocess.PIPE, text=True, start_new_session=True, env=mark) as child:
+        assert child.stdout.readline().startswith("ok 1 - ")
+        time.sleep(0.3)
+        os.killpg(child.pid, signal.SIGINT)
+        out, told = child.communicate(timeout=60)
+    assert child.returncode == -signal.SIGINT and re.fullmatch(r"1..1\n# \d+ runs in .*; 0 failures\n", out) and told == ""
+    assert comes(lambda: not marked(tmp_path), 10)
+
+
+def test_full_disk(tmp_path, planted):
+    """What can't be written is told by its name."""
+    (tmp_path / "found").mkdir()
+    os.symlink("/dev/full", tmp_path / "found" / "state.part")
+    status, lines, told = fuzz(tmp_path, "--runs", "0", "--out", "found", RECORDING, command=[planted])
+    assert (status, lines[1], told) == (1, "1..1", "dvbemu fuzz: found/state: No space left on device\n")
+    assert os.listdir(tmp_path / "found") == []
+
+
+@pytest.mark.parametrize("words, status, told", [
+    (["no.such.ts", "--", "true"], 1, "dvbemu fuzz: no.such.ts: No such file or directory\n"), ([".", "--", "true"], 1, "dvbemu fuzz: . is a folder\n"),
+    ([RECORDING, "--", "no.such.command"], 127, "dvbemu fuzz: no.such.command: No such file or directory\n"),
+    (["/dev/null", "--", "true"], 1, "dvbemu fuzz: /dev/null: a file is wanted, as it is played often\n"),
+    (["--out", "/dev/null", RECORDING, "--", "true"], 1, "dvbemu fuzz: /dev/null: File exists\n"),
+])  # fmt: skip
+def test_not_there(tmp_path, server, words, status, told):
+    at = words.index("--")
+    assert fuzz(tmp_path, *words[:at], command=words[at + 1 :]) == (status, [], told)
+
+
+def test_not_well(tmp_path, server):
+    """A command that fails before the recording as it is."""
+    status, lines, told = fuzz(tmp_path, RECORDING, command=["/bin/sh", "-c", "echo here; kill -SEGV $$"])
+    assert (status, lines) == (1, []) and told == "dvbemu fuzz: before the recording as it is the command fails: SIGSEGV; it wrote: here\n"

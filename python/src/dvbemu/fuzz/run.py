@@ -5,6 +5,8 @@ processes is ended; where this process is killed, the clearing of `serve` ends i
 """
 from __future__ import annotations
 
+import contextlib
+import fcntl
 import json
 import math
 import os
@@ -32,8 +34,8 @@ if TYPE_CHECKING:
     from typing import Any, BinaryIO, Iterator, NoReturn, Sequence
 
 # What is kept of the output, its beginning and its end; the bytes of a file that a program may write, the files and the processes that it may
-# have; the bytes of a file that is copied; the seconds of a pause, and those behind its limit in which a run has to be over.
-KEPT, FILES_OF, FILES, PROCESSES, COPIED, PAUSE, OVER = 32 << 10, 256 << 20, 1024, 256, 16 << 20, 0.02, 60
+# have; the bytes of a file that is copied, and of a pipe; the seconds of a pause, and those behind its limit in which a run has to be over.
+KEPT, FILES_OF, FILES, PROCESSES, COPIED, PIPE, PAUSE, OVER = 32 << 10, 256 << 20, 1024, 256, 16 << 20, 1 << 20, 0.02, 60
 # The signals by which a program is said to have crashed, also where a shell tells it as a status.
 CRASHES = {int(number) for number in (signal.SIGILL, signal.SIGTRAP, signal.SIGABRT, signal.SIGBUS, signal.SIGFPE, signal.SIGSEGV, signal.SIGSYS)}
 # The bytes of a loop: a short stream is played as so many of it.
@@ -169,14 +171,16 @@ class Output:
 
     def __init__(self) -> None:
         self.end, self.theirs = os.pipe()
+        with contextlib.suppress(OSError):
+            fcntl.fcntl(self.end, fcntl.F_SETPIPE_SZ, PIPE)
         self.first, self.last, self.is_over = b"", b"", False
 
     def take(self) -> None:
         """Takes what has come."""
-        data = os.read(self.end, 1 << 16)
+        data = os.read(self.end, PIPE)
         self.is_over = not data
         room = KEPT - len(self.first)
-        self.first, self.last = self.first + data[:room], (self.last + data[room:])[-KEPT:]
+        self.first, self.last = self.first + data[:room], (self.last + data[room:][-KEPT:])[-KEPT:]
 
 
 class Command:
@@ -229,10 +233,8 @@ class Command:
 
     def end(self, servers: set[int]) -> None:
         """Ends it with all that it has started, at once; then what it has written is whole."""
-        try:
+        with contextlib.suppress(OSError):
             os.killpg(self.pid, signal.SIGKILL)
-        except OSError:
-            pass
         end_all(lambda: still_there(servers), math.inf, lambda pid, _: os.kill(pid, signal.SIGKILL))
         while not self.output.is_over and select.select([self.output.end], [], [], 0)[0]:
             self.output.take()
