@@ -14,8 +14,7 @@ import subprocess
 from functools import lru_cache
 
 import pytest
-from checks import asked_of
-from conftest import PROGRAM
+from conftest import PROGRAM, asked_of
 from dvbemu import objects, reports
 from dvbemu.explain import played
 from dvbemu.explain.offered import Stream

@@ -1,4 +1,4 @@
-/* What one program does by itself, for serve/check: `cases +WORD ..`. */
+/* What one program does by itself, for tests/test_serve.py: `cases +WORD ..`. */
 #define _GNU_SOURCE
 #include <sys/select.h>
 

@@ -1,5 +1,5 @@
 /*
- * Own calls on an adapter, as serve/check has them: cases [NAME ..], cases -NAME .. for all others, each in a process of its own, several
+ * Own calls on an adapter, as tests/test_serve.py has them: cases [NAME ..], cases -NAME .. for all others, each in a process of its own, several
  * side by side; and cases +WORD [NUMBER], of here.c. The last line is `N passed, M failed`.
  */
 #define _GNU_SOURCE

@@ -1,4 +1,4 @@
-"""Sessions as rows: the files rows/NAME.rows, which examples/check runs over the program and compares.
+"""Sessions as rows: the files examples/rows/NAME.rows, which test_rows.py runs over the program and compares.
 
 A file has sessions, one behind the other. Empty lines, and lines that begin with `# `, are passed over.
 
@@ -29,7 +29,7 @@ from typing import NamedTuple
 
 from dvbemu import reports
 from oracle import judge, second
-from checks import asked_of
+from samples import asked_of
 
 BATCHES = "steps --batch 1", "steps --batch 3", "steps --batch 64"
 # The lines that expect something.
