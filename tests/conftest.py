@@ -19,7 +19,7 @@ from unittest import mock
 
 import pytest
 from packets import session_of
-from samples import BUILT, EXAMPLES, PROGRAM, ROOT, asked_of, changed_reports, example, examples
+from samples import EXAMPLES, PROGRAM, ROOT, examples
 from serving import Served
 
 # (the command line sets these for its process, which this one isn't)
@@ -81,10 +81,7 @@ def run_here(*argv: str, stdin: bytes | str = b"") -> Result:
     given.write(stdin.encode() if isinstance(stdin, str) else stdin)
     given.seek(0)
     with given, mock.patch.multiple(
-        sys,
-        argv=[],
-        stdin=io.TextIOWrapper(given, "utf-8"),
-        stdout=io.TextIOWrapper(out, "utf-8", "surrogateescape"),
+        sys, argv=[], stdin=io.TextIOWrapper(given, "utf-8"), stdout=io.TextIOWrapper(out, "utf-8", "surrogateescape"),
         stderr=io.TextIOWrapper(err, "utf-8", "backslashreplace", write_through=True),
     ):
         status = standard.status_of(command_line.teller_of(argv), command_line.main, *argv)

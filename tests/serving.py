@@ -1,7 +1,6 @@
 """Programs on a served adapter: a folder in which `dvbemu serve` runs them, and what is told of such a run."""
 from __future__ import annotations
 
-import os
 import re
 import subprocess
 from pathlib import Path
@@ -43,11 +42,6 @@ def without_moments(report: str) -> str:
 def packets_of(data: bytes) -> list[bytes]:
     """The packets of a recording, without what is left over."""
     return [data[at : at + PACKET] for at in range(0, len(data) - PACKET + 1, PACKET)]
-
-
-def pid_of(packet: bytes) -> int:
-    """The PID of a packet."""
-    return (packet[1] & 0x1F) << 8 | packet[2]
 
 
 def following(packets: list[bytes], loop: list[bytes], breaks: int = 0) -> int:

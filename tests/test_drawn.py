@@ -15,8 +15,8 @@ import subprocess
 from typing import NamedTuple
 
 import pytest
-from conftest import PROGRAM, ROOT, asked_of
 from oracle import changes, fuzz, judge, rules, second
+from samples import PROGRAM, ROOT, asked_of
 
 FIRST, COUNT = int(os.environ.get("DRAWN_FIRST", 1)), int(os.environ.get("DRAWN_COUNT", 500))
 FOUND, ENDS = ROOT / "tests" / "found", 120

@@ -17,10 +17,11 @@ import time
 import tty
 
 import pytest
-from conftest import BUILT, ENDS, PROGRAM, ROOT, asked_of, changed_reports, example
+from conftest import ENDS
 from dvbemu import Data, Passed, Report, TimedOut
 from dvbemu.stream.packets import NULL_PACKET, packet
 from oracle import judge
+from samples import BUILT, PROGRAM, ROOT, asked_of, changed_reports, example
 
 pytestmark = pytest.mark.usefixtures("program")
 ONE_TAP, WRONG = example("rules/one-tap"), next(case for case in changed_reports() if case[0] == "reports/polled-data")

@@ -6,7 +6,7 @@ import re
 
 import pytest
 import rows
-from conftest import BUILT, EXAMPLES, ROOT
+from samples import BUILT, EXAMPLES, ROOT
 
 COUNTS = {name: (int(sessions), int(expected)) for name, sessions, expected in re.findall(
     r"^(\w+): (\d+) sessions, (\d+) expectations$", (EXAMPLES / "rows" / "counts").read_text(), re.M)}  # fmt: skip

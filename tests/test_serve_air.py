@@ -174,15 +174,15 @@ def test_adapters(served, air):
 FORMS = {
     "m2ts": lambda packets: b"".join(b"\x12\x34\x56\x78" + packet for packet in packets),
     "rs": lambda packets: b"".join(packet + bytes(16) for packet in packets),
-    "ahead": lambda packets: bytes(77) + b"".join(packets),
-    "cut": lambda packets: b"".join(packets)[:-100],
-}
+    "ahead": lambda packets: bytes(77) + b"".join(packets), "cut": lambda packets: b"".join(packets)[:-100],
+}  # fmt: skip
 
 
 @pytest.mark.parametrize("name", FORMS)
-def test_forms(served, air, tuned, name):
+def test_forms(served, air, name):
     served.put(name, FORMS[name](packets_of(air[0].read_bytes())))
-    tuned(name, "474000000 Alpha Beta")
+    out, status = served.call([*NONE, name], [TUNER, "474000000"])
+    assert status == 0 and out.endswith("474000000 Alpha Beta\n"), out
 
 
 @pytest.mark.parametrize("words", [f"--packets {EACH_SECOND}", f"--rate {EACH_SECOND * PACKET * 8}"])
@@ -219,11 +219,9 @@ LEAP, OVER = 3 * TICKS, WRAP - SECONDS * TICKS // 2 - 1
 JOINS = {
     "two": (lambda data: Station(2, NAMES[1], HERTZ).stream(3 * SECONDS) + data, 4),
     "halves": (lambda data: data[len(data) // 376 * 188 :] + data[: len(data) // 376 * 188], 1),
-    "again": (lambda data: data * 3, 3),
-    "leap": (lambda data: leaping(data, 0, LEAP), 2.5),
-    "wrap": (lambda data: leaping(data, OVER, LEAP), 2.5),
-    "another clock": (lambda data: leaping(data, 0, LEAP, 0x80), 1),
-}
+    "again": (lambda data: data * 3, 3), "leap": (lambda data: leaping(data, 0, LEAP), 2.5),
+    "wrap": (lambda data: leaping(data, OVER, LEAP), 2.5), "another clock": (lambda data: leaping(data, 0, LEAP, 0x80), 1),
+}  # fmt: skip
 
 
 @pytest.mark.parametrize("name", JOINS)

@@ -11,7 +11,8 @@ import time
 import pytest
 from conftest import needs
 from dvbemu import Report
-from serving import PACKET, SERVED, following, packets_of, pid_of, ran
+from dvbemu.stream.packets import pid_of
+from serving import PACKET, SERVED, following, packets_of, ran
 from stations import EVENTS, HERTZ, NAMES, Station
 
 pytestmark = pytest.mark.alone

@@ -9,8 +9,8 @@ that of `run` judged.
 import subprocess
 
 import pytest
-from conftest import EXAMPLES, PROGRAM, asked_of, changed_reports, example, examples
 from oracle import judge, made, second
+from samples import EXAMPLES, PROGRAM, asked_of, changed_reports, example, examples
 
 pytestmark = pytest.mark.usefixtures("program")
 MANY_PACKETS, MANY_PIDS = 100_100, 8192

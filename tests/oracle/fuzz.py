@@ -102,15 +102,9 @@ def request(rng):
 
     filters = bytes(rng.choice([0, 0, 0x42, 0xFF]) if i % 16 < 2 else 0 for i in range(48))
     number, argument = rng.choice(
-        [
-            (0x6F29, b""),
-            (0x6F2A, b""),
-            (0x403C6F2B, pid + filters + pads + fields(rng.choice([0, 5, 100]), flags)),
-            (0x40146F2C, pid + pads + fields(rng.choice([0, 0, 1]), rng.choice([1, 2, 3, 3]), rng.choice([4, 4, 9, 20]), flags)),
-            (0x6F2D, fields(rng.choice([190, 1000, 8192, 16777216]))),
-            (0x40026F33, pid),
-            (0x40026F34, pid),
-        ]
+        [(0x6F29, b""), (0x6F2A, b""), (0x403C6F2B, pid + filters + pads + fields(rng.choice([0, 5, 100]), flags)),
+         (0x40146F2C, pid + pads + fields(rng.choice([0, 0, 1]), rng.choice([1, 2, 3, 3]), rng.choice([4, 4, 9, 20]), flags)),
+         (0x6F2D, fields(rng.choice([190, 1000, 8192, 16777216]))), (0x40026F33, pid), (0x40026F34, pid)]
     )
     return f"{number:08x} {argument.hex() or '-'}"
 
