@@ -5,7 +5,7 @@ with a change (oracle/changes.py), are then checked: `check` must answer as the 
 another, and the judge as is known of the report. And the oracle must have been written from the rules as they stand (oracle/rules.py).
 
 DRAWN_COUNT and DRAWN_FIRST in the environment say how many sessions, 500 without, and the number of the first. A session that differs is kept in
-tests/found, made small by hypothesis where that is installed.
+tests/found, made small.
 """
 from __future__ import annotations
 
@@ -44,7 +44,10 @@ def ended(status: int, output: bytes, lines: bytes) -> Ended:
 
 def ran(given: bytes, *words: str) -> Ended:
     """How the program ends over an input."""
-    done = subprocess.run([PROGRAM, *words], input=given, capture_output=True, check=False, timeout=ENDS)
+    try:
+        done = subprocess.run([PROGRAM, *words], input=given, capture_output=True, check=False, timeout=ENDS)
+    except subprocess.TimeoutExpired:
+        return Ended(-1, b"", b"no end")
     return ended(done.returncode, done.stdout, done.stderr)
 
 
@@ -107,25 +110,18 @@ def differs(session: tuple[bytes, int, int], number: int) -> str | None:
 
 
 def small(session: tuple[bytes, int, int], number: int) -> bytes:
-    """What a session that differs needs for that: some lines of its script, and some packets; all of it where hypothesis isn't installed."""
+    """What a session that differs needs for that: lines of its script, and packets, without those that can go, many at a time and then fewer."""
     data, batch, packet = session
-    try:
-        from hypothesis import errors, find, settings, strategies
-    except ImportError:
-        return data
     front, line, stream = data.partition(b"stream\n")
     pieces = [*front.splitlines(keepends=True), line, *(stream[at : at + packet] for at in range(0, len(stream), packet))]
-
-    def joined(kept: list[bool]) -> bytes:
-        return b"".join(piece for piece, is_kept in zip(pieces, kept) if is_kept or piece is line)
-
-    # (`find` begins with any, so that all is what it falls back on)
-    each = strategies.one_of(strategies.just([True] * len(pieces)), strategies.tuples(*[strategies.booleans()] * len(pieces)))
-    try:
-        asked = settings(max_examples=200, database=None, deadline=None, derandomize=True)
-        return joined(find(each, lambda kept: bool(differs((joined(kept), batch, packet), number)), settings=asked))
-    except errors.NoSuchExample:
-        return data
+    count = len(pieces) // 2
+    while count:
+        for at in reversed(range(0, len(pieces), count)):
+            fewer = pieces[:at] + pieces[at + count :]
+            if differs((b"".join(fewer), batch, packet), number):
+                pieces = fewer
+        count //= 2
+    return b"".join(pieces)
 
 
 @pytest.mark.parametrize("seed", range(FIRST, FIRST + COUNT))
