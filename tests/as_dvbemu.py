@@ -1,5 +1,6 @@
 #!/usr/bin/env -S sh -c 'exec "${0%/*}/python" "$0" "$@"'
-"""What dvbemu does with the words `steps` or `check`, options and files, by the second program and the judge; the tools are those of dvbemu."""
+"""What dvbemu does with the words `steps` or `check`, options and files, by the second program and the judge; the tools are those
+of dvbemu."""
 import sys
 
 from dvbemu import cli, inputs

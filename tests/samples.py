@@ -21,7 +21,8 @@ def examples(ending: str) -> list[str]:
 
 
 class Example(NamedTuple):
-    """A session of examples/, with the words of its command line and the report that it must give; its batch, and what a packet takes up."""
+    """A session of examples/, with the words of its command line and the report that it must give; its batch, and what a packet
+    takes up."""
 
     words: list[str]
     session: bytes
@@ -39,7 +40,7 @@ def example(name: str) -> Example:
 
 
 def changed_reports() -> Iterator[tuple[str, bytes, bytes]]:
-    """The reports of examples/ that are changed: the name of each, as `reports/polled-data`, its bytes, and those of its session, whose
-    name is the part in front of the first `-`."""
+    """The reports of examples/ that are changed: the name of each, as `reports/polled-data`, its bytes, and those of its session,
+    whose name is the part in front of the first `-`."""
     for name in examples(".changed"):
         yield name, (EXAMPLES / f"{name}.changed").read_bytes(), (EXAMPLES / f"{name.partition('-')[0]}.session").read_bytes()

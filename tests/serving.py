@@ -12,7 +12,8 @@ from samples import BUILT, PROGRAM, ROOT, asked_of
 SERVE, SERVED = str(ROOT / "dvbemu-serve"), ROOT / "tests" / "served"
 TUNER, BAD = str(SERVED / "tuner.py"), str(SERVED / "bad.py")
 PACKET, BATCH = 188, 64
-# The packets a second; the seconds that a run may take; and the bytes of a session up to which it is done again: the second program is slow.
+# The packets a second; the seconds that a run may take; and the bytes of a session up to which it is done again: the second
+# program is slow.
 RATE, SLOW, MOST, AGAIN = "1500", "200", 300, 300_000
 DEMUX = "/dev/dvb/adapter0/demux0"
 HINTS = re.compile(r"^dvbemu serve: (started by root: |no program opened the adapter; ).*\n", re.M)
@@ -61,7 +62,8 @@ def following(packets: list[bytes], loop: list[bytes], breaks: int = 0) -> int:
 
 
 class Served:
-    """A folder for the runs of a test, over a stream; `cases` is the program of preload/cases, and a run writes the file `report`."""
+    """A folder for the runs of a test, over a stream; `cases` is the program of preload/cases, and a run writes the file
+    `report`."""
 
     def __init__(self, folder: str, stream: Path, cases: str) -> None:
         self.folder, self.stream, self.cases = Path(folder), stream, cases
@@ -81,14 +83,14 @@ class Served:
         return self.path(name).read_bytes() if self.path(name).exists() else b""
 
     def call(self, words, command, before=(), serve=(SERVE,), **more) -> tuple[str, int]:
-        """What `dvbemu serve` writes with these words and a command, but for its lines on root and on an adapter that nobody opens; and its
-        status. `before` are words in front of its own."""
+        """What `dvbemu serve` writes with these words and a command, but for its lines on root and on an adapter that nobody
+        opens; and its status. `before` are words in front of its own."""
         done = ran([*before, *serve, *words, "--", *command], cwd=self.folder, **more)
         return HINTS.sub("", done.stdout), done.returncode
 
     def run(self, *command, seats="8", rate=RATE, keep=None, air=None, before=()) -> tuple[str, int]:
-        """The same over the stream, or over what is said, of which then is kept what was played. The calls are kept as is said, or else all,
-        and the report is written."""
+        """The same over the stream, or over what is said, of which then is kept what was played. The calls are kept as is said,
+        or else all, and the report is written."""
         kept = ["--keep", keep] if keep else ["--report", self.report]
         feed = ["--packets", rate, self.stream] if air is None else ["--played", self.path("played"), *air]
         return self.call(["--seats", seats, *kept, *feed], command, before)
@@ -108,8 +110,8 @@ class Served:
         return self.passed("sh", "-c", text, self.cases, *words, **more)
 
     def is_right(self, report=None, stream=None) -> None:
-        """Sees that a report is that of a run of the session that it tells of: by the judge and by `check`, and by the second program where
-        the session is short and all of its calls can be put into an order."""
+        """Sees that a report is that of a run of the session that it tells of: by the judge and by `check`, and by the second
+        program where the session is short and all of its calls can be put into an order."""
         files = report or self.report, stream or self.stream
         session, told = (subprocess.run([PROGRAM, "session", *words, *files], capture_output=True, check=False) for words in ([], ["--report"]))
         assert (session.returncode, told.returncode) == (0, 0), session.stderr + told.stderr

@@ -1,10 +1,10 @@
 """Each place that the documents name: docs/*.md and the other pages of the repository, and the pages of the crates.
 
-A place stands between backticks: `CRATE/PATH#WORD`, a path in the folder of a crate, or a file alone, `CRATE/must-fail/NAME.edit`,
-`CRATE/wrong-bodies/NAME.edit` or one of the folders beside crates/, as `examples/...`. The file has to be there, and the word has to
-stand in it, not as a part of a longer word; of a file of rows it is the title of a session, or what titles begin with. On a crate's
-page a path, between backticks or not, is one of its own folder, and a name between backticks has to stand in its src/ or specs/ beside
-the page.
+A place stands between backticks: `CRATE/PATH#WORD`, a path in the folder of a crate, or a file alone,
+`CRATE/must-fail/NAME.edit`, `CRATE/wrong-bodies/NAME.edit` or one of the folders beside crates/, as `examples/...`. The file has
+to be there, and the word has to stand in it, not as a part of a longer word; of a file of rows it is the title of a session, or
+what titles begin with. On a crate's page a path, between backticks or not, is one of its own folder, and a name between backticks
+has to stand in its src/ or specs/ beside the page.
 """
 import glob
 import os
@@ -145,8 +145,8 @@ def test_page(tried, crate):
 
 
 def definition_rows():
-    """The rows of the tables of docs/DEFINITIONS.md: the files of specs/ and the words. A file without a crate is of the one before it, or
-    of the crate in the heading."""
+    """The rows of the tables of docs/DEFINITIONS.md: the files of specs/ and the words. A file without a crate is of the one
+    before it, or of the crate in the heading."""
     for part in text_of("docs/DEFINITIONS.md").split("\n## ")[1:]:
         heading, *lines = part.split("\n")
         first = re.search(r"`(\w+)`", heading)
@@ -197,7 +197,8 @@ def words_in(path, module, part):
 
 @pytest.mark.parametrize("path", sorted(path.relative_to(ROOT / "crates").as_posix() for path in ROOT.glob("crates/*/*/Imports.antt")))
 def test_imports(path):
-    """A crate's proofs/Imports.antt has the words of others that its proofs use, its specs/Imports.antt those that the crate uses, and each once."""
+    """A crate's proofs/Imports.antt has the words of others that its proofs use, its specs/Imports.antt those that the crate
+    uses, and each once."""
     crate, kind, _ = path.split("/")
     files = files_of(crate, *(["proofs"] if kind == "proofs" else ["specs", "src", "proofs"]))
     used = {word for file in files for word in words_in(file, rf"Rattle\.{crate}\.{kind}\.Imports", 0)}

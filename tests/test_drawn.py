@@ -1,11 +1,12 @@
 """The program over drawn sessions (oracle/fuzz.py), compared with the oracle, which knows only the rules of docs/BEHAVIOUR.md.
 
-Each report of `steps`, or the line of a script's fault, must be that of the second program; each report of `run` is judged. Both reports, and one of them
-with a change (oracle/changes.py), are then checked: `check` must answer as the judge does, with the same line where the text is no report or its head is
-another, and the judge as is known of the report. And the oracle must have been written from the rules as they stand (oracle/rules.py).
+Each report of `steps`, or the line of a script's fault, must be that of the second program; each report of `run` is judged. Both
+reports, and one of them with a change (oracle/changes.py), are then checked: `check` must answer as the judge does, with the same
+line where the text is no report or its head is another, and the judge as is known of the report. And the oracle must have been
+written from the rules as they stand (oracle/rules.py).
 
-DRAWN_COUNT and DRAWN_FIRST in the environment say how many sessions, 500 without, and the number of the first. A session that differs is kept in
-tests/found, made small.
+DRAWN_COUNT and DRAWN_FIRST in the environment say how many sessions, 500 without, and the number of the first. A session that
+differs is kept in tests/found, made small.
 """
 from __future__ import annotations
 
@@ -21,8 +22,8 @@ from samples import PROGRAM, ROOT, asked_of
 FIRST, COUNT = int(os.environ.get("DRAWN_FIRST", 1)), int(os.environ.get("DRAWN_COUNT", 500))
 FOUND, ENDS = ROOT / "tests" / "found", 120
 NAMED, SECTIONS = rules.named(), rules.sections()
-# The lines of `check` where a report is wrong, and the kinds of which the judge has to tell the same line: of the others it may tell
-# another first, as it goes through all of a report.
+# The lines of `check` where a report is wrong, and the kinds of which the judge has to tell the same line: of the others it may
+# tell another first, as it goes through all of a report.
 NO = re.compile(rf"(dvbemu: report line [1-9][0-9]*: ({'|'.join(judge.KINDS)})\n)(expected [ -~]+\n)?".encode())
 SAME = b"text", b"head"
 
@@ -90,8 +91,8 @@ def check_differs(text: bytes, packet: int, words: list[str], right: bool | None
 
 
 def differs(session: tuple[bytes, int, int], number: int) -> str | None:
-    """What differs in a session, if something does; of check over both reports, one of them changed, or over none where the script has a fault. The
-    number says how options are written, and which change is made."""
+    """What differs in a session, if something does; of check over both reports, one of them changed, or over none where the
+    script has a fault. The number says how options are written, and which change is made."""
     data, batch, packet = session
     words, wanted = options(number, packet, batch), wanted_of(session)
     if (found := ran(data, "steps", *words))[:3] != wanted[:3]:
@@ -110,7 +111,8 @@ def differs(session: tuple[bytes, int, int], number: int) -> str | None:
 
 
 def small(session: tuple[bytes, int, int], number: int) -> bytes:
-    """What a session that differs needs for that: lines of its script, and packets, without those that can go, many at a time and then fewer."""
+    """What a session that differs needs for that: lines of its script, and packets, without those that can go, many at a time and
+    then fewer."""
     data, batch, packet = session
     front, line, stream = data.partition(b"stream\n")
     pieces = [*front.splitlines(keepends=True), line, *(stream[at : at + packet] for at in range(0, len(stream), packet))]

@@ -1,8 +1,9 @@
-"""The proved program where its ends fail, take less than is offered, or memory is refused; where it is asked wrongly; and against the machine's clock,
-also as a client that waits.
+"""The proved program where its ends fail, take less than is offered, or memory is refused; where it is asked wrongly; and against
+the machine's clock, also as a client that waits.
 
-Each case says which exit status, which line on standard error and which output the rules of docs/BEHAVIOUR.md give. A small library in C, faults.c,
-refuses allocations one after another, and has calls interrupted, take few bytes or fail: each of these runs is counted.
+Each case says which exit status, which line on standard error and which output the rules of docs/BEHAVIOUR.md give. A small
+library in C, faults.c, refuses allocations one after another, and has calls interrupted, take few bytes or fail: each of these
+runs is counted.
 """
 from __future__ import annotations
 
@@ -33,10 +34,11 @@ GIVEN = {"steps": ONE_TAP.session, "run": ONE_TAP.session, "check": RIGHT}
 READ, WRITE, MEMORY = (5, "dvbemu: read failed"), (6, "dvbemu: write failed"), (7, "dvbemu: out of memory")
 # The most bytes of a read and of a write, and what stands behind as many in a message that is read.
 PIECE, BEHIND = 65536, b"#" * 100
-# So many reads of PIECE bytes have room for 312 MiB together, and find a section of eight bytes each; and the memory that they may take.
+# So many reads of PIECE bytes have room for 312 MiB together, and find a section of eight bytes each; and the memory that they
+# may take.
 READS, MOST_MEMORY, SECTION = 5000, 128 << 20, bytes.fromhex("4270050000000000")
-# All that a program allocates is written to, so that it takes memory: by the C library, or by the sanitizer, which keeps little of what
-# is given back.
+# All that a program allocates is written to, so that it takes memory: by the C library, or by the sanitizer, which keeps little
+# of what is given back.
 FILLED = {"MALLOC_PERTURB_": "165", "ASAN_OPTIONS": f"max_malloc_fill_size={PIECE}:quarantine_size_mb=1"}
 
 
@@ -99,8 +101,8 @@ def test_little_at_a_time(words, given, output):
 
 
 def test_piece_by_piece(large):
-    """Reads and writes of at most 65,536 bytes, between sockets that keep messages apart: what a read doesn't ask for of a message is lost, so it asks
-    for no less and no more, and each write is a message."""
+    """Reads and writes of at most 65,536 bytes, between sockets that keep messages apart: what a read doesn't ask for of a
+    message is lost, so it asks for no less and no more, and each write is a message."""
     (given, read), (written, taken) = (socket.socketpair(socket.AF_UNIX, socket.SOCK_SEQPACKET) for _ in range(2))
     with subprocess.Popen([PROGRAM, "steps"], stdin=read, stdout=written, stderr=subprocess.PIPE) as child:
         read.close()
@@ -148,7 +150,8 @@ def test_room_is_given_back(tmp_path):
     (ONE_TAP.words, ONE_TAP.session, ONE_TAP.report.removesuffix(b"end\n") + b"fault read\n"), (["check"], RIGHT, b""),
 ])  # fmt: skip
 def test_terminal_that_goes(words, given, output):
-    """Its reads give the bytes that were written to it, and then fail: the stream ends where it stands, and so does a session that is checked."""
+    """Its reads give the bytes that were written to it, and then fail: the stream ends where it stands, and so does a session
+    that is checked."""
     terminal, line = os.openpty()
     tty.setraw(line)
     os.write(line, given)
@@ -162,8 +165,8 @@ def test_terminal_that_goes(words, given, output):
 
 # A session whose client waits for a section with a timeout of 200 milliseconds.
 TIMED = b"c0 open n0\nc0 section n0 0 200 0\nc0 start n0\nc0 readw n0 4096\nstream\n"
-# How many packets come, each so many seconds behind the one before. A rest lasts a second where nobody ends it, so half of the reads
-# that nothing wakes come about half a second late; the bound is in milliseconds.
+# How many packets come, each so many seconds behind the one before. A rest lasts a second where nobody ends it, so half of the
+# reads that nothing wakes come about half a second late; the bound is in milliseconds.
 COUNT, PAUSE, LATE = 30, 0.05, 250
 # For how many seconds nothing comes, and the most processor time that a client may take that waits so long.
 IDLE, MOST = 3, 0.15
@@ -173,7 +176,8 @@ WAITING = {"a demux node": TAPPED + b"c0 readw n1 188\nstream\n", "the dvr node"
 
 
 def take(child, piece):
-    """Writes a piece to a program and waits until it is taken. Gives the last time at which it wasn't, and one at which it was."""
+    """Writes a piece to a program and waits until it is taken. Gives the last time at which it wasn't, and one at which it
+    was."""
     left = bytearray(4)
     untaken = at = time.monotonic()
     last = at + ENDS
@@ -189,8 +193,8 @@ def take(child, piece):
 
 
 def test_timeout():
-    """A filter with a timeout of 200 milliseconds, over a pipe that is held open and gives a packet now and then. Its read is told so, and the next
-    packet but one isn't taken before 200 milliseconds are over: till then the next had not passed."""
+    """A filter with a timeout of 200 milliseconds, over a pipe that is held open and gives a packet now and then. Its read is
+    told so, and the next packet but one isn't taken before 200 milliseconds are over: till then the next had not passed."""
     with subprocess.Popen([PROGRAM, "run", "--batch", "1"], stdin=subprocess.PIPE, stdout=subprocess.PIPE, bufsize=0) as child:
         begun, _ = take(child, TIMED)
         taken = []
@@ -207,8 +211,8 @@ def test_timeout():
 
 
 def run_slowly(session, packets, pause, behind):
-    """A run whose packets come one by one and whose input ends some seconds behind them: its report, and the processor time that it
-    took. One that doesn't end is killed."""
+    """A run whose packets come one by one and whose input ends some seconds behind them: its report, and the processor time that
+    it took. One that doesn't end is killed."""
     with subprocess.Popen([BUILT, "run", "--batch", "1"], stdin=subprocess.PIPE, stdout=subprocess.PIPE, bufsize=0) as child:
         child.stdin.write(session)
         for one in packets:
@@ -225,7 +229,8 @@ def run_slowly(session, packets, pause, behind):
 
 
 def test_woken():
-    """Each packet is read soon behind its pass: of these times the middle one counts, as a loaded machine makes some of them long."""
+    """Each packet is read soon behind its pass: of these times the middle one counts, as a loaded machine makes some of them
+    long."""
     report, _ = run_slowly(TAPPED + COUNT * b"c0 readw n1 188\n" + b"stream\n", [packet(256, place) for place in range(COUNT)], PAUSE, 0)
     entries = Report.parse(report).node("n1").entries
     passed = [entry.call.arguments["at"] for entry in entries if entry.call.name == "pass"]
@@ -333,8 +338,8 @@ def library(compiled):
 
 @pytest.fixture(params=[(name, word) for name in REFUSED for word in ("as it says", "run", "check")], ids=" ".join)
 def attempt(request):
-    """The words of an example, of a run of its session by threads, or of a check of its report, with the input and a test of what is written: on one
-    thread the report is the example's, by threads its order is open, so it is judged."""
+    """The words of an example, of a run of its session by threads, or of a check of its report, with the input and a test of what
+    is written: on one thread the report is the example's, by threads its order is open, so it is judged."""
     name, word = request.param
     case = example(name)
     if word == "check":
@@ -374,7 +379,8 @@ def test_each_allocation_is_refused(attempt, library, tried):
 
 @pytest.mark.parametrize("more", [{"INTERRUPT": "1"}, {"SHORTEN": "1"}, {"SHORTEN": "1000"}])
 def test_calls_that_are_interrupted_or_short(attempt, library, more):
-    """A signal interrupts every other read and write: each is made again. Each takes few bytes of those that are offered. The report is the same."""
+    """A signal interrupts every other read and write: each is made again. Each takes few bytes of those that are offered. The
+    report is the same."""
     words, given, is_report = attempt
     child = ran(words, BUILT, input=given, env={**library, **more})
     assert (child.returncode, child.stderr) == (0, b"") and is_report(child.stdout)
@@ -409,7 +415,8 @@ def test_each_call_of_check_fails(library, tried, output, given):
 
 @pytest.mark.parametrize("output, given", ASKED.items())
 def test_each_allocation_of_check_is_refused(library, tried, output, given):
-    """Want of memory and nothing written, or the answer, behind `no` without what was expected where there is no memory to write it."""
+    """Want of memory and nothing written, or the answer, behind `no` without what was expected where there is no memory to write
+    it."""
     whole = ran(["check"], BUILT, input=given).stderr
     for child in tried(run_each(["check"], given, "REFUSE", library)):
         if child.returncode == 0:

@@ -1,15 +1,18 @@
-"""Each command that README.md, examples/README.md and, in docs/, RECIPES.md, EVERYWHERE.md and JSON.md show writes what the page shows.
+"""Each command that README.md, examples/README.md and, in docs/, RECIPES.md, EVERYWHERE.md and JSON.md show writes what the page
+shows.
 
-On a page a block whose first line is ```NAME with .script, .py, .sh or .conf is a file of this name; a block ```sh is for a shell, and the
-block ```text behind it is what that writes, on standard output and standard error; without one it writes nothing there. In a
-block ```console WORD .. each line behind `$ ` is a command, and the lines up to the next one are what it writes; these are run
-where all programs WORD are there and the server is built. The commands of a page are run in their order, in one folder, where dvbemu
-and the repository's folders are. What ends in `..` is a line, or a part of one, that may go on in any way. A block without a name has no
-command, but on docs/EVERYWHERE.md those that need another machine, a whole gate or a package that is installed.
+On a page a block whose first line is ```NAME with .script, .py, .sh or .conf is a file of this name; a block ```sh is for a
+shell, and the block ```text behind it is what that writes, on standard output and standard error; without one it writes nothing
+there. In a block ```console WORD .. each line behind `$ ` is a command, and the lines up to the next one are what it writes;
+these are run where all programs WORD are there and the server is built. The commands of a page are run in their order, in one
+folder, where dvbemu and the repository's folders are. What ends in `..` is a line, or a part of one, that may go on in any way. A
+block without a name has no command, but on docs/EVERYWHERE.md those that need another machine, a whole gate or a package that is
+installed.
 
-Then the commands are run once more with the second program in the place of dvbemu's `steps`, and the judge in that of `check` (as_dvbemu.py): but for
-those that these can't do, `run`, `make`, `selftest`, `serve` and `test`, and for what comes on standard error (`2>&1`), which test_faults.py tries
-too. So no report on a page is dvbemu's alone. What the commands of README.md leave in the repository's folder is ignored by git (.gitignore).
+Then the commands are run once more with the second program in the place of dvbemu's `steps`, and the judge in that of `check`
+(as_dvbemu.py): but for those that these can't do, `run`, `make`, `selftest`, `serve` and `test`, and for what comes on standard
+error (`2>&1`), which test_faults.py tries too. So no report on a page is dvbemu's alone. What the commands of README.md leave in
+the repository's folder is ignored by git (.gitignore).
 """
 import os
 import re
@@ -77,8 +80,8 @@ def dvbemu(request, program):
 
 @pytest.fixture
 def folder(tmp_path, page, dvbemu):
-    """The folder in which the commands of a page are run: dvbemu, the repository's folders and the files of the page. No other file of the
-    repository's top is there, so that none is written over."""
+    """The folder in which the commands of a page are run: dvbemu, the repository's folders and the files of the page. No other
+    file of the repository's top is there, so that none is written over."""
     for name in set(os.listdir(ROOT)) - IGNORED:
         if (ROOT / name).is_dir():
             (tmp_path / name).symlink_to(ROOT / name)

@@ -1,6 +1,7 @@
-"""The sessions of examples/rows/NAME.rows (rows.py has their notation), run in batches of 1, 3 and 64 by the program as each of two compilers built it, and
-by the second program. examples/rows/counts says how many sessions and expectations each file has, so that none is lost; one that is left out is seen by
-that. Of the expectations a hundred, drawn by a number, are changed, one at a time, and each must be noticed."""
+"""The sessions of examples/rows/NAME.rows (rows.py has their notation), run in batches of 1, 3 and 64 by the program as each of
+two compilers built it, and by the second program. examples/rows/counts says how many sessions and expectations each file has, so
+that none is lost; one that is left out is seen by that. Of the expectations a hundred, drawn by a number, are changed, one at a
+time, and each must be noticed."""
 import random
 import re
 
@@ -12,7 +13,8 @@ COUNTS = {name: (int(sessions), int(expected)) for name, sessions, expected in r
     r"^(\w+): (\d+) sessions, (\d+) expectations$", (EXAMPLES / "rows" / "counts").read_text(), re.M)}  # fmt: skip
 TEXTS = {path.stem: path.read_text() for path in sorted((EXAMPLES / "rows").glob("*.rows"))}
 SESSIONS = {f"{name}:{session.title}": session for name, text in TEXTS.items() for session in rows.read_rows(text)}
-# By which number how many expectations are drawn; a session whose input is longer than this takes a program long, and it isn't drawn.
+# By which number how many expectations are drawn; a session whose input is longer than this takes a program long, and it isn't
+# drawn.
 SEED, DRAWN, LONGEST = 7, 100, 100_000
 # The program as LLVM and as Rattle's own compiler built it. `rt ci` builds both, the second alone `rt run --backend rattle`.
 PROGRAMS = {"llvm": BUILT, "rattle": BUILT.with_name("dvbemu.by-rattle")}

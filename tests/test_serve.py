@@ -1,6 +1,6 @@
-"""Own calls (preload/cases) on a served adapter, of each of which a kernel's answer is known: in processes of their own, in one, several at once,
-waiting and killed; calls that are written into a folder, and those that aren't kept; what lasts and what ends: a stream that is played once, files
-that can't be written or were there before, and many calls of a seat."""
+"""Own calls (preload/cases) on a served adapter, of each of which a kernel's answer is known: in processes of their own, in one,
+several at once, waiting and killed; calls that are written into a folder, and those that aren't kept; what lasts and what ends: a
+stream that is played once, files that can't be written or were there before, and many calls of a seat."""
 from __future__ import annotations
 
 import os
@@ -16,7 +16,8 @@ from serving import BAD, RATE, SERVE, SLOW, at_once, packets_of, passes, ran
 
 # Many packets a second, and how often is waited.
 FAST, TURNS = "50000", "1500"
-# How long programs wait for nothing, in seconds; which part of a processor eight of them may take; and how many runs are measured, at least and at most.
+# How long programs wait for nothing, in seconds; which part of a processor eight of them may take; and how many runs are
+# measured, at least and at most.
 WAIT, MOST_LOAD, RUNS = 5, 0.02, (2, 6)
 # The cases of which the report is looked at.
 TOLD = "sections", "doubled", "by_edge", "what_one_program_has_is_free", "killed_with_its_parents_device"
@@ -99,8 +100,9 @@ def processor_time(served, waits):
 
 @pytest.mark.alone
 def test_who_waits_takes_no_time(served):
-    """Eight programs that wait for what never comes make a call each, and take next to no time: of that of a run in which they wait, as long, the
-    time goes off of one in which they have come and gone. What else the machine does makes a run's time more and none less, so the least counts."""
+    """Eight programs that wait for what never comes make a call each, and take next to no time: of that of a run in which they
+    wait, as long, the time goes off of one in which they have come and gone. What else the machine does makes a run's time more
+    and none less, so the least counts."""
     idle, busy, more = [], [], WAIT
     while len(busy) < RUNS[0] or (len(busy) < RUNS[1] and more >= MOST_LOAD * WAIT):
         idle.append(processor_time(served, 0))
@@ -158,8 +160,8 @@ def test_full_played(served):
 
 
 def test_files_of_before(served):
-    """Files that stood in a folder before, and are longer than what is written, are emptied. The server is called itself, for the wrapper takes no
-    folder that isn't empty; it has no program, since its door is a file without a name."""
+    """Files that stood in a folder before, and are longer than what is written, are emptied. The server is called itself, for the
+    wrapper takes no folder that isn't empty; it has no program, since its door is a file without a name."""
     names = "1.calls", "batches", "head"
     for folder in "adapter", "old":
         served.path(folder).mkdir()

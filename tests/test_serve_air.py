@@ -1,5 +1,5 @@
-"""What is on the air: channels, delivery systems, adapters, recordings as they are and their clocks, what is wrong with words and places, where reports
-go, and what a wrapper that is killed leaves."""
+"""What is on the air: channels, delivery systems, adapters, recordings as they are and their clocks, what is wrong with words and
+places, where reports go, and what a wrapper that is killed leaves."""
 from __future__ import annotations
 
 import os
@@ -36,7 +36,8 @@ begin("serve", *sys.argv[1:])
 
 @pytest.fixture(scope="module")
 def air(tmp_path_factory):
-    """The streams of three stations, each of which names the frequencies of all: the paths of Alpha.ts, Gamma.ts and Epsilon.ts."""
+    """The streams of three stations, each of which names the frequencies of all: the paths of Alpha.ts, Gamma.ts and
+    Epsilon.ts."""
     folder = tmp_path_factory.mktemp("air")
     for number, names in enumerate(NAMES, 1):
         (folder / f"{names[0]}.ts").write_bytes(Station(number, names, HERTZ).stream(SECONDS))
@@ -45,8 +46,8 @@ def air(tmp_path_factory):
 
 @pytest.fixture
 def tuned(served, air):
-    """Tunes over what is on the air, where {0}, {1} and {2} are the streams; what the tuner tells must be these lines, which begin with its words.
-    Those of `cable` tell nothing."""
+    """Tunes over what is on the air, where {0}, {1} and {2} are the streams; what the tuner tells must be these lines, which
+    begin with its words. Those of `cable` tell nothing."""
 
     def tunes(words, lines, **more):
         told = lines.replace("; ", "\n").splitlines()
@@ -82,8 +83,8 @@ def test_channels(served, air):
 
 
 def passes_alone(data, lines, places):
-    """Behind each tuning that finds another stream, which these lines of a file of tunings tell, what was played is that stream alone from its
-    beginning, or nothing; and it goes on where the same is tuned to again."""
+    """Behind each tuning that finds another stream, which these lines of a file of tunings tell, what was played is that stream
+    alone from its beginning, or nothing; and it goes on where the same is tuned to again."""
     before, begin = None, 0
     for line, at, end in zip(lines, places, [*places[1:], len(data) // PACKET]):
         what = line.rsplit(" ", 1)[1]
@@ -93,8 +94,9 @@ def passes_alone(data, lines, places):
         assert bool(passed) == bool(own) and passed[:both] == own[:both], line
 
 
-# What is on the air, and what is heard where. 11,362 MHz is 1,612 MHz behind a converter's lower oscillator, and 12,188 MHz 1,588 MHz behind its upper
-# one. What a card puts on its cable stays behind DTV_CLEAR. What is refused is what a kernel's dvb_frontend_check_parameters refuses.
+# What is on the air, and what is heard where. 11,362 MHz is 1,612 MHz behind a converter's lower oscillator, and 12,188 MHz 1,588
+# MHz behind its upper one. What a card puts on its cable stays behind DTV_CLEAR. What is refused is what a kernel's
+# dvb_frontend_check_parameters refuses.
 SATELLITES = "--tune 11362000:DVBS2:H={0} 12188000:DVBS:V={1}"
 SYSTEMS = {
     "DVB-T and DVB-T2, of which a recording is the stream 0": ("--tune 474000000:DVB-T2={0} 482000000:DVBT={1}",
@@ -226,8 +228,8 @@ JOINS = {
 
 @pytest.mark.parametrize("name", JOINS)
 def test_clocks(tmp_path, air, name):
-    """A clock is followed PCR by PCR: also where recordings are joined, their halves exchanged, or it goes round, where a long step comes over 2^33,
-    and where another clock begins, as a discontinuity_indicator says."""
+    """A clock is followed PCR by PCR: also where recordings are joined, their halves exchanged, or it goes round, where a long
+    step comes over 2^33, and where another clock begins, as a discontinuity_indicator says."""
     make, count = JOINS[name]
     (tmp_path / "joined").write_bytes(make(air[0].read_bytes()))
     assert abs(Recording(str(tmp_path / "joined")).length() - count * SECONDS) < 0.1
@@ -264,7 +266,8 @@ def faulty(served, air):
     ("--report both --played both Alpha.ts", "both is written already"), ("Alpha.ts", "dvbemu.report is no report"), ("--keep none Alpha.ts", "built\n"),
 ])  # fmt: skip
 def test_faults(faulty, words, told):
-    """What is wrong with the words, the stream or the place of what is written is told before anything is built, and nothing is lost."""
+    """What is wrong with the words, the stream or the place of what is written is told before anything is built, and nothing is
+    lost."""
 
     def sizes():
         return {(path.name, path.stat().st_size) for path in faulty.folder.iterdir()}
@@ -341,7 +344,8 @@ def place():
 
 
 def test_killed(served, place):
-    """Where the wrapper is killed its server ends, programs that wait are told, those that don't end are ended, and its folder goes."""
+    """Where the wrapper is killed its server ends, programs that wait are told, those that don't end are ended, and its folder
+    goes."""
     script = 'ls -d "$TMPDIR"/dvbemu-*/ > folder; "$0" hold > held; trap \'\' TERM; sleep 600 & echo $! > other; wait; exec sleep 600'
     words = [SERVE, *PACED, served.stream, "--", "sh", "-c", script, TUNER]
     with subprocess.Popen(words, cwd=served.folder, env={**os.environ, "TMPDIR": place}, start_new_session=True) as child:

@@ -1,5 +1,5 @@
-"""Programs that ask a server badly (served/bad.py), alone and beside others: each gets its answers, no other is harmed, the server ends, and nobody
-else's file, folder or process is touched."""
+"""Programs that ask a server badly (served/bad.py), alone and beside others: each gets its answers, no other is harmed, the
+server ends, and nobody else's file, folder or process is touched."""
 from __future__ import annotations
 
 import os
@@ -13,7 +13,8 @@ import pytest
 from dvbemu.server.adapters import MARK
 from serving import BAD, RATE
 
-# How often a program comes in beside a flood; in how many seconds a server ends behind what would keep it; and an age of folders in seconds.
+# How often a program comes in beside a flood; in how many seconds a server ends behind what would keep it; and an age of folders
+# in seconds.
 COMES, ENDS, OLD, NOBODY = 5, 20, 3600, 65534
 MINE = b"This is mine.\n" * 100
 
@@ -54,7 +55,8 @@ def test_names(served):
     (["knocks"], f"for i in $(seq {COMES}); do \"$0\" +beside || exit 1; done", COMES),
 ])  # fmt: skip
 def test_beside(served, kinds, script, count):
-    """A program that never reads, and one that is stopped within a request, harm no other; a flood of names holds up nobody else."""
+    """A program that never reads, and one that is stopped within a request, harm no other; a flood of names holds up nobody
+    else."""
     starts = "".join(f'"$1" {kind} > {kind} & until grep -q there {kind}; do sleep 0.1; done; ' for kind in kinds)
     served.by_script(starts + script, BAD, count=count, seats="3")
     served.is_right()
@@ -69,8 +71,9 @@ def test_emptied_folder(served):
 
 @pytest.fixture
 def others():
-    """A folder for temporary files in which stands, and is old, what isn't a wrapper's own: a file, a folder without what marks a wrapper's and one
-    with a file of the same name, one that is another user's where that can be, and a link to one; and the names of what must stay."""
+    """A folder for temporary files in which stands, and is old, what isn't a wrapper's own: a file, a folder without what marks a
+    wrapper's and one with a file of the same name, one that is another user's where that can be, and a link to one; and the names
+    of what must stay."""
     with tempfile.TemporaryDirectory() as place:
         # (one of root's that is closed to others isn't taken)
         os.chmod(place, 0o755)

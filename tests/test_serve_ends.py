@@ -1,4 +1,5 @@
-"""How a served command is begun and how it ends: on a terminal, without one, with little around it, in another; what won't have the preload, and seats."""
+"""How a served command is begun and how it ends: on a terminal, without one, with little around it, in another; what won't have
+the preload, and seats."""
 from __future__ import annotations
 
 import os

@@ -1,5 +1,5 @@
-"""The own calls where more is watched or less is there: under valgrind, by gcc's sanitizers, in namespaces of processes of their own, and behind
-preloads of others."""
+"""The own calls where more is watched or less is there: under valgrind, by gcc's sanitizers, in namespaces of processes of their
+own, and behind preloads of others."""
 from __future__ import annotations
 
 import os
@@ -11,8 +11,9 @@ from conftest import ROOT, needs
 from dvbemu.build import FLAGS, PARTS
 from serving import SERVED, SLOW, at_once, ran
 
-# What valgrind keeps for itself or does otherwise (vfork is a fork there), and pointers that are bad on purpose; what a sanitizer finds in Debian's
-# dd, and stacks that are too small for one; that a program that leaks is as ever; and that children are killed some times, which takes long here.
+# What valgrind keeps for itself or does otherwise (vfork is a fork there), and pointers that are bad on purpose; what a sanitizer
+# finds in Debian's dd, and stacks that are too small for one; that a program that leaks is as ever; and that children are killed
+# some times, which takes long here.
 NOT_BY_VALGRIND = ("-numbers_of_the_preload", "-few_descriptors", "-a_high_number", "-by_io_uring", "-by_vfork", "-bad_pointers",
                    "-another_process_sees_the_lock")  # fmt: skip
 NOT_OVER_SANITIZERS, SANITIZED, FEW = ("-by_the_shell", "-small_stacks"), "ASAN_OPTIONS=verify_asan_link_order=0:detect_leaks=0", "ROUNDS=10"

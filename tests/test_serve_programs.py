@@ -1,5 +1,5 @@
-"""Programs of others, those that are there, over a recording at each frequency, and over stations at theirs: what they find and record is compared with
-what is known of these. Those that take long are tried by `tests/run --all` alone."""
+"""Programs of others, those that are there, over a recording at each frequency, and over stations at theirs: what they find and
+record is compared with what is known of these. Those that take long are tried by `tests/run --all` alone."""
 from __future__ import annotations
 
 import os
@@ -45,7 +45,8 @@ adapter 0 {
 """
 # The services of the recording, as they are named there, and those of the stations.
 SERVICES, ALL = ("The test picture of lavfi", "The same tone of 440 hertz"), [name for names in NAMES for name in names]
-# The PIDs of a service; the least packets of a recording, and how many at its end follow one another as in the stream, where none were lost.
+# The PIDs of a service; the least packets of a recording, and how many at its end follow one another as in the stream, where none
+# were lost.
 PIDS, LEAST, FOLLOWING = {256, 257}, 100, 60
 # The bytes in front of the packets of a datagram.
 RTP = 12
@@ -180,8 +181,8 @@ def heard(served, air):
 
 
 def is_of_station(served, name, more=(), least=LEAST):
-    """A file's packets are of a service's PIDs, beside some others that a program adds or asks for, and those follow one another as in the first
-    station's stream, which goes round."""
+    """A file's packets are of a service's PIDs, beside some others that a program adds or asks for, and those follow one another
+    as in the first station's stream, which goes round."""
     packets, whole = packets_of(served.read(name)), packets_of(served.read("Alpha.ts"))
     assert len(packets) >= least and set(map(pid_of, packets)) <= PIDS | set(more)
     own, loop = ([one for one in some if pid_of(one) in PIDS] for some in (packets, whole))

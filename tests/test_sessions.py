@@ -1,10 +1,11 @@
-"""What the program writes for each session of examples/, which was worked out from the rules and not by the program: the second program works each of them
-out again, and must come to the same; `check` must find each report right, and answer over each NAME.changed what stands in NAME.answer, first the
-output and then the lines on standard error, and so must the judge, but for the second line of a text that is no report.
+"""What the program writes for each session of examples/, which was worked out from the rules and not by the program: the second
+program works each of them out again, and must come to the same; `check` must find each report right, and answer over each
+NAME.changed what stands in NAME.answer, first the output and then the lines on standard error, and so must the judge, but for the
+second line of a text that is no report.
 
-The sessions that `make` writes of some numbers are those of oracle/made.py, the line of `selftest 7` is that of made.sums, and that in batches of 1 what
-is counted here. Sessions of many packets, commands and calls are made here; the report of `steps` is counted or worked out by the second program, and
-that of `run` judged.
+The sessions that `make` writes of some numbers are those of oracle/made.py, the line of `selftest 7` is that of made.sums, and
+that in batches of 1 what is counted here. Sessions of many packets, commands and calls are made here; the report of `steps` is
+counted or worked out by the second program, and that of `run` judged.
 """
 import subprocess
 
@@ -14,7 +15,8 @@ from samples import EXAMPLES, PROGRAM, asked_of, changed_reports, example, examp
 
 pytestmark = pytest.mark.usefixtures("program")
 MANY_PACKETS, MANY_PIDS = 100_100, 8192
-# 100 commands of a client. The first 32 open the nodes, by 1 to 32 calls each; to each of the others all 32 are busy: 2,704 calls.
+# 100 commands of a client. The first 32 open the nodes, by 1 to 32 calls each; to each of the others all 32 are busy: 2,704
+# calls.
 MANY_CALLS = 100 * b"c0 open h0\n" + b"stream\n"
 # 25,000 commands of a client, each of one call.
 MANY_COMMANDS = b"c0 open n0\n" + 24_999 * b"c0 poll n0\n" + b"stream\n"
@@ -90,9 +92,9 @@ def test_report_of_a_made_session():
 
 
 def counted_sums(batch):
-    """The line of `selftest 7` in batches of this size, counted by the packets of each PID. Client 0 reads once a section, once more
-    for each batch and for the end, and once at the end; so the whole stream has passed before another client reads. Each entry of
-    the feeder counts on all 33 nodes."""
+    """The line of `selftest 7` in batches of this size, counted by the packets of each PID. Client 0 reads once a section, once
+    more for each batch and for the end, and once at the end; so the whole stream has passed before another client reads. Each
+    entry of the feeder counts on all 33 nodes."""
     pids = [made.PIDS[word % 16] for _, word in zip(range(made.PACKETS), made.words(7, 54))]
     of = {pid: pids.count(pid) for pid in made.PIDS}
     events = -(-made.PACKETS // batch) + 1
@@ -112,8 +114,8 @@ def test_sums():
 
 
 def many_packets(nodes, batch, most=MANY_PACKETS):
-    """A session of many packets of each PID in turn, whose one client opens so many nodes: its bytes, and the report of `steps` in batches
-    of this size, which is counted."""
+    """A session of many packets of each PID in turn, whose one client opens so many nodes: its bytes, and the report of `steps`
+    in batches of this size, which is counted."""
     numbers = [(place % MANY_PIDS, place // MANY_PIDS % 16) for place in range(most)]
     packets = b"".join(bytes([0x47, pid >> 8, pid & 0xFF, 0x10 | counter]) + 184 * b"\0" for pid, counter in numbers)
     each = [len(range(pid, most, MANY_PIDS)) for pid in range(MANY_PIDS)]

@@ -43,7 +43,8 @@ class Entry(NamedTuple):
 
 
 class Report(NamedTuple):
-    """A report: the cutting of the stream, the rows of its PIDs, the outcomes of each client, the entries of each node, and the last line."""
+    """A report: the cutting of the stream, the rows of its PIDs, the outcomes of each client, the entries of each node, and the
+    last line."""
 
     head: dict
     pids: list

@@ -3,9 +3,9 @@
 
     rules.py --accept    writes the checksums anew
 
-Above the code for a section of docs/BEHAVIOUR.md or docs/MADE.md these programs have a line `# RULES: CHECKSUM HEADING`. The checksum is that of
-the section's text without the lines that say where a rule stands, however the text is wrapped. Where a section has changed, read it, follow it in
-the code under that line, and then accept it.
+Above the code for a section of docs/BEHAVIOUR.md or docs/MADE.md these programs have a line `# RULES: CHECKSUM HEADING`. The
+checksum is that of the section's text without the lines that say where a rule stands, however the text is wrapped. Where a
+section has changed, read it, follow it in the code under that line, and then accept it.
 """
 import hashlib
 import re
