@@ -205,8 +205,9 @@ def files_room(tmp_path_factory: pytest.TempPathFactory) -> Room:
     made.write({
         "session": session, "report": report, "stream": stream, "script": b"c0 open n0\nstream\n", "a.session": b"stream\n",
         "wrong": report.replace(b"data 00b0", b"data 00b1", 1), "random": random.Random(7).randbytes(100_000),
-        "big": session + 200 * stream, "served": SERVED.read_bytes(), "recording": (EXAMPLES / "programs" / "scan.ts").read_bytes(),
-        "tests/a.session": b"stream\n", "tests/a.report": EMPTY, "kept/head": EMPTY, "kept/batches": b"",
+        "big": session + 200 * stream, "served": SERVED.read_bytes(),
+        "recording": (EXAMPLES / "programs" / "scan.ts").read_bytes(), "tests/a.session": b"stream\n", "tests/a.report": EMPTY,
+        "kept/head": EMPTY, "kept/batches": b"",
     })  # fmt: skip
     return made
 

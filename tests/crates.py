@@ -7,7 +7,8 @@ from samples import ROOT
 
 def crate_lines():
     """The crates, each with the libraries that it uses."""
-    return {name: used.split() for name, used in re.findall(r"^(\w+)[^:#\n]*:([^#\n]*)", (ROOT / "crates.txt").read_text(encoding="utf-8"), re.M)}
+    text = (ROOT / "crates.txt").read_text(encoding="utf-8")
+    return {name: used.split() for name, used in re.findall(r"^(\w+)[^:#\n]*:([^#\n]*)", text, re.M)}
 
 
 def page_of(crate):

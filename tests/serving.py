@@ -113,7 +113,8 @@ class Served:
         """Sees that a report is that of a run of the session that it tells of: by the judge and by `check`, and by the second
         program where the session is short and all of its calls can be put into an order."""
         files = report or self.report, stream or self.stream
-        session, told = (subprocess.run([PROGRAM, "session", *words, *files], capture_output=True, check=False) for words in ([], ["--report"]))
+        lines = [PROGRAM, "session", *files], [PROGRAM, "session", "--report", *files]
+        session, told = (subprocess.run(line, capture_output=True, check=False) for line in lines)
         assert (session.returncode, told.returncode) == (0, 0), session.stderr + told.stderr
         assert judge.judge(session.stdout, BATCH, told.stdout) is None
         if BUILT.exists():

@@ -17,7 +17,8 @@ from crates import crate_lines, page_of
 
 TOP = (".ci/", "bench/", "debian/", "docs/", "examples/", "packaging/", "preload/", "python/", "tests/")
 PLACE = re.compile(rf"([\w./-]+)#([^\s#]+)|\w+/(?:must-fail|wrong-bodies)/[\w./-]+\.edit|(?:{'|'.join(map(re.escape, TOP))})[\w./-]*")
-DOCUMENTS = sorted(path.relative_to(ROOT).as_posix() for pages in ("docs/*.md", "README.md", "CONTRIBUTING.md", "*/README.md") for path in ROOT.glob(pages))
+PAGES = "docs/*.md", "README.md", "CONTRIBUTING.md", "*/README.md"
+DOCUMENTS = sorted(path.relative_to(ROOT).as_posix() for pages in PAGES for path in ROOT.glob(pages))
 # Where a rule stands: the four lines under it, with what the places of each look like.
 STANDS = {"Defined": r"/specs/.*#", "Done by": r"/src/.*#", "Shown by": "", "Must fail": r"/(?:must-fail|wrong-bodies)/"}
 CRATES = crate_lines()
@@ -128,7 +129,8 @@ def fault_on_page(crate, span, text):
     """What is wrong with what a crate's page names, or None. A file of src/ may be named as it is from there."""
     named = [span] if PLACE.fullmatch(span) else []
     if named or re.fullmatch(r"\w+/[\w/.-]*", span):
-        return None if None in map(fault_of, (*named, f"{crate}/{span}", f"{crate}/src/{span}", f"{crate}/src/{span}.rt")) else "isn't there"
+        paths = *named, f"{crate}/{span}", f"{crate}/src/{span}", f"{crate}/src/{span}.rt"
+        return None if None in map(fault_of, paths) else "isn't there"
     words = span.split("::") if re.fullmatch(r"[A-Za-z]\w*(::\w+)*", span) else []
     missing = [word for word in words if word not in CRATES and not re.search(rf"(?<!\w){word}(?!\w)", text)]
     return "stands nowhere in its src/ and specs/" if missing else None
@@ -195,11 +197,11 @@ def words_in(path, module, part):
         yield from (word.strip().split(" as ")[part] for word in words.split(","))
 
 
-@pytest.mark.parametrize("path", sorted(path.relative_to(ROOT / "crates").as_posix() for path in ROOT.glob("crates/*/*/Imports.antt")))
+@pytest.mark.parametrize("path", sorted(str(path.relative_to(ROOT)) for path in ROOT.glob("crates/*/*/Imports.antt")))
 def test_imports(path):
     """A crate's proofs/Imports.antt has the words of others that its proofs use, its specs/Imports.antt those that the crate
     uses, and each once."""
-    crate, kind, _ = path.split("/")
+    _, crate, kind, _ = path.split("/")
     files = files_of(crate, *(["proofs"] if kind == "proofs" else ["specs", "src", "proofs"]))
     used = {word for file in files for word in words_in(file, rf"Rattle\.{crate}\.{kind}\.Imports", 0)}
-    assert sorted(words_in(f"crates/{path}", r"\S+?", -1)) == sorted(used)
+    assert sorted(words_in(path, r"\S+?", -1)) == sorted(used)

@@ -277,10 +277,11 @@ FAULTY = [
 ]  # fmt: skip
 # Inputs of `check` without a report in front.
 NO_NUMBER = [
-    b"", b"report 0", b"report\n", b"report \n", b"report 00\nstream\n", b"report -1\nstream\n", b"report +1\nstream\n", b"report 1 \nstream\n",
-    b"report 0\r\nstream\n", b" report 0\nstream\n", b"Report 0\nstream\n", b"report  0\nstream\n", b"report 0x10\nstream\n",
-    b"report 4294967296\nstream\n", b"report 18446744073709551616\nstream\n", b"report " + 33 * b"0" + b"\nstream\n", b"\nreport 0\nstream\n",
-    b"stream\n", b"dvbemu 1\npackets=0 skipped=0 rest=0\nend\nstream\n",
+    b"", b"report 0", b"report\n", b"report \n", b"report 00\nstream\n", b"report -1\nstream\n", b"report +1\nstream\n",
+    b"report 1 \nstream\n", b"report 0\r\nstream\n", b" report 0\nstream\n", b"Report 0\nstream\n", b"report  0\nstream\n",
+    b"report 0x10\nstream\n", b"report 4294967296\nstream\n", b"report 18446744073709551616\nstream\n",
+    b"report " + 33 * b"0" + b"\nstream\n", b"\nreport 0\nstream\n", b"stream\n",
+    b"dvbemu 1\npackets=0 skipped=0 rest=0\nend\nstream\n",
 ]  # fmt: skip
 NO_STREAM = [b"report 5\nabc", b"report 1\n", b"report 4294967295\nabc"]
 # Sessions with a fault, and its line and kind.
@@ -293,7 +294,8 @@ NO_TEXTS = [
 
 
 @pytest.mark.parametrize("words", [
-    "", "steps --", "run --batch 65", "make 01", "--help", "check 7", "check --", "check --batch 64", "check check", "check -h", "steps check",
+    "", "steps --", "run --batch 65", "make 01", "--help", "check 7", "check --", "check --batch 64", "check check", "check -h",
+    "steps check",
 ])  # fmt: skip
 def test_wrong_words(words):
     child = ran(words.split(), BUILT, input=b"report 0\nstream\n")

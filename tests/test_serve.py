@@ -76,8 +76,8 @@ def test_left(served):
 @pytest.mark.parametrize("number, tell", [(signal.SIGTERM, os.kill), (signal.SIGINT, os.killpg)])
 def test_told_to_end(served, number, tell):
     """Where dvbemu-serve is told to end, or all that belongs to a terminal, its command is, and the report comes."""
-    words = [SERVE, "--packets", RATE, "--report", served.report, served.stream, "--"]
-    with subprocess.Popen([*words, "sh", "-c", 'touch there; exec "$0" +wait 100', served.cases], start_new_session=True, cwd=served.folder) as child:
+    words = [SERVE, "--packets", RATE, "--report", served.report, served.stream, "--", "sh", "-c", 'touch there; exec "$0" +wait 100']
+    with subprocess.Popen([*words, served.cases], start_new_session=True, cwd=served.folder) as child:
         assert comes(served.path("there").exists)
         tell(child.pid, number)
         assert child.wait() == 128 + number
@@ -87,7 +87,8 @@ def test_told_to_end(served, number, tell):
 def processor_time(served, waits):
     """That of a run of the wrapper in which eight programs wait for so many seconds, with all that it starts."""
     script = at_once(8, '"$0" +wait $1') + "; exec sleep $2"
-    words = [SERVE, "--packets", SLOW, "--report", served.report, served.stream, "--", "sh", "-c", script, served.cases, str(waits), str(WAIT - waits)]
+    words = [SERVE, "--packets", SLOW, "--report", served.report, served.stream, "--", "sh", "-c", script, served.cases]
+    words += [str(waits), str(WAIT - waits)]
     with open(served.path("written"), "wb") as out:
         child = subprocess.Popen(words, stdin=subprocess.DEVNULL, stdout=out, stderr=out, cwd=served.folder)
         _, status, used = os.wait4(child.pid, 0)
@@ -181,4 +182,5 @@ def test_many_calls(served):
 
 def test_beside_a_stopped_one(served):
     """A program beside one that is stopped within a request, where nothing is kept."""
-    served.by_script('"$1" stopped > stopped & until grep -q there stopped; do sleep 0.1; done; exec "$0" +beside', BAD, keep="none", seats="2")
+    script = '"$1" stopped > stopped & until grep -q there stopped; do sleep 0.1; done; exec "$0" +beside'
+    served.by_script(script, BAD, keep="none", seats="2")

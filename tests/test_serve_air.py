@@ -245,25 +245,31 @@ def faulty(served, air):
     os.link(served.path("Alpha.ts"), served.path("r.tunings"))
     for name, data in {
         "channels": "474000000=Alpha.ts\n", "wrong": "# two\n474000000:DVBT a.ts\n", "dvbemu.report": "a text of the user's\n",
-        "noise": os.urandom(300_000).replace(b"\x47", b"\x48"), "timeless": NULL_PACKET * 1000, "empty": b"", "short": NULL_PACKET[:100],
+        "noise": os.urandom(300_000).replace(b"\x47", b"\x48"), "timeless": NULL_PACKET * 1000, "empty": b"",
+        "short": NULL_PACKET[:100],
     }.items():  # fmt: skip
         served.put(name, data)
     return served
 
 
 @pytest.mark.parametrize("words, told", [
-    ("noise", "is no transport stream"), ("timeless", "has no program clock"), ("nowhere", "No such file"), ("empty", "has no packet"),
-    ("short", "has no packet"), (".", "is a folder"), ("--report Alpha.ts Alpha.ts", "is the recording: give --report another name"),
-    ("--report /nowhere/r Alpha.ts", "No such file"), ("--tune 474=x:y", "No such file"), ("--tune 474000000:DVBX=Alpha.ts", "DVBX is none of"),
-    ("--tune Alpha.ts", "is expected"), ("--channels Alpha.ts", "are wanted, and it is no text"),
-    ("--channels wrong", "are wanted, and line 2 is '474000000:DVBT a.ts'"), ("--report - --adapter Alpha.ts --adapter Alpha.ts", "--report FILE"),
-    ("--packets 0 Alpha.ts", "is expected"), ("", "arguments are required: STREAM"), ("--tune 474000000:DVBT:H=Alpha.ts", "has no polarisation"),
+    ("noise", "is no transport stream"), ("timeless", "has no program clock"), ("nowhere", "No such file"),
+    ("empty", "has no packet"), ("short", "has no packet"), (".", "is a folder"),
+    ("--report Alpha.ts Alpha.ts", "is the recording: give --report another name"),
+    ("--report /nowhere/r Alpha.ts", "No such file"), ("--tune 474=x:y", "No such file"),
+    ("--tune 474000000:DVBX=Alpha.ts", "DVBX is none of"), ("--tune Alpha.ts", "is expected"),
+    ("--channels Alpha.ts", "are wanted, and it is no text"),
+    ("--channels wrong", "are wanted, and line 2 is '474000000:DVBT a.ts'"),
+    ("--report - --adapter Alpha.ts --adapter Alpha.ts", "--report FILE"), ("--packets 0 Alpha.ts", "is expected"),
+    ("", "arguments are required: STREAM"), ("--tune 474000000:DVBT:H=Alpha.ts", "has no polarisation"),
     ("--keep none --played /nowhere/p Alpha.ts", "/nowhere/p: No such file"),
-    ("--keep none --played Alpha.ts Alpha.ts", "is the recording: give --played another name"), ("--keep . Alpha.ts", "isn't empty"),
-    ("--keep noise/kept Alpha.ts", "Not a directory"), ("--report r --tune 474000000=Alpha.ts", "r.tunings is the recording"),
+    ("--keep none --played Alpha.ts Alpha.ts", "is the recording: give --played another name"),
+    ("--keep . Alpha.ts", "isn't empty"), ("--keep noise/kept Alpha.ts", "Not a directory"),
+    ("--report r --tune 474000000=Alpha.ts", "r.tunings is the recording"),
     ("--report channels --channels channels", "channels is the file of channels"),
     ("--keep none --played channels --adapter channels", "channels is the file of channels"),
-    ("--report both --played both Alpha.ts", "both is written already"), ("Alpha.ts", "dvbemu.report is no report"), ("--keep none Alpha.ts", "built\n"),
+    ("--report both --played both Alpha.ts", "both is written already"), ("Alpha.ts", "dvbemu.report is no report"),
+    ("--keep none Alpha.ts", "built\n"),
 ])  # fmt: skip
 def test_faults(faulty, words, told):
     """What is wrong with the words, the stream or the place of what is written is told before anything is built, and nothing is

@@ -9,9 +9,10 @@ BITS = {"pid": 16, **dict.fromkeys(("timeout", "flags", "type", "size", "count",
 NUMBER = "(?:0|[1-9][0-9]{0,19})"
 PIDS = f"(?:-|{NUMBER}(?:,{NUMBER})*)"
 SHAPES = {
-    "input": "frontend|dvr", "output": "decoder|tap|ts_tap|tsdemux_tap", "pids": PIDS, "tap": f"keep|detach|attach:{PIDS}", "owner": "c[0-7]",
-    "ended": "[01]", "readable": "[01]", "error": "none|overflow|timedout", "data": "-|[0-9a-f]+", "who": "feed|c[0-7]", "act": ".*?", "reply": ".*",
-    "bytes": r"(?: (?:[0-9]|1[0-5])=[0-9a-f]{2}/[0-9a-f]{2}/[0-9a-f]{2})*", "kind": f"done|EMFILE|unbound|nostc|stc base=(?P<base>{NUMBER}) value=(?P<value>{NUMBER})",
+    "input": "frontend|dvr", "output": "decoder|tap|ts_tap|tsdemux_tap", "pids": PIDS, "tap": f"keep|detach|attach:{PIDS}",
+    "owner": "c[0-7]", "ended": "[01]", "readable": "[01]", "error": "none|overflow|timedout", "data": "-|[0-9a-f]+",
+    "who": "feed|c[0-7]", "act": ".*?", "reply": ".*", "bytes": r"(?: (?:[0-9]|1[0-5])=[0-9a-f]{2}/[0-9a-f]{2}/[0-9a-f]{2})*",
+    "kind": f"done|EMFILE|unbound|nostc|stc base=(?P<base>{NUMBER}) value=(?P<value>{NUMBER})",
 }  # fmt: skip
 
 
@@ -55,7 +56,8 @@ class Report(NamedTuple):
 
 def form(text):
     """A form of words: `<name>` has its shape, or is a number."""
-    return re.compile(re.sub(r"<(\w+)>", lambda place: f"(?P<{place[1]}>{SHAPES.get(place[1], NUMBER)})", text.replace("..", "[.][.]")))
+    text = text.replace("..", "[.][.]")
+    return re.compile(re.sub(r"<(\w+)>", lambda place: f"(?P<{place[1]}>{SHAPES.get(place[1], NUMBER)})", text))
 
 
 def forms(*texts):
@@ -68,9 +70,10 @@ HEAD, NODE = form("packets=<packets> skipped=<skipped> rest=<rest>"), form("node
 PID = form("pid <pid> packets=<packets> breaks=<breaks> duplicates=<duplicates> errors=<errors>")
 OUTCOME, ENTRY = form("line <line> steps <first>..<after> <kind>"), form("<place> <who> <step> <act> = <reply>")
 ACTS = forms(
-    "open", "close", "stop", "end", "section pid=<pid> timeout=<timeout> flags=<flags> at=<at><bytes>", "add <pid>", "remove <pid>",
-    "pes pid=<pid> input=<input> output=<output> type=<type> flags=<flags> at=<at>", "start at=<at>", "size <size>", "read <count> at=<at>",
-    "poll at=<at>", "pass input=<input> first=<first> count=<count> at=<at>", "attach node=<node> pids=<pids>", "detach node=<node>",
+    "open", "close", "stop", "end", "section pid=<pid> timeout=<timeout> flags=<flags> at=<at><bytes>", "add <pid>",
+    "remove <pid>", "pes pid=<pid> input=<input> output=<output> type=<type> flags=<flags> at=<at>", "start at=<at>",
+    "size <size>", "read <count> at=<at>", "poll at=<at>", "pass input=<input> first=<first> count=<count> at=<at>",
+    "attach node=<node> pids=<pids>", "detach node=<node>",
 )  # fmt: skip
 REFUSED = "EBADF", "EBUSY", "EINVAL", "ENOSPC"
 REPLIES = forms(
@@ -79,8 +82,8 @@ REPLIES = forms(
     "ready readable=<readable> error=<error> at=<at> ended=<ended>",
 )  # fmt: skip
 # The replies that an act may have, where they aren't Done or Refused.
-ANSWERS = {"open": ("done", "busy"), "read": ("data", "again", "overflow", "timedout", *REFUSED), "poll": ("ready", *REFUSED), "pass": ("passed",),
-           "end": ("passed",), "attach": ("done",), "detach": ("done",)}  # fmt: skip
+ANSWERS = {"open": ("done", "busy"), "read": ("data", "again", "overflow", "timedout", *REFUSED), "poll": ("ready", *REFUSED),
+           "pass": ("passed",), "end": ("passed",), "attach": ("done",), "detach": ("done",)}  # fmt: skip
 
 
 def want(holds):
@@ -92,9 +95,10 @@ def want(holds):
 def value(name, word):
     """What stands at a place."""
     if name == "bytes":
-        told = [(int(place), tuple(bytes.fromhex(three.replace("/", "")))) for place, three in (one.split("=") for one in word.split())]
-        want([place for place, _ in told] == sorted(dict(told)) and (0, 0, 0) not in dict(told).values())
-        return dict(told)
+        told = [one.split("=") for one in word.split()]
+        found = {int(place): tuple(bytes.fromhex(three.replace("/", ""))) for place, three in told}
+        want([int(place) for place, _ in told] == sorted(found) and (0, 0, 0) not in found.values())
+        return found
     if name in ("pids", "tap"):
         pids = [int(pid) for pid in re.findall("[0-9]+", word)]
         want(pids == sorted(set(pids)) and len(pids) <= MOST_PIDS and max(pids, default=0) < 2**16)
@@ -203,5 +207,6 @@ def text_of(report):
     for client, outcomes in enumerate(report.clients):
         lines += [f"client {client}", *map(outcome_text, outcomes)]
     for node, entries in report.nodes.items():
-        lines += [node_text(node), *(f"{place} {entry.who} {entry.step} {entry.act} = {entry.reply}" for place, entry in enumerate(entries))]
+        lines.append(node_text(node))
+        lines += [f"{place} {entry.who} {entry.step} {entry.act} = {entry.reply}" for place, entry in enumerate(entries)]
     return "\n".join([*lines, *report.ends, ""])
