@@ -1,8 +1,10 @@
 """What all tests share: the command, as a process and in this one, reports by the second program, and the files of examples/."""
 from __future__ import annotations
 
+import collections
 import gc
 import io
+import itertools
 import os
 import random
 import shutil
@@ -12,11 +14,13 @@ import sys
 import tempfile
 import time
 from pathlib import Path
-from typing import Callable, NamedTuple
+from typing import Callable, Iterable, Iterator, NamedTuple, TypeVar
 from unittest import mock
 
 import pytest
 from packets import session_of
+from samples import EXAMPLES, PROGRAM, ROOT, examples
+from serving import Served
 
 # (the command line sets these for its process, which this one isn't)
 HANDLERS = {number: signal.getsignal(number) for number in (signal.SIGINT, signal.SIGPIPE)}
@@ -26,15 +30,13 @@ from oracle import second
 for handler in HANDLERS.items():
     signal.signal(*handler)
 
-ROOT = Path(__file__).resolve().parent.parent
-EXAMPLES = ROOT / "examples"
-PROGRAM = str(ROOT / "dvbemu")
 SERVED = ROOT / "tests" / "served.report"
 SERVER = ROOT / "crates" / "dvb_serve" / "out" / "dvb_serve"
 # The words that start a program, or are one.
 STARTS = {*command_line.PROVED, "serve", "fuzz", "calls", "test", "beside"}
 # The seconds in which a command must have ended.
 ENDS = 60
+T = TypeVar("T")
 EMPTY = b"dvbemu 1\npackets=0 skipped=0 rest=0\nend\n"
 
 # (what a shell or nohup starts in the background passes these over, and so would all that is started here)
@@ -44,11 +46,6 @@ for number, handler in ((signal.SIGHUP, signal.SIG_DFL), (signal.SIGINT, signal.
 
 # (each command starts `python3`: the one that runs this is there at once, and no shim that looks for one)
 os.environ["PATH"] = os.pathsep.join([os.path.dirname(sys.executable), os.environ["PATH"]])
-
-
-def examples(ending: str) -> list[str]:
-    """The files of examples/ with this ending, without it: `rules/one-tap`, .."""
-    return sorted(path.relative_to(EXAMPLES).as_posix().removesuffix(ending) for path in EXAMPLES.glob(f"*/*{ending}"))
 
 
 class Result(NamedTuple):
@@ -84,16 +81,35 @@ def run_here(*argv: str, stdin: bytes | str = b"") -> Result:
     given.write(stdin.encode() if isinstance(stdin, str) else stdin)
     given.seek(0)
     with given, mock.patch.multiple(
-        sys,
-        argv=[],
-        stdin=io.TextIOWrapper(given, "utf-8"),
-        stdout=io.TextIOWrapper(out, "utf-8", "surrogateescape"),
+        sys, argv=[], stdin=io.TextIOWrapper(given, "utf-8"), stdout=io.TextIOWrapper(out, "utf-8", "surrogateescape"),
         stderr=io.TextIOWrapper(err, "utf-8", "backslashreplace", write_through=True),
     ):
         status = standard.status_of(command_line.teller_of(argv), command_line.main, *argv)
     # (some commands leave what they have made to the end of their process)
     gc.enable()
     return Result(status or 0, *(end.getvalue().decode(errors="surrogateescape") for end in (out, err)))
+
+
+def pytest_addoption(parser):
+    """The word `--all`."""
+    parser.addoption("--all", action="store_true", help="also the tests with the marker `slow`")
+
+
+def pytest_collection_modifyitems(config, items):
+    """Skips what takes long, unless it is asked for."""
+    for item in items:
+        if item.get_closest_marker("slow") and not config.getoption("--all"):
+            item.add_marker(pytest.mark.skip(reason="takes long: tests/run --all"))
+
+
+def pytest_terminal_summary(terminalreporter):
+    """Tells how many cases tests have tried one by one, which pytest counts as one each."""
+    counts = collections.Counter()
+    for report in itertools.chain(*terminalreporter.stats.values()):
+        if getattr(report, "when", None) == "teardown":
+            counts[report.nodeid.split("[")[0]] += dict(report.user_properties).get("tried", 0)
+    for name, count in sorted((+counts).items()):
+        terminalreporter.write_line(f"TRIED [{count}] {name}")
 
 
 def pytest_make_parametrize_id(val):
@@ -189,8 +205,9 @@ def files_room(tmp_path_factory: pytest.TempPathFactory) -> Room:
     made.write({
         "session": session, "report": report, "stream": stream, "script": b"c0 open n0\nstream\n", "a.session": b"stream\n",
         "wrong": report.replace(b"data 00b0", b"data 00b1", 1), "random": random.Random(7).randbytes(100_000),
-        "big": session + 200 * stream, "served": SERVED.read_bytes(), "recording": (EXAMPLES / "programs" / "scan.ts").read_bytes(),
-        "tests/a.session": b"stream\n", "tests/a.report": EMPTY, "kept/head": EMPTY, "kept/batches": b"",
+        "big": session + 200 * stream, "served": SERVED.read_bytes(),
+        "recording": (EXAMPLES / "programs" / "scan.ts").read_bytes(), "tests/a.session": b"stream\n", "tests/a.report": EMPTY,
+        "kept/head": EMPTY, "kept/batches": b"",
     })  # fmt: skip
     return made
 
@@ -224,12 +241,12 @@ def comes(condition: Callable[[], object], seconds: float = 60) -> bool:
 
 @pytest.fixture(scope="session")
 def compiled(tmp_path_factory: pytest.TempPathFactory) -> Callable[..., str]:
-    """Programs of C: `compiled("calls.c", "-pthread")` is the path of one, of a source beside the tests."""
+    """Programs of C: `compiled("tests/calls.c")` is the path of one, of sources of the repository."""
 
-    def made(source: str, *words: str) -> str:
+    def made(sources: str, *words: str) -> str:
         needs("cc")
-        program = str(tmp_path_factory.mktemp("c") / Path(source).stem)
-        asked = ["cc", "-w", *words, "-o", program, str(ROOT / "tests" / source)]
+        program = str(tmp_path_factory.mktemp("c") / "program")
+        asked = ["cc", *words, "-o", program, *map(str, ROOT.glob(sources)), "-lpthread"]
         done = subprocess.run(asked, capture_output=True, text=True, check=False, env={**os.environ, "LC_ALL": "C"})
         if "No such file" in done.stderr:
             pytest.skip("a header isn't there, as linux/dvb/dmx.h")
@@ -242,7 +259,40 @@ def compiled(tmp_path_factory: pytest.TempPathFactory) -> Callable[..., str]:
 @pytest.fixture(scope="session")
 def server() -> Path:
     """The proved server; a test that wants it is skipped where it isn't built."""
-    path = ROOT / "crates" / "dvb_serve" / "out" / "dvb_serve"
-    if not path.exists():
+    if not SERVER.exists():
         pytest.skip("the server isn't built")
-    return path
+    return SERVER
+
+
+@pytest.fixture(scope="session")
+def program() -> str:
+    """The path of the proved program, which is built where it isn't."""
+    return run("build", "dvbemu").out.strip()
+
+
+@pytest.fixture
+def tried(request: pytest.FixtureRequest) -> Iterator[Callable[[Iterable[T]], Iterator[T]]]:
+    """Counts what a test tries one by one: `for case in tried(cases)`."""
+    count = 0
+
+    def each(cases: Iterable[T]) -> Iterator[T]:
+        nonlocal count
+        for case in cases:
+            count += 1
+            yield case
+
+    yield each
+    request.node.user_properties.append(("tried", count))
+
+
+@pytest.fixture(scope="session")
+def cases(compiled: Callable[..., str]) -> str:
+    """The program of preload/cases, which is built without a warning."""
+    return compiled("preload/cases/*.c", "-O2", "-Wall", "-Wextra", "-Werror")
+
+
+@pytest.fixture
+def served(server: Path, cases: str) -> Iterator[Served]:
+    """A folder in which programs are run on a served adapter, over the recording of examples/."""
+    with tempfile.TemporaryDirectory() as folder:
+        yield Served(folder, EXAMPLES / "programs" / "scan.ts", cases)

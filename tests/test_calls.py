@@ -63,7 +63,7 @@ def written(compiled, tmp_path_factory):
     """The script that `calls` with these words writes of the receiver, and its status."""
     if platform.machine() != "x86_64":
         pytest.skip("the machine isn't x86-64")
-    receiver, path = compiled("calls.c", "-pthread"), tmp_path_factory.mktemp("calls") / "script"
+    receiver, path = compiled("tests/calls.c", "-w"), tmp_path_factory.mktemp("calls") / "script"
 
     def made(*words):
         words = [PROGRAM, "calls", *words, "--to", path, "--demux", "/dev/null", "--dvr", "/dev/zero", receiver, "/dev/null", "/dev/zero"]

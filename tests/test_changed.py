@@ -14,8 +14,6 @@ import subprocess
 from functools import lru_cache
 
 import pytest
-from checks import asked_of
-from conftest import PROGRAM
 from dvbemu import objects, reports
 from dvbemu.explain import played
 from dvbemu.explain.offered import Stream
@@ -23,6 +21,7 @@ from dvbemu.explain.told import Part, page as explained
 from dvbemu.picture.drawing import picture
 from dvbemu.picture.sheet import page
 from oracle import changes, fuzz, second
+from samples import asked_of
 
 COUNT, EACH, ASKED = 200, 10, 20
 ASKED_COUNT, FIRST = int(os.environ.get("CHANGED_COUNT", COUNT)), int(os.environ.get("CHANGED_FIRST", 1))
@@ -204,12 +203,6 @@ def test_changed(seed, tool):
     made, fault = fault_of(TOOLS[tool], text, session)
     assert made or re.match(LINE, fault or "")
     assert tool != "json" or made in (None, text)
-
-
-@pytest.fixture(scope="module")
-def program():
-    """The path of the program."""
-    return subprocess.run([PROGRAM, "build", "dvbemu"], capture_output=True, text=True, check=True).stdout.strip()
 
 
 def try_reader(program, text):

@@ -9,7 +9,7 @@ import html
 import re
 
 import pytest
-from conftest import EXAMPLES, examples
+from samples import EXAMPLES, examples
 
 ENTRY = re.compile(r"^\d+ (c\d|feed) \d+ .* = (.*)$", re.M)
 COMMAND = re.compile(r"^line (\d+) steps (\d+\.\.\d+) (.*)$", re.M)

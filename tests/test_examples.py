@@ -3,7 +3,7 @@ import subprocess
 import xml.dom.minidom
 
 import pytest
-from conftest import EXAMPLES, examples
+from samples import EXAMPLES, examples
 
 # A text of the form of a report that no program writes: a call on a node that nobody opened.
 UNOPENED = b"""dvbemu 1

@@ -9,10 +9,11 @@ import re
 import subprocess
 
 import pytest
-from conftest import EXAMPLES, PROGRAM, SERVED
+from conftest import SERVED
 from dvbemu import inputs
+from dvbemu.stream.packets import NULL_PACKET
+from samples import EXAMPLES, PROGRAM, asked_of, example, examples
 
-NULL_PACKET = b"\x47\x1f\xff\x10" + 184 * b"\xff"
 PACKET = b"\x47\x01\x00\x10" + 184 * b"\xaa"
 SCRIPT = b"c0 open n0\nc0 pes n0 256 frontend tsdemux_tap 20 4\nfeed 100\nc0 read n0 4096\n"
 # A script's fault, the beginning of its stream, and the line behind what the program tells.
@@ -36,17 +37,10 @@ FAULTS = [
     (b"c0 add n0 0x1g\n", None), (b"c0 size n0\n", None), (b"c0 open n0 n1\n", None),
 ]  # fmt: skip
 
-SESSIONS = sorted(str(path.relative_to(EXAMPLES))[: -len(".session")] for path in EXAMPLES.glob("*/*.session"))
 STREAMS = sorted(EXAMPLES.glob("*/*.ts"))
 # The files of a session, and what stands on standard input: `session`, or a part of the stream, or of the script.
 WAYS = [("session", ""), ("script one two", ""), ("bare one two", ""), ("whole one two", ""), ("cut one two", ""), ("-", "session"),
         ("script one -", "two"), ("- one two", "script")]  # fmt: skip
-
-
-def example(name):
-    """The words of a session of examples/, its bytes, and its report."""
-    session, words, report = ((EXAMPLES / (name + ending)) for ending in (".session", ".words", ".report"))
-    return words.read_text().strip() if words.exists() else "steps --batch 1", session.read_bytes(), report.read_bytes()
 
 
 def write_parts(room, session):
@@ -62,22 +56,20 @@ def test_recording_is_the_stream_of_its_session(path):
     assert path.with_suffix(".session").read_bytes().endswith(b"\nstream\n" + path.read_bytes())
 
 
-@pytest.mark.parametrize("number, name", enumerate(SESSIONS), ids=SESSIONS)
+@pytest.mark.parametrize("number, name", enumerate(examples(".session")))
 def test_session(room, number, name):
     """A session in one file, in two, without its line `stream`, with streams in pieces, and by standard input: a way for each in turn."""
-    words, session, report = example(name)
-    write_parts(room, session)
-    way, given = WAYS[number % len(WAYS)]
-    assert room.run(f"{words} {way}", room.read(given) if given else b"") == (0, report, "")
+    case, (way, given) = example(name), WAYS[number % len(WAYS)]
+    write_parts(room, case.session)
+    assert room.run(f"{' '.join(case.words)} {way}", room.read(given) if given else b"") == (0, case.report, "")
 
 
-@pytest.mark.parametrize("name", SESSIONS[::4])
+@pytest.mark.parametrize("name", examples(".session")[::4])
 def test_check_of_a_session(room, name):
-    words, session, report = example(name)
-    write_parts(room, session)
-    room.write({"report": report})
-    packet = dict(zip(words.split()[1::2], words.split()[2::2])).get("--packet", "188")
-    assert room.run(f"check --packet {packet} report script one two") == (0, b"yes\n", "")
+    case = example(name)
+    write_parts(room, case.session)
+    room.write({"report": case.report})
+    assert room.run(f"check --packet {case.packet} report script one two") == (0, b"yes\n", "")
 
 
 # ------ check over files: the answer no has the status 1, and the line is told; over standard input it is that of the program
@@ -86,26 +78,26 @@ def test_check_of_a_session(room, name):
 @pytest.fixture
 def overflow(room):
     """A wrong report, and its session, as files too; and what is told of it."""
-    _, session, report = example("rules/overflow")
-    other = report.replace(b"item=2", b"item=1")
-    room.write({"report": other, "session": session})
-    return other, session, "dvbemu: report line 19: reply\nexpected overflow 0..564 item=2 need=188 room=0\n"
+    case = example("rules/overflow")
+    other = case.report.replace(b"item=2", b"item=1")
+    room.write({"report": other, "session": case.session})
+    return other, case.session, "dvbemu: report line 19: reply\nexpected overflow 0..564 item=2 need=188 room=0\n"
 
 
 def test_check_of_a_wrong_report(room, overflow):
     other, session, told = overflow
     assert room.run("check report session") == (1, b"no\n", told)
     assert room.run("check - session", other) == (1, b"no\n", told)
-    asked = b"report %d\n" % len(other) + other + session
-    assert room.run("check", asked) == (0, b"no\n", told)
+    assert room.run("check", asked_of(other, session)) == (0, b"no\n", told)
 
 
-def test_check_of_no_report(room, overflow):
+@pytest.mark.usefixtures("overflow")
+def test_check_of_no_report(room):
     room.write({"report": b""})
     assert room.run("check report session") == (1, b"no\n", "dvbemu: report line 1: text\nexpected dvbemu 1\n")
 
 
-def test_why_is_check(room, overflow):
+def test_why_is_check(room):
     told = "`dvbemu check REPORT SESSION [STREAM ..]` tells what is wrong with a report now, and what was expected there\n"
     ran = room.run("why report session")
     assert (ran.status, ran.out) == (2, b"") and ran.err.endswith(f"\ndvbemu: error: {told}")
@@ -249,7 +241,7 @@ def test_explain_of_a_node(room):
 
 
 def test_bytes_of_an_overflow(room):
-    status, _, told = room.call("bytes", example("rules/overflow-kept")[2])
+    status, _, told = room.call("bytes", example("rules/overflow-kept").report)
     assert status == 0 and "bytes are lost behind byte" in told
 
 
@@ -269,7 +261,7 @@ not ok 4 - wrong
 @pytest.fixture
 def tests(room):
     """The folder `t`, and the right report of its two sessions."""
-    _, session, report = example("rules/overflow")
+    _, session, report, *_ = example("rules/overflow")
     room.write({"t/right.session": session, "t/right.words": b"steps --batch 1\n", "t/right.report": report,
                 "t/wrong.session": session, "t/wrong.words": b"steps --batch=1", "t/wrong.report": report.replace(b"item=2", b"item=1"),
                 "t/threads.script": SCRIPT, "t/threads.ts": 9 * PACKET, "t/threads.words": b"run --batch 1",

@@ -3,8 +3,8 @@ jsonschema, some lines by hand, and texts that make no report."""
 import json
 
 import pytest
-from conftest import EXAMPLES, ROOT, examples
 from dvbemu import reports
+from samples import EXAMPLES, ROOT, examples
 
 SCHEMA = json.loads((ROOT / "docs" / "report.schema.json").read_text())
 # Lines of reports and the objects that they are, by docs/JSON.md.

@@ -13,13 +13,14 @@ import tempfile
 
 import dvbemu
 import pytest
-from conftest import EXAMPLES, PROGRAM, ROOT, comes, examples, needs
+from conftest import comes, needs
+from samples import EXAMPLES, PROGRAM, ROOT, examples
 from stations import Station
 
 pytestmark = pytest.mark.filterwarnings("error")
 
 PYTHON = ROOT / "python" / "src"
-TUNER = str(ROOT / "serve" / "tuner.py")
+TUNER = str(ROOT / "tests" / "served" / "tuner.py")
 STREAM = str(EXAMPLES / "programs" / "scan.ts")
 # The services of two stations, each at its frequency.
 SERVICES = {474_000_000: ("Alpha", "Beta"), 482_000_000: ("Gamma", "Delta")}

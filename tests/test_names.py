@@ -82,12 +82,9 @@ PAGES = [
         "c0 open n0|c0 pes n0 18 frontend tap 20 4|c0 open n1|feed 2|c0 read n0 2|c0 read n0 999|c1 open n1",
         packet(18, 0, PES, True) + packet(18, 1, PES, True),
         [],
-        [
-            "PID 18 (0x12, EIT): 2 packets",
-            "sets a PES filter on n0 (PID 18 (0x12, EIT), output TAP",
-            "Data of 366 bytes, in which the stream_id of 2 PES packets stands: 0xE0 (video stream 0).",
-            "payloads, with 2 PES packets of stream_id 0xE0 (video stream 0).",
-        ],
+        ["PID 18 (0x12, EIT): 2 packets", "sets a PES filter on n0 (PID 18 (0x12, EIT), output TAP",
+         "Data of 366 bytes, in which the stream_id of 2 PES packets stands: 0xE0 (video stream 0).",
+         "payloads, with 2 PES packets of stream_id 0xE0 (video stream 0)."],
         [],
     ),
     (
@@ -100,27 +97,14 @@ PAGES = [
         ],
         [],
     ),
-    (
-        "c0 open n0|c0 open n1|c0 read n1 9|c1 open n1",
-        b"",
-        ["--node", "n1"],
-        ["Client 0", "line 2: opens n1", "n1 without a filter", "Client 1", "line 3, n1: a read gives no bytes"],
-        ["The stream", "line 1:"],
-    ),
-    (
-        "c0 open n0|c0 open n1|c0 read n1 9|c1 open n1",
-        b"",
-        ["--client", "c1"],
-        ["Client 1", "line 4: opens n1: Busy, client 0 is its owner.", "None: this report shows nothing"],
-        ["The stream", "Client 0", "line 3"],
-    ),
-    (
-        "c0 open n0|c0 open n1|c1 open n1",
-        b"",
-        ["--node", "1", "--client", "0"],
-        ["Client 0", "line 2: opens n1: Done."],
-        ["Client 1", "line 1:"],
-    ),
+    ("c0 open n0|c0 open n1|c0 read n1 9|c1 open n1", b"", ["--node", "n1"],
+     ["Client 0", "line 2: opens n1", "n1 without a filter", "Client 1", "line 3, n1: a read gives no bytes"],
+     ["The stream", "line 1:"]),
+    ("c0 open n0|c0 open n1|c0 read n1 9|c1 open n1", b"", ["--client", "c1"],
+     ["Client 1", "line 4: opens n1: Busy, client 0 is its owner.", "None: this report shows nothing"],
+     ["The stream", "Client 0", "line 3"]),
+    ("c0 open n0|c0 open n1|c1 open n1", b"", ["--node", "1", "--client", "0"], ["Client 0", "line 2: opens n1: Done."],
+     ["Client 1", "line 1:"]),
 ]
 # Words that are refused, for programs/two-clients.report, and what is told.
 REFUSED = [

@@ -38,7 +38,7 @@ def test_bytes(tool, words, packet):
 
 
 @pytest.mark.parametrize("syntax, count, packets", SECTIONS)
-def test_section_is_read_back(tool, tmp_path, syntax, count, packets):
+def test_section_is_read_back(tool, syntax, count, packets):
     body = bytes(place * 7 % 251 for place in range(count))
     digits = tool("packet", *f"16 15 section 42{syntax:02x}00 {body.hex()}".split()).out
     found, skipped, rest = second.cut(bytes.fromhex(digits))

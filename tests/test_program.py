@@ -57,11 +57,9 @@ sys.exit(status != 0)
 # Sessions with the most to keep for their bytes and those of their reports: many short calls, lines without any, and short reads of a stream.
 READS = b"c0 open n0\nc0 size n0 20000\nc0 pes n0 256 frontend tsdemux_tap 20 4\nc0 drain n0 %d\nstream\n"
 HEAVY = {
-    "calls": b"c0 stop n0\n" * 95_000 + b"stream\n",
-    "lines": b"tick 0\n" * 149_000 + b"stream\n",
-    "short reads": READS % 1 + packet(256, 0) * 2_000,
-    "long reads": READS % 65536 + packet(256, 0) * 20_000,
-}
+    "calls": b"c0 stop n0\n" * 95_000 + b"stream\n", "lines": b"tick 0\n" * 149_000 + b"stream\n",
+    "short reads": READS % 1 + packet(256, 0) * 2_000, "long reads": READS % 65536 + packet(256, 0) * 20_000,
+}  # fmt: skip
 
 
 @pytest.mark.parametrize("kind", HEAVY)

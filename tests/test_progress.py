@@ -47,8 +47,7 @@ def tool(name, *words, given=REPORT, status=0):
 
 
 CASES = [
-    *(tool(name) for name in ("explain", "picture", "page", "json")),
-    tool("explain", "-", SCAN + ".session"),
+    *(tool(name) for name in ("explain", "picture", "page", "json")), tool("explain", "-", SCAN + ".session"),
     tool("explain", given=REPORT[:-4] + b"nd\n", status=1),
     Case("steps", [PROGRAM, "steps", "-"], SESSION, rf"dvbemu: {BYTES} *"),
     Case("steps", [PROGRAM, "steps", "-"], b"# a line\n" * 900 + b"c0 opne n0\nstream\n", rf"dvbemu: {BYTES} *", 3),

@@ -1,8 +1,8 @@
 """The records of a report, kept as lines and made where they are asked for, and its writer: what it writes is the text that was read."""
 import pytest
-from conftest import EXAMPLES, examples
 from dvbemu import reports
 from dvbemu.reports import Entry, Outcome, Rows
+from samples import EXAMPLES, examples
 
 OUTCOME = "line 3 steps 4..6 stc base=300 value=7", Outcome(3, 4, 6, "stc base=300 value=7")
 ENTRY = "5 c1 6 overflow at=7 = again ended=0", Entry(5, "c1", 6, "overflow at=7", "again ended=0")

@@ -48,7 +48,7 @@ LINES = [*table_lines(), *row_lines()]
 @pytest.fixture(scope="module")
 def header(compiled):
     """What requests.c prints."""
-    return subprocess.run([compiled("requests.c")], stdout=subprocess.PIPE, text=True, check=True).stdout.splitlines()
+    return subprocess.run([compiled("tests/requests.c", "-w")], stdout=subprocess.PIPE, text=True, check=True).stdout.splitlines()
 
 
 @pytest.mark.parametrize("line", LINES)

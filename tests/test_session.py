@@ -103,12 +103,11 @@ def plain(report):
 
 # A report, its stream, the batch, what its script is or begins with, and what is told of calls that come earlier than the report has them.
 SCRIPTS = {
-    "served.report": (SERVED, STREAM, 64, SCANNED, ""),
-    "two clients": (TWO, NULLS, 1, TWO_SCRIPT + "stream\n", ""),
+    "served.report": (SERVED, STREAM, 64, SCANNED, ""), "two clients": (TWO, NULLS, 1, TWO_SCRIPT + "stream\n", ""),
     "a tap": (TAPPED, NULLS, 1, TAPPED_SCRIPT + "stream\n", ""),
     "a batch between two calls": (SKEWED, NULLS, 1, SKEWED_SCRIPT + "stream\n", " 1 passes"),
     "searches that overtake each other": (CROSSED, NULLS, 1, CROSSED_SCRIPT + "stream\n", " 1 calls"),
-}
+}  # fmt: skip
 
 
 @pytest.mark.parametrize("report, stream, batch, begins, told", SCRIPTS.values(), ids=SCRIPTS)

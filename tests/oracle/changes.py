@@ -4,12 +4,12 @@ A right report may stay right: where a moment is another one, where two batches 
 entries change places. Of some changes it is known by the rules what they make of a report, whatever its session is; of the others
 the judge has to say it.
 """
-import io
 import random
 import re
 
-from dvbemu import reports
-from .judge import MOST_PACKETS, node_text, outcome_text
+from . import reports
+from .judge import MOST_PACKETS
+from .reports import read, text_of
 
 RIGHT, WRONG, OPEN = True, False, None
 BYTES = "0123456789abcdef=. -\n"
@@ -20,19 +20,6 @@ REPLIES = """EBADF|EBUSY|EINVAL|ENOSPC|ENOMEM|passed|data -|data 47|data 4701|ag
 done drop=0..0 tap=keep|done drop=0..188 tap=keep|done drop=0..0 tap=detach|done drop=0..0 tap=attach:-
 overflow 0..188 item=0 need=188 room=187|timedout started=0 now=0 timeout=1
 ready readable=0 error=none at=0 ended=0|ready readable=1 error=none at=0 ended=1"""
-
-
-def text_of(report):
-    """The text of a report."""
-    lines = [reports.FORMAT, f"packets={report.packets} skipped={report.skipped} rest={report.rest}"]
-    for row in report.pids:
-        lines.append(f"pid {row.pid} packets={row.packets} breaks={row.breaks} duplicates={row.duplicates} errors={row.errors}")
-    for client, outcomes in enumerate(report.clients):
-        lines += [f"client {client}", *map(outcome_text, outcomes)]
-    for node, entries in report.nodes.items():
-        lines.append(node_text(node))
-        lines += [f"{place} {entry.who} {entry.step} {entry.act} = {entry.reply}" for place, entry in enumerate(entries)]
-    return "\n".join([*lines, "fault read" if report.read_fault else "end", ""])
 
 
 def with_all(report, change):
@@ -50,11 +37,6 @@ def with_entry(report, node, entry):
     entries = list(report.nodes[node])
     entries[entry.place] = entry
     return with_node(report, node, entries)
-
-
-def read(text):
-    """The report that a text is."""
-    return reports.read(io.StringIO(text))
 
 
 # ------ of the text

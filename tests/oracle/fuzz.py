@@ -1,33 +1,14 @@
-#!/usr/bin/env -S sh -c 'exec "${0%/*}/../python" "$0" "$@"'
-"""Compares dvbemu with a plain second program, on sessions that are made from numbers.
-
-    fuzz.py [--count N] [--first SEED] [--program PATH]
+"""Sessions that are made from numbers: test_drawn.py compares the program over them with the second program and the judge.
 
 Session number SEED has a script of random commands of up to eight clients (all calls, wrong arguments, slots, waiting reads; in
 every other session writes to the dvr device, of all sizes and also by clients that don't own it) and a random stream (garbage,
 broken counters, duplicates, wrong pointers, long sections, errors; in some 16 bytes behind each packet), and is run in batches
-of 1 to 64, over packets that take up 188 or 204 bytes. The second program is second.py, which knows only the rules of
-docs/BEHAVIOUR.md. Each report of `steps`, or the line of a script's fault, must be the same; each report of `run` is judged by
-judge.py. Both reports, and one of them with a change (changes.py), are then checked: `check` must answer as the judge does, with the
-same line where the text is no report or its head is another, and the judge as is known of the report; where a program has no such
-command, the judge alone is tried. First it looks whether these rules stand as they did when that program was last held against them
-(rules.py). The last line is `N passed, M failed`; a session that differs, and the input of a `check` that does, are kept in the folder
-tests/found.
+of 1 to 64, over packets that take up 188 or 204 bytes.
 """
-import argparse
-import os
 import random
-import re
-import subprocess
-import sys
 
-from checks import PROGRAM, ROOT, Tally, asked_of, see_built
-from oracle import changes, judge, rules, second
+from . import second
 
-# The line of `check` where a report is wrong, and the kinds of which the judge has to tell the same line: of the others it may tell
-# another first, as it goes through all of a report.
-NO = re.compile(rf"(dvbemu: report line [1-9][0-9]*: ({'|'.join(judge.KINDS)})\n)(expected [ -~]+\n)?".encode())
-SAME = b"text", b"head"
 PIDS = [0, 17, 256, 257, 258, 512, 8191]
 
 
@@ -121,15 +102,9 @@ def request(rng):
 
     filters = bytes(rng.choice([0, 0, 0x42, 0xFF]) if i % 16 < 2 else 0 for i in range(48))
     number, argument = rng.choice(
-        [
-            (0x6F29, b""),
-            (0x6F2A, b""),
-            (0x403C6F2B, pid + filters + pads + fields(rng.choice([0, 5, 100]), flags)),
-            (0x40146F2C, pid + pads + fields(rng.choice([0, 0, 1]), rng.choice([1, 2, 3, 3]), rng.choice([4, 4, 9, 20]), flags)),
-            (0x6F2D, fields(rng.choice([190, 1000, 8192, 16777216]))),
-            (0x40026F33, pid),
-            (0x40026F34, pid),
-        ]
+        [(0x6F29, b""), (0x6F2A, b""), (0x403C6F2B, pid + filters + pads + fields(rng.choice([0, 5, 100]), flags)),
+         (0x40146F2C, pid + pads + fields(rng.choice([0, 0, 1]), rng.choice([1, 2, 3, 3]), rng.choice([4, 4, 9, 20]), flags)),
+         (0x6F2D, fields(rng.choice([190, 1000, 8192, 16777216]))), (0x40026F33, pid), (0x40026F34, pid)]
     )
     return f"{number:08x} {argument.hex() or '-'}"
 
@@ -227,121 +202,3 @@ def session(seed):
     end = "stream\n" if rng.random() < 0.98 else rng.choice(["", "stream"])
     made = "".join(line + "\n" for line in lines).encode() + end.encode() + bytes(stream.out)
     return made, rng.choice([1, 1, 2, 7, 63, 64]), packet
-
-
-# RULES: 67b408bd Statuses
-def wanted_of(made, batch, packet):
-    """How `steps` ends: its status, its output, and its line on standard error."""
-    try:
-        return 0, second.report(made, batch, packet).encode(), b""
-    except second.Fault as fault:
-        return 3, b"", f"dvbemu: script line {fault.line}: {fault.kind}\n".encode()
-
-
-def ended(ran):
-    """How a run ended: its status, its output, and its line on standard error. A line behind that is for a reader."""
-    return ran.returncode, ran.stdout, b"".join(ran.stderr.splitlines(keepends=True)[:1])
-
-
-# RULES: e1ee0954 The program
-def options(seed, packet, batch=None):
-    """The words of the options, in either order and in one word or two each; without `--packet` a packet takes up 188 bytes."""
-    found = [] if batch is None else [["--batch", str(batch)]]
-    if packet == 204 or seed % 3 == 0:
-        found.append(["--packet", str(packet)])
-    if seed % 2:
-        found.reverse()
-    return [word for option in found for word in (["=".join(option)] if seed // 2 % 2 else option)]
-
-
-def steps_differ(program, made, words, wanted):
-    """What differs in `steps`, if something does."""
-    ran = subprocess.run([program, "steps", *words], input=made, capture_output=True, check=False)
-    return None if ended(ran) == wanted else f"differs, status {ran.returncode}"
-
-
-def run_differs(program, made, batch, packet, words, wanted):
-    """What is wrong with a report of `run`, if something is; and the report."""
-    try:
-        ran = subprocess.run([program, "run", *words], input=made, capture_output=True, check=False, timeout=120)
-    except subprocess.TimeoutExpired:
-        return "run: no end after two minutes", b""
-    status, _, line = wanted
-    if status or ran.returncode:
-        return None if ended(ran) == (status, b"", line) else f"run: status {ran.returncode}", b""
-    return judge.judge(made, batch, ran.stdout, packet), ran.stdout
-
-
-# RULES: 8830e44b A report that is checked
-def check_differs(program, text, packet, words, right=None):
-    """What differs in `check` over an input, or in the judge, where it is known whether the report is right."""
-    status, output, line = judge.answer(text, packet)
-    if right is not None and output != (b"yes\n" if right else b"no\n"):
-        return f"the judge answers {output} and {line}"
-    ran = subprocess.run([program, "check", *words], input=text, capture_output=True, check=False)
-    same = ended(ran)[2] == line
-    if output == b"no\n":
-        told, judged = NO.fullmatch(ran.stderr), NO.fullmatch(line)
-        # (what is expected is left out for some entries that can't stand there, and for nothing else)
-        same = bool(told) and bool(told[3] or told[2] == b"place")
-        same = same and (told[2] not in SAME if told[1] != judged[1] else told[2] == b"text" or told[3] == judged[3])
-    same = same and (ran.returncode, ran.stdout) == (status, output)
-    return None if same else f"check differs: {ran}, the judge answers {output} and {line}"
-
-
-def checks_differ(program, made, packet, seed, reports):
-    """What differs in `check` over the reports of a session, one of them changed, with the input; over no report where the script has a
-    fault."""
-    given = [(report, True) for report in reports if report]
-    given += [changes.changed(seed, given[seed % len(given)][0])] if given else [(b"", None)]
-    for report, right in given:
-        text = asked_of(report, made)
-        wrong = check_differs(program, text, packet, options(seed, packet), right)
-        if wrong:
-            return wrong, text
-    return None, None
-
-
-def keep(name, text):
-    """Keeps what differs for a reader."""
-    folder = os.path.join(ROOT, "tests", "found")
-    os.makedirs(folder, exist_ok=True)
-    with open(os.path.join(folder, name), "wb") as file:
-        file.write(text)
-
-
-def differs(given, seed):
-    """What differs in a session, if something does."""
-    made, batch, packet = session(seed)
-    words = options(seed, packet, batch)
-    wanted = wanted_of(made, batch, packet)
-    wrong_run, report = run_differs(given.program, made, batch, packet, words, wanted)
-    wrong = steps_differ(given.program, made, words, wanted) or wrong_run
-    text = None
-    if not wrong:
-        wrong, text = checks_differ(given.program, made, packet, seed, [wanted[1], report])
-    if wrong:
-        keep(f"{seed}.session", made)
-    if text:
-        keep(f"{seed}.checked", text)
-    return wrong and f"session {seed}, {' '.join(words)}: {wrong}"
-
-
-def main():
-    parser = argparse.ArgumentParser(description=__doc__.split("\n\n")[0])
-    parser.add_argument("--count", type=int, default=500)
-    parser.add_argument("--first", type=int, default=1)
-    parser.add_argument("--program", default=PROGRAM)
-    given = parser.parse_args()
-    if given.program == PROGRAM:
-        see_built()
-    tally = Tally()
-    rules.look_up(tally)
-    for seed in range(given.first, given.first + given.count):
-        wrong = differs(given, seed)
-        tally.count(wrong is None, wrong)
-    return tally.end()
-
-
-if __name__ == "__main__":
-    sys.exit(main())

@@ -5,13 +5,12 @@ isn't worked out but judged. Each client's commands are done anew with the repli
 the calls that stand there; each node is played again in the order of its entries, and must give just these replies. What is wrong is
 told by its line, what stands there and what the rules give.
 """
-import io
 import os
 import re
 from collections import deque
 
-from dvbemu import reports
-from . import second
+from . import reports, second
+from .reports import node_text, outcome_text
 
 MOST_PACKETS, MOST_BYTES = 64, 4294967295
 # What can be wrong with a report. Of what is wrong in one line the first of these is told.
@@ -41,27 +40,16 @@ def first_of(found):
     return min(filter(None, found), key=Bad.order, default=None)
 
 
-def node_text(node):
-    """A node as the report names it."""
-    return "node dvr" if node == reports.DVR else f"node {node}"
-
-
 def call_text(entry):
     """The call of an entry, with its caller and its step."""
     return f"{entry.who} {entry.step} {entry.act}"
 
 
-def outcome_text(outcome):
-    """An outcome as the second program tells it."""
-    return f"line {outcome.line} steps {outcome.first}..{outcome.after} {outcome.kind}"
-
-
 class Where:
-    """The lines of a report, and at which of them its clients and nodes stand. `look` is told each line of a node that is looked at, and the
-    last one."""
+    """The lines of a report, and at which of them its clients and nodes stand."""
 
-    def __init__(self, lines, report, look=lambda line, last: None):
-        self.lines, self.clients, self.nodes, self.look = lines, [], {}, look
+    def __init__(self, lines, report):
+        self.lines, self.clients, self.nodes = lines, [], {}
         line = 3 + len(report.pids)
         for outcomes in report.clients:
             self.clients.append(line)
@@ -87,9 +75,9 @@ class Where:
 def read(written):
     """The parts of a report, which is given as bytes."""
     try:
-        return reports.read(reports.text_of(io.BytesIO(written)))
+        return reports.read(written.decode("latin-1"))
     except reports.NotAReport as wrong:
-        raise Bad("text", wrong.line, "", wrong.found or "none", wrong.expected) from None
+        raise Bad("text", wrong.line, "", "none of a report", "a report") from None
 
 
 def head(packets, skipped, rest):
@@ -104,7 +92,7 @@ def wrong_head(report, wanted, where):
             return where.whole("head", line, gives)
     if len(report.pids) > len(wanted) - 2:
         return where.whole("head", len(wanted) + 1, "no further PID")
-    return where.whole("head", where.last, "end") if report.read_fault else None
+    return where.whole("head", where.last, "end") if report.ends != ["end"] else None
 
 
 # ------ the feeder
@@ -152,7 +140,7 @@ def of_feeder(entries):
     return [entry for entry in entries if entry.who == "feed"]
 
 
-# RULES: 4f076e3c The threads of `run`
+# RULES: 43dcfbd8 The threads of `run`
 def wrong_feeding(node, entries, feeding, where):
     """What is wrong with the feeder's calls on a node: they pass all packets in batches, and then End."""
     for entry in of_feeder(entries):
@@ -244,7 +232,7 @@ class Walk(second.Run):
         return entry.who == f"c{self.client}" and entry.step < self.steps[self.client]
 
 
-def wrong_calls(walks, misled, where):
+def wrong_calls(walks, misled):
     """What is wrong with the calls of each client, but where it was misled: where the reply to a call before is wrong."""
     for walk in walks:
         bad = walk.wrong()
@@ -283,10 +271,9 @@ def wrong_clients(report, clients, where):
 def act_of(entry):
     """The call of an entry as the second program makes it."""
     act = reports.act_of(entry)
-    args = [act[place] for place in (place.rstrip("=") for place in reports.ACTS[act["name"]]) if place != "at"]
     if act["name"] == "section":
-        args.insert(1, act["bytes"])
-    return (act["name"], *args)
+        return "section", act["pid"], act["bytes"], act["timeout"], act["flags"]
+    return tuple(told for place, told in act.items() if place != "at")
 
 
 def short(reply, other):
@@ -311,11 +298,10 @@ def answered(node, entry, packets, played):
     return "passed"
 
 
-def wrong_reply(number, entries, packets, played, where, nodes=NODES):
+def wrong_reply(number, entries, packets, played, where):
     """The first reply of a node that isn't the one that the entries before it give, as what is wrong and as the entry."""
-    node = nodes[number == second.DVR]()
+    node = NODES[number == second.DVR]()
     for entry in entries:
-        where.look(where.nodes[number] + 1 + entry.place, where.last)
         own = answered(node, entry, packets, played)
         if own != entry.reply:
             return where.entry("reply", number, entry.place, short(entry.reply, own), short(own, entry.reply)), entry
@@ -325,33 +311,33 @@ def wrong_reply(number, entries, packets, played, where, nodes=NODES):
 # ------ the whole
 
 
-def wrong_parts(lines, packets, report, batch, where, nodes):
+def wrong_parts(lines, packets, report, batch, where):
     """What is wrong with what a report tells behind its head."""
     clients = len(second.Run(lines, [], 1).outcomes)
     played = second.played_by(lines)
-    replies = [wrong_reply(node, entries, packets, played, where, nodes) for node, entries in report.nodes.items()]
+    replies = [wrong_reply(node, entries, packets, played, where) for node, entries in report.nodes.items()]
     misled = [entry for _, entry in replies if entry]
     walks = [Walk(lines, client, report, where) for client in range(clients)]
-    found = [bad for bad, _ in replies] + list(wrong_calls(walks, misled, where))
+    found = [bad for bad, _ in replies] + list(wrong_calls(walks, misled))
     outcomes = [walk.outcomes[client] for client, walk in enumerate(walks)]
     found += wrong_feeder(report, packets, batch, where)
     found += wrong_clients(report, clients, where)
     return first_of([*found, *wrong_outcomes(report, outcomes, where)])
 
 
-# RULES: 8830e44b A report that is checked
-def first_wrong(session, written, batch=None, packet=188, nodes=NODES, look=lambda line, last: None):
+# RULES: eeaa414f A report that is checked
+def first_wrong(session, written, batch=None, packet=188):
     """What is wrong first with a report of a run of a session; None where it is right. Its batches have 1 to 64 packets each, or,
     where a batch is given, all but the last have as many as that. Each packet takes up so many bytes of the stream. Raises
-    second.Fault where the session's script has one. `look` is told how far it is, by the line and the last one."""
+    second.Fault where the session's script has one."""
     lines, stream = second.read_script(session)
     packets, skipped, rest = second.cut(stream, packet)
     try:
         report = read(written)
     except Bad as bad:
         return bad
-    where = Where(written.decode("latin-1").split("\n"), report, look)
-    return wrong_head(report, head(packets, skipped, rest), where) or wrong_parts(lines, packets, report, batch, where, nodes)
+    where = Where(written.decode("latin-1").split("\n"), report)
+    return wrong_head(report, head(packets, skipped, rest), where) or wrong_parts(lines, packets, report, batch, where)
 
 
 def judge(session, batch, written, packet=188):
@@ -363,7 +349,7 @@ def judge(session, batch, written, packet=188):
 # ------ the command
 
 
-# RULES: 8830e44b A report that is checked
+# RULES: eeaa414f A report that is checked
 def answer(given, packet=188):
     """What `check` gives over this input: its status, its output, and its lines on standard error; the second one but of a text that is no
     report, for which it has forms of its own."""

@@ -1,7 +1,7 @@
 """A plain second program: the report of a session, worked out from the rules of docs/BEHAVIOUR.md and nothing else.
 
 It shares no code with dvbemu and isn't proved. It keeps whole lists, works out all sections of a capture anew at each pass,
-and is slow; `fuzz` and the examples compare dvbemu with it.
+and is slow; test_drawn.py and test_sessions.py compare dvbemu with it.
 """
 import re
 
@@ -490,11 +490,9 @@ def filter_byte(word, above):
 
 U32 = 4294967295
 PLACES = {
-    "open": [], "close": [], "start": [], "stop": [], "poll": [],
-    "section": [(0, 65535), (0, U32), (0, U32)],
-    "pes": [(0, 65535), ["frontend", "dvr"], OUTPUTS, (0, U32), (0, U32)],
-    "add": [(0, 65535)], "remove": [(0, 65535)], "size": [(0, U32)],
-    "read": [(0, LARGEST_READ)], "readw": [(0, LARGEST_READ)], "drain": [(0, LARGEST_READ)],
+    "open": [], "close": [], "start": [], "stop": [], "poll": [], "section": [(0, 65535), (0, U32), (0, U32)],
+    "pes": [(0, 65535), ["frontend", "dvr"], OUTPUTS, (0, U32), (0, U32)], "add": [(0, 65535)], "remove": [(0, 65535)],
+    "size": [(0, U32)], "read": [(0, LARGEST_READ)], "readw": [(0, LARGEST_READ)], "drain": [(0, LARGEST_READ)],
 }  # fmt: skip
 
 

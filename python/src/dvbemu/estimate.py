@@ -8,7 +8,7 @@ from typing import TYPE_CHECKING
 if TYPE_CHECKING:
     from typing import Callable, Mapping, Sequence
 
-# The processor seconds of each crate's proof, as tools/checks/gate-time counted them in a run of the gate; a crate that isn't here counts as OTHER.
+# The processor seconds of each crate's proof, as .ci/gate-time counted them in a run of the gate; a crate that isn't here counts as OTHER.
 SECONDS = {
     "lemmas": 12, "machine": 24, "emu_io": 72, "ts_packet": 84, "pid_set": 54, "section_crc": 42, "filter_match": 42, "dmx_abi": 66,
     "ts_batch": 78, "ts_watch": 48, "ts_make": 48, "section_parse": 108, "item_select": 48, "dmx_calls": 162, "node_laws": 24,

@@ -1,5 +1,5 @@
 #!/usr/bin/env python3
-"""A small program that asks libudev, for serve/check: devices.py SUBSYSTEM .. says which devices each has, and whether all else that
+"""A small program that asks libudev: devices.py SUBSYSTEM .. says which devices each has, and whether all else that
 the library has is there: an enumeration by a property, a monitor. Where there is no libudev it says so."""
 import ctypes
 import sys

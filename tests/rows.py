@@ -1,4 +1,4 @@
-"""Sessions as rows: the files rows/NAME.rows, which examples/check runs over the program and compares.
+"""Sessions as rows: the files examples/rows/NAME.rows, which test_rows.py runs over the program and compares.
 
 A file has sessions, one behind the other. Empty lines, and lines that begin with `# `, are passed over.
 
@@ -18,9 +18,10 @@ A file has sessions, one behind the other. Empty lines, and lines that begin wit
                              it, `ok` for yes; without `at` it is the report as it stands
     expected TEXT            what the second line of that `check` tells behind `expected`; with no TEXT there is no such line
 
-In texts `|` parts pieces, `0*368` is 368 times `0`, `\\0a` is that byte; `|` in front of a line says that it is none of the words above.
-By threads replies aren't compared. Beside this, each report of `steps` and `run` that ends with Ok is given to `check`, which has to say
-yes, and tests/oracle/second.py has to come to the same status, report and answer; a report of `run` is judged by tests/oracle/judge.py.
+In texts `|` parts pieces, `0*368` is 368 times `0`, `\\0a` is that byte; `|` in front of a line says that it is none of the words
+above. By threads replies aren't compared. Beside this, each report of `steps` and `run` that ends with Ok is given to `check`,
+which has to say yes, and tests/oracle/second.py has to come to the same status, report and answer; a report of `run` is judged by
+tests/oracle/judge.py.
 """
 import io
 import re
@@ -29,7 +30,7 @@ from typing import NamedTuple
 
 from dvbemu import reports
 from oracle import judge, second
-from checks import asked_of
+from samples import asked_of
 
 BATCHES = "steps --batch 1", "steps --batch 3", "steps --batch 64"
 # The lines that expect something.
@@ -39,8 +40,9 @@ STATUSES = {"ok": 0, "report": 0, "usage": 2, "script": 3, "too": 4, "read": 5, 
 
 
 class Session(NamedTuple):
-    """A session: the lines of its file with their numbers; the words of its runs; its input; the rows, each with its line in the file,
-    its line of the script, its client and its replies; the other lines that expect something; and the changes of the first report."""
+    """A session: the lines of its file with their numbers; the words of its runs; its input; the rows, each with its line in the
+    file, its line of the script, its client and its replies; the other lines that expect something; and the changes of the first
+    report."""
 
     title: str
     lines: list
@@ -168,8 +170,8 @@ def ask(program, words, report, given):
 
 
 def second_status(words, given, ran):
-    """The status that the second program comes to, where the words are `steps` or `run`; or that it comes to another report than the
-    program, or that its judge finds something wrong in it."""
+    """The status that the second program comes to, where the words are `steps` or `run`; or that it comes to another report than
+    the program, or that its judge finds something wrong in it."""
     batch, size = options(words)
     try:
         if words.startswith("steps"):

@@ -1,5 +1,5 @@
 /*
- * Preloaded by faults/check: what fails, or takes little, is said by words of the environment.
+ * Preloaded by test_faults.py: what fails, or takes little, is said by words of the environment.
  *
  *   REFUSE=N      the allocation N is refused, counted from 1
  *   FAIL_READ=N   the read N of standard input fails, and FAIL_WRITE=N the write N to standard output

@@ -1,5 +1,5 @@
 #!/usr/bin/env python3
-"""A small program that tunes, for serve/check: tuner.py WORD ..
+"""A small program that tunes: tuner.py WORD ..
 
     HZ[:SYSTEM[:VOLTAGE[:TONE[:STREAM[:RATE]]]]]
                 tunes there (kHz for a satellite), and says which services its table tells, or what the status or the error is; a number

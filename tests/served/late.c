@@ -1,5 +1,5 @@
 /*
- * For serve/check: a program of gcc's sanitizer whose threads begin late, and hold a lock meanwhile, as the sanitizer's own locks may be
+ * A program of gcc's sanitizer whose threads begin late, and hold a lock meanwhile, as the sanitizer's own locks may be
  * held. Whoever forks then has a child in which that lock is held for ever.
  */
 #define _GNU_SOURCE

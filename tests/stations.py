@@ -1,4 +1,5 @@
-"""Makes streams for serve/check: two services each, with tables of DVB (EN 300 468), events, a clock and a picture, at a constant rate."""
+"""Makes streams for tests of `serve`: two services each, with tables of DVB (EN 300 468), events, a clock and a picture, at a
+constant rate."""
 import datetime
 
 from dvbemu.stream import tables
@@ -8,10 +9,13 @@ from dvbemu.stream.pace import TICKS, WRAP
 from dvbemu.stream.tables import Descriptor, Part, Table
 
 RATE, NETWORK = 1500, 8468
+# Where three stations are, and their services.
+HERTZ = 474_000_000, 482_000_000, 490_000_000
+NAMES = ("Alpha", "Beta"), ("Gamma", "Delta"), ("Epsilon", "Zeta")
 # How often a table comes, and how long the picture is, in seconds; and how many events a service has.
 PAT, PMT, SDT, NIT, EIT, TDT, PCR, PICTURE, EVENTS = 0.1, 0.2, 0.5, 1.0, 1.0, 1.0, 0.04, 4, 4
-# The ticks of a second in the time stamps of a picture, and the places of these in its packets: the first where there is one, the second
-# where there are two.
+# The ticks of a second in the time stamps of a picture, and the places of these in its packets: the first where there is one, the
+# second where there are two.
 STAMPS, FIRST_STAMP, SECOND_STAMP = 90_000, 9, 14
 
 
@@ -48,7 +52,8 @@ def later(media, ticks):
 
 
 class Station:
-    """Two services of these names and numbers, in a network at these frequencies in Hz; `media` are packets of PIDs 256 and 257."""
+    """Two services of these names and numbers, in a network at these frequencies in Hz; `media` are packets of PIDs 256 and
+    257."""
 
     def __init__(self, number, names, frequencies, media=b""):
         self.number, self.names, self.frequencies = number, names, frequencies

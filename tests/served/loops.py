@@ -1,5 +1,5 @@
-#!/usr/bin/env -S sh -c 'exec "${0%/*}/../tests/python" "$0" "$@"'
-"""A Python program for serve/check that finds an adapter by its paths, and waits for a PAT by each means that Python has. It writes a
+#!/usr/bin/env -S sh -c 'exec "${0%/*}/../python" "$0" "$@"'
+"""A Python program that finds an adapter by its paths, and waits for a PAT by each means that Python has. It writes a
 line for each that has found one."""
 import asyncio
 import fcntl

@@ -1,4 +1,4 @@
-#!/usr/bin/env -S sh -c 'exec "${0%/*}/../tests/python" "$0" "$@"'
+#!/usr/bin/env -S sh -c 'exec "${0%/*}/../python" "$0" "$@"'
 """A program that asks a server badly, past the preload: bad.py KIND.
 
     many    each request that is none, with its answer; the last line is `N answered`
