@@ -52,7 +52,7 @@ def ran(given: bytes, *words: str) -> Ended:
     return ended(done.returncode, done.stdout, done.stderr)
 
 
-# RULES: 2de66b71 Statuses
+# RULES: 67b408bd Statuses
 def wanted_of(session: tuple[bytes, int, int]) -> Ended:
     """How `steps` ends."""
     try:
@@ -61,7 +61,7 @@ def wanted_of(session: tuple[bytes, int, int]) -> Ended:
         return Ended(3, b"", f"dvbemu: script line {fault.line}: {fault.kind}\n".encode())
 
 
-# RULES: 8271bec1 The program
+# RULES: e1ee0954 The program
 def options(number: int, packet: int, batch: int | None = None) -> list[str]:
     """The words of the options, in either order and in one word or two each; without `--packet` a packet takes up 188 bytes."""
     found = [] if batch is None else [["--batch", str(batch)]]
@@ -72,7 +72,7 @@ def options(number: int, packet: int, batch: int | None = None) -> list[str]:
     return [word for option in found for word in (["=".join(option)] if number // 2 % 2 else option)]
 
 
-# RULES: eeaa414f A report that is checked
+# RULES: 8830e44b A report that is checked
 def check_differs(text: bytes, packet: int, words: list[str], right: bool | None) -> str | None:
     """What differs in `check` over an input, or in the judge, where it is known whether the report is right."""
     judged = ended(*judge.answer(text, packet))

@@ -140,7 +140,7 @@ def of_feeder(entries):
     return [entry for entry in entries if entry.who == "feed"]
 
 
-# RULES: 43dcfbd8 The threads of `run`
+# RULES: 4f076e3c The threads of `run`
 def wrong_feeding(node, entries, feeding, where):
     """What is wrong with the feeder's calls on a node: they pass all packets in batches, and then End."""
     for entry in of_feeder(entries):
@@ -325,7 +325,7 @@ def wrong_parts(lines, packets, report, batch, where):
     return first_of([*found, *wrong_outcomes(report, outcomes, where)])
 
 
-# RULES: eeaa414f A report that is checked
+# RULES: 8830e44b A report that is checked
 def first_wrong(session, written, batch=None, packet=188):
     """What is wrong first with a report of a run of a session; None where it is right. Its batches have 1 to 64 packets each, or,
     where a batch is given, all but the last have as many as that. Each packet takes up so many bytes of the stream. Raises
@@ -349,7 +349,7 @@ def judge(session, batch, written, packet=188):
 # ------ the command
 
 
-# RULES: eeaa414f A report that is checked
+# RULES: 8830e44b A report that is checked
 def answer(given, packet=188):
     """What `check` gives over this input: its status, its output, and its lines on standard error; the second one but of a text that is no
     report, for which it has forms of its own."""

@@ -65,7 +65,7 @@ def forms(*texts):
     return {text.split(" ")[0]: form(text) for text in texts}
 
 
-# RULES: a9047f51 The report
+# RULES: 3f2e6921 The report
 HEAD, NODE = form("packets=<packets> skipped=<skipped> rest=<rest>"), form("node <node>")
 PID = form("pid <pid> packets=<packets> breaks=<breaks> duplicates=<duplicates> errors=<errors>")
 OUTCOME, ENTRY = form("line <line> steps <first>..<after> <kind>"), form("<place> <who> <step> <act> = <reply>")
