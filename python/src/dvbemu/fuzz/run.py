@@ -317,10 +317,11 @@ def served(plan: Plan, path: str, words: Sequence[str], report: BinaryIO, kept: 
     """Serves one run, and says how its command has ended."""
     folder = Folder(1)
     adopt()
-    feeder.LOCKS = plan.lock
     adapter = command = None
     try:
         channels: list[Channel] = channels_of(plan.tune, None, path, plan.packets)
+        for channel in channels:
+            channel.quality = channel.quality._replace(lock=plan.lock)
         adapter = Adapter(plan.server, folder.adapters[0], channels, Namespace(seats=8, once=False, live=False), Outs(report, None, None, "all"))
         adapter.feeder = Held(channels, adapter)
         command, servers = Command(plan, folder, words), {adapter.server.pid}
