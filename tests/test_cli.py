@@ -24,8 +24,8 @@ ALONE = {
     "explain": (1, "dvbemu explain: standard input: line 1: expected"), "picture": (1, "dvbemu picture: standard input: line 1: expected"),
     "bytes": (1, "dvbemu bytes: standard input: line 1: expected"), "pace": (1, "dvbemu pace: standard input: fewer than two PCRs"),
     "json": (1, "dvbemu json: standard input: line 1: expected"), "page": (1, "dvbemu page: standard input: line 1: expected"),
-    "serve": (2, "STREAM, COMMAND; -- stands in front of COMMAND"), "words": (0, ""),
-    "beside": (3, "dvbemu: script line 1: nostream"), "fuzz": (2, "RECORDING, COMMAND; -- stands in front of COMMAND"),
+    "serve": (2, "STREAM, COMMAND; put -- before COMMAND"), "words": (0, ""),
+    "beside": (3, "dvbemu: script line 1: nostream"), "fuzz": (2, "RECORDING, COMMAND; put -- before COMMAND"),
     "test": (2, "PATH"), "session": (2, "REPORT, STREAM"), "merge": (2, "FOLDER"),
     "packet": (2, "PID, COUNTER, KIND, BYTES"), "calls": (2, "PROGRAM"), "build": (2, "PROGRAM"),
 }  # fmt: skip

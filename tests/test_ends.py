@@ -18,7 +18,7 @@ from dvbemu.commands import test as tests_word
 SOURCE = str(ROOT / "python" / "src")
 # What a run of `serve` as root begins with on standard error, and what it ends with where no program opened the adapter.
 ROOT_LINE, UNOPENED = re.compile("dvbemu serve: started by root: .*\n"), re.compile("dvbemu serve: no program opened the adapter; .*\n")
-# A line of each word that ends with the status 0 and has written something.
+# A line of each word that exited with status 0 and has written something.
 LINES = {
     "steps": "steps session", "run": "run session", "check": "check report session", "make": "make 7", "selftest": "selftest 7",
     "serve": "serve --help", "explain": "explain report", "beside": "beside session", "picture": "picture report", "page": "page report",
@@ -72,7 +72,7 @@ os.execv(os.environ["REAL"], [os.environ["REAL"], *sys.argv[1:]])
 FAULTS = [
     ("MemoryError()", 7, "out of memory"), ("OSError(28, 'No space left on device', 'a')", 1, "a: No space left on device"),
     ("OSError(24, 'Too many open files')", 1, "Too many open files"),
-    ("IndexError('a\\nb')", 70, "a fault of this program, at <string>:5: IndexError: a b"),
+    ("IndexError('a\\nb')", 70, "internal error, at <string>:5: IndexError: a b"),
 ]
 FAULTY = """
 import sys
@@ -174,7 +174,7 @@ def test_input(shell, line, named, ends, why):
 @pytest.mark.parametrize("line", ASKED)
 def test_killed(shell, stand_in, line, number):
     """A program that a signal has ended: 128 and its number as a shell sees it, and a line; but none for Ctrl-C, and a reader that goes."""
-    told = "" if number in QUIET else f"dvbemu: the program was ended by signal {number}\n"
+    told = "" if number in QUIET else f"dvbemu: the program was killed by signal {number}\n"
     assert shell(line, "", stand_in("killed"), ENDS_BY=str(number), REAL="/bin/true") == (128 + number, b"", told)
 
 
@@ -200,7 +200,7 @@ def two_tests(room, files_room):
 @pytest.mark.parametrize("word", ["check", "steps"])
 def test_test_of_a_killed_program(shell, stand_in, two_tests, word):
     status, out, _ = shell("test tests", "", stand_in("killed"), IN=word, **two_tests)
-    assert status == 1 and f"not ok 2 - b\n# {word} was ended by signal 9\n" in out.decode()
+    assert status == 1 and f"not ok 2 - b\n# {word} was killed by signal 9\n" in out.decode()
 
 
 # ------ files that can't be written are told by their names
@@ -361,7 +361,7 @@ def test_serve_input(served):
 # ------ --version tells what the program is that runs: a proved one, or where none is built and it is to be hurried, one that isn't
 
 NUMBER, PROVED = (ROOT / "VERSION").read_text().splitlines()[:2]
-HASTY = "not proved: compiled in haste (DVBEMU_UNPROVED)"
+HASTY = "not proved: built with DVBEMU_UNPROVED"
 
 
 @pytest.mark.parametrize("line", ["--version", "steps --version", "explain --version"])

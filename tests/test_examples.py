@@ -80,8 +80,8 @@ def test_picture_of_a_node_that_nobody_opened(tool):
 def test_explanation_of_clients_without_a_command(tool):
     told = tool("explain", stdin=IDLE).out
     assert "\nClient 2\n" in told and told.count("\nClient") == 1
-    assert tool("explain", "--client", "3", stdin=IDLE).out.startswith("Client 3\n\n  It has no command.\n")
-    assert "\nClients 0 to 3\n\n  They have no command.\n" in tool("explain", stdin=NOBODY).out
+    assert tool("explain", "--client", "3", stdin=IDLE).out.startswith("Client 3\n\n  No commands.\n")
+    assert "\nClients 0 to 3\n\n  No commands.\n" in tool("explain", stdin=NOBODY).out
 
 
 @pytest.mark.parametrize("word, change, line", [

@@ -36,7 +36,7 @@ def test_overflow_of_free_node(cli, command):
     """A report in which a node that is Free answers a read, as no program does, is told of without the size that no buffer has."""
     told = cli(command, "-", stdin=FREE)
     assert (told.status, told.err) == (0, "")
-    assert "line 1, n0: 5 bytes, 0..5 of the capture, all that was unread at an Overflow" in " ".join(told.out.split())
+    assert "line 1, n0: 5 bytes, 0..5 of the capture, everything unread at an Overflow" in " ".join(told.out.split())
     assert "buffer of size" not in told.out and "buffer size" not in told.out
 
 

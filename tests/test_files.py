@@ -18,17 +18,17 @@ PACKET = b"\x47\x01\x00\x10" + 184 * b"\xaa"
 SCRIPT = b"c0 open n0\nc0 pes n0 256 frontend tsdemux_tap 20 4\nfeed 100\nc0 read n0 4096\n"
 # A script's fault, the beginning of its stream, and the line behind what the program tells.
 FAULTS = [
-    (b"c0 add n0 0x1000\n", "`dvbemu words script` takes it, and writes 'c0 add n0 4096'"),
-    (b"c0 section n0 0 0 CHECK_CRC+KEEP\n", "`dvbemu words script` takes it, and writes 'c0 section n0 0 0 257'"),
-    (b"c0 section n0 0 0 5 version_number!=3\n", "`dvbemu words script` takes it, and writes 'c0 section n0 0 0 5 3=06/3e/3e'"),
-    (b"c0\topen\tn0\n", "`dvbemu words script` takes it, and writes 'c0 open n0'"),
-    (b"\xef\xbb\xbfc0 open n0\n", "`dvbemu words script` takes it, and writes 'c0 open n0'"),
-    (b"c0 open demux0\n", "`dvbemu words script` takes it, and writes 'c0 open n0'"),
-    (b"c0 open n0\r\n", "`dvbemu words script` takes it, and writes 'c0 open n0'"),
-    (b"Stream\n", "`dvbemu words script` takes it, and writes 'stream'"),
+    (b"c0 add n0 0x1000\n", "`dvbemu words script` translates it to 'c0 add n0 4096'"),
+    (b"c0 section n0 0 0 CHECK_CRC+KEEP\n", "`dvbemu words script` translates it to 'c0 section n0 0 0 257'"),
+    (b"c0 section n0 0 0 5 version_number!=3\n", "`dvbemu words script` translates it to 'c0 section n0 0 0 5 3=06/3e/3e'"),
+    (b"c0\topen\tn0\n", "`dvbemu words script` translates it to 'c0 open n0'"),
+    (b"\xef\xbb\xbfc0 open n0\n", "`dvbemu words script` translates it to 'c0 open n0'"),
+    (b"c0 open demux0\n", "`dvbemu words script` translates it to 'c0 open n0'"),
+    (b"c0 open n0\r\n", "`dvbemu words script` translates it to 'c0 open n0'"),
+    (b"Stream\n", "`dvbemu words script` translates it to 'stream'"),
     (b"c0 open n0\n" + PACKET + b"\n", "a packet begins with G, 0x47: is the line `stream` missing in front of it?"),
     (PACKET, "script: a script comes first, and then the streams: dvbemu WORD SCRIPT script"),
-    (b"dvbemu 1\npackets=0 skipped=0 rest=0\nend\n", "script: this is a report, and no script: `dvbemu explain script` tells it"),
+    (b"dvbemu 1\npackets=0 skipped=0 rest=0\nend\n", "script: this is a report, not a script: `dvbemu explain script` explains it"),
     (b"c0 section n0 0 5 0=00/ff/00\n", "the line is cK section T PID TIMEOUT FLAGS BYTE..; it seems that TIMEOUT is missing"),
     (b"c0 section n0 0 table_id=2\n", "the line is cK section T PID TIMEOUT FLAGS BYTE..; it seems that TIMEOUT and FLAGS are missing"),
     (b"sleep 1\n", "time passes by `tick 1000`, in milliseconds"), (b"sleep 0.25\n", "time passes by `tick 250`, in milliseconds"),
@@ -98,7 +98,7 @@ def test_check_of_no_report(room):
 
 
 def test_why_is_check(room):
-    told = "`dvbemu check REPORT SESSION [STREAM ..]` tells what is wrong with a report now, and what was expected there\n"
+    told = "`dvbemu check REPORT SESSION [STREAM ..]` now says what is wrong with a report, and what was expected\n"
     ran = room.run("why report session")
     assert (ran.status, ran.out) == (2, b"") and ran.err.endswith(f"\ndvbemu: error: {told}")
 
@@ -131,8 +131,8 @@ def test_no_stream(room, words):
 
 
 @pytest.mark.parametrize("files, likely", [
-    ("script text", "dvbemu: text: this is a text, and no stream of packets\n"),
-    ("behind stream", "dvbemu: behind: line 6, 'c0 close n0', stands behind `stream`: a part of the stream, and no call\n"),
+    ("script text", "dvbemu: text: this is text, not a transport stream\n"),
+    ("behind stream", "dvbemu: behind: line 6, 'c0 close n0', follows `stream`, so it is part of the stream, not a call\n"),
     ("script stream", ""),
 ])  # fmt: skip
 def test_likely(room, files, likely):
@@ -165,7 +165,7 @@ class Shortened(inputs.Input):
 
 
 @pytest.mark.parametrize("fails, line", [
-    (False, "it ended behind 500 of its 1,880 bytes"), (True, "reading failed behind 500 bytes: Bad file descriptor"),
+    (False, "it ended after 500 of its 1,880 bytes"), (True, "reading failed after 500 bytes: Bad file descriptor"),
 ])  # fmt: skip
 def test_broken(room, fails, line):
     room.write({"script": SCRIPT, "stream": 10 * PACKET})
@@ -179,7 +179,7 @@ def test_broken(room, fails, line):
 @pytest.mark.parametrize("line", ["steps script stream /proc/self/mem", "run script /proc/self/mem", "check stream script /proc/self/mem"])
 def test_unreadable(room, line):
     room.write({"script": SCRIPT, "stream": 10 * PACKET})
-    assert room.run(line) == (1, b"", "dvbemu: /proc/self/mem: reading failed behind 0 bytes: Input/output error\n")
+    assert room.run(line) == (1, b"", "dvbemu: /proc/self/mem: reading failed after 0 bytes: Input/output error\n")
 
 
 @pytest.mark.parametrize("ends", [">/dev/full", ">&-"])
@@ -194,7 +194,7 @@ def test_unwritable(room, line, ends):
 @pytest.mark.parametrize("line, report", [("steps - -", b""), ("explain - -", SERVED.read_bytes()), ("session - -", SERVED.read_bytes())])
 def test_standard_input_twice(room, line, report):
     teller = "dvbemu" if line.startswith("steps") else f"dvbemu {line.partition(' ')[0]}"
-    assert room.run(line, report) == (1, b"", f"{teller}: -: standard input can be named once\n")
+    assert room.run(line, report) == (1, b"", f"{teller}: -: standard input can be given only once\n")
 
 
 # ------ bytes: what a node gave as a file, and what was lost in between
@@ -202,17 +202,17 @@ def test_standard_input_twice(room, line, report):
 MORE = "`dvbemu explain` says more"
 TS_TAP = b"c0 open dvr\nc0 open n0\nc0 pes n0 256 frontend ts_tap 20 4\nc0 add n0 257\nc0 add n0 256\nc0 drain dvr 4096\n"
 TWO = SCRIPT.replace(b"100", b"5") + b"c1 open n1\nc1 pes n1 256 frontend tap 20 4\nfeed 5\nc1 read n1 4096\n"
-ALL_LOST = "dvbemu bytes: n0: 1,880 bytes are lost behind byte 0 (place {}: overflow 0..1880 item=1 need=188 room=11)\n"
+ALL_LOST = "dvbemu bytes: n0: 1,880 bytes are lost after byte 0 (place {}: overflow 0..1880 item=1 need=188 room=11)\n"
 REFUSED_PID = "dvbemu bytes: n0: refused, and not among these bytes: add 257 (place 2: EINVAL: only TSDEMUX_TAP takes more than one PID)\n"
 # A script over ten packets, the words, and what is written and told.
 BYTES = [
     (SCRIPT, "bytes", (0, 10 * PACKET, "")),
     (SCRIPT, "bytes --node demux0", (0, 10 * PACKET, "")),
     (SCRIPT, "bytes --node 1", (1, b"", "dvbemu bytes: no client called n1\n")),
-    (b"c0 open n0\nc0 read n0 10\n", "bytes", (1, b"", f"dvbemu bytes: nobody has read a byte; {MORE}\n")),
-    (SCRIPT.replace(b"c0 pes", b"c0 size n0 200\nc0 pes"), "bytes", (1, b"", f"{ALL_LOST}dvbemu bytes: nobody has read a byte; {MORE}\n")),
+    (b"c0 open n0\nc0 read n0 10\n", "bytes", (1, b"", f"dvbemu bytes: no byte was read; {MORE}\n")),
+    (SCRIPT.replace(b"c0 pes", b"c0 size n0 200\nc0 pes"), "bytes", (1, b"", f"{ALL_LOST}dvbemu bytes: no byte was read; {MORE}\n")),
     (TS_TAP, "bytes --node dvr", (0, 10 * PACKET, REFUSED_PID)),
-    (TWO, "bytes", (1, b"", "dvbemu bytes: n0, n1 were read; --node says which is meant\n")),
+    (TWO, "bytes", (1, b"", "dvbemu bytes: n0, n1 were read; choose one with --node\n")),
 ]
 
 
@@ -242,13 +242,13 @@ def test_explain_of_a_node(room):
 
 def test_bytes_of_an_overflow(room):
     status, _, told = room.call("bytes", example("rules/overflow-kept").report)
-    assert status == 0 and "bytes are lost behind byte" in told
+    assert status == 0 and "bytes are lost after byte" in told
 
 
 # ------ a folder of tests: a right one, a wrong one, one by threads, one without a report, one that can't be run; and --update
 
 WRONG = "report line 19: reply; expected overflow 0..564 item=2 need=188 room=0"
-FAULTY = "not ok 1 - faulty\n# steps ends with the status 3: dvbemu: script line 1: command word 2 is 'strat'; expected a command: "
+FAULTY = "not ok 1 - faulty\n# steps exited with status 3: dvbemu: script line 1: command word 2 is 'strat'; expected a command: "
 REST = f"""ok 2 - right
 not ok 3 - threads
 # there is no report: --update writes t/threads.report
@@ -278,7 +278,7 @@ def test_test(room, tests):
 
 def test_test_update(room, tests):
     os.remove(room.folder / "t" / "faulty.script")
-    lines = f"1..3\nok 1 - right\nok 2 - threads\n# written anew: there is no report\nok 3 - wrong\n# written anew: {WRONG}\n"
+    lines = f"1..3\nok 1 - right\nok 2 - threads\n# updated: there is no report\nok 3 - wrong\n# updated: {WRONG}\n"
     assert room.run("test --update t") == (0, lines.encode(), "")
     assert room.read("t/wrong.report") == tests
     # (a lawful report of threads that isn't the one of this run is right)
@@ -296,4 +296,4 @@ def test_test_of_other_batches(room, tests):
 
 def test_test_of_a_report(room, tests):
     status, _, told = room.run("test t/right.report")
-    assert (status, told) == (1, "dvbemu test: t/right.report: it is no session and no script\n")
+    assert (status, told) == (1, "dvbemu test: t/right.report: not a session or script\n")

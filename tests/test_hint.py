@@ -27,7 +27,7 @@ LONG = bytes.fromhex("004271190005").ljust(184, b"\1"), bytes(101)
 HALVES = packet(256, 0, LONG[0], True) + packet(256, 1, LONG[1])
 WHOLE = b"".join(clocked(256, counter) for counter in range(9))
 OPEN = "c0 open n0|"
-NOTHING = "Nothing to tell: packets of its PID passed each filter that ran, each section filter gave something, and no read was answered Overflow."
+NOTHING = "Nothing to report: packets passed every filter, every section filter gave something, and no read got Overflow."
 # A PAT of program 1, with a right CRC_32 (by zlib, of which it is the mirror image).
 PAT = bytes.fromhex("00b00d0001c100000001e100e8f95e7d")
 PATS = in_packets(0, PAT, 4)
@@ -40,9 +40,9 @@ SAID = [
         "This would select 4 of them: `c0 section n0 256 0 5 0=02/ff/00`"]),
     (OPEN + "c0 section n0 256 0 5 0=02/ff/00|feed 9|c0 read n0 99", PMTS, [NOTHING]),
     (OPEN + "c0 section n0 256 0 5 0=02/ff/00|feed 9", PMTS + WRONG, [
-        "8 packets and 8 sections passed while it ran. It selects 4 of these sections, and no read came behind them."]),
+        "8 packets and 8 sections passed while it ran. It selects 4 of these sections, and no read followed."]),
     (OPEN + "c0 section n0 256 0 4|feed 1|c0 start n0|feed 1|c0 read n0 99", HALVES, [
-        "2 packets and 0 sections passed while it ran. No section is whole in them. Of these packets a section begins in 1 ("]),
+        "2 packets and 0 sections passed while it ran. They contain no complete section. Of these packets a section begins in 1 ("]),
     (OPEN + "c0 section n0 256 0 0 0=02/ff/00 1=02/ff/00|feed 1|c0 start n0|feed 2|c0 read n0 99", PMTS, [
         "3 packets and 3 sections passed while it ran.",
         "3 sections: filter byte 1 asks for 0x02 in section byte 3 (table_id_extension), and it is 0x00 (bits 0x02 differ).",
@@ -52,7 +52,7 @@ SAID = [
         "This would select 4 of them: `c0 section n0 256 0 4 5=00/ff/00` If filter byte 5 is meant for section byte 5 (version_number, "
         "current_next_indicator), it is filter byte 3, and 0xC1 stands there; this would select 4: `c0 section n0 256 0 4 3=c1/ff/00`"]),
     (OPEN + "c0 section n0 256 0 5 0=02/ff/00|feed 9|c0 read n0 99", WRONG, [
-        "4 of these sections match its bytes; their CRC_32 is wrong, and flag 1 leaves them out.",
+        "4 of these sections match its bytes; their CRC_32 is wrong, and flag 1 rejects them.",
         "This would select 4 of them: `c0 section n0 256 0 4 0=02/ff/00`"]),
     (OPEN + "c0 section n0 256 0 4 3=c1/3f/3f|feed 9|c0 read n0 99", PMTS, [
         "4 sections: filter byte 3 wants one of the bits 0x3F of section byte 5 (version_number, current_next_indicator) to differ, and none "
@@ -65,23 +65,23 @@ SAID = [
         "8 packets and 2 sections passed while it ran. These are packets of a stream: PES packets begin in them (2 packets of stream_id 0xE0 "
         "(video stream 0)). `pes` takes them."]),
     (OPEN + "c0 section n0 256 0 4|feed 9|c0 read n0 99", packet(256, 0, b"\0", False) + b"\x47\xc1\0\x91".ljust(188, b"\0"), [
-        "2 packets and 0 sections passed while it ran. No section is whole in them. Of these packets a section begins in 1 "
+        "2 packets and 0 sections passed while it ran. They contain no complete section. Of these packets a section begins in 1 "
         "(payload_unit_start_indicator), the error bit is set in 1, the payload is scrambled in 1."]),
     (OPEN + "c0 section n0 300 0 4|feed 9|c0 read n0 99", PMTS, [
         "Client 0, line 2, n0: the section filter of PID 300 (0x12C) gave nothing: no packet of its PID passed while it ran; the stream has none."]),
     (OPEN + "feed 4|c0 pes n0 256 frontend tsdemux_tap 20 4|feed 1|c0 read n0 99", PMTS + PATS, [
         "line 3, n0: the PES filter of PID 256 (0x100) gave nothing: no packet of its PID passed while it ran; the stream has 4 packets of it."]),
     (OPEN + "c0 pes n0 256 frontend tsdemux_tap 20 4|c0 add n0 301|feed 9|c0 read n0 99", PMTS, [NOTHING]),
-    (OPEN + "c0 section n0 256 0 0|feed 9", PMTS, ["Nothing to tell: no filter ran."]),
+    (OPEN + "c0 section n0 256 0 0|feed 9", PMTS, ["Nothing to report: no filter ran."]),
     (OPEN + "c0 size n0 377|c0 pes n0 256 frontend tsdemux_tap 20 4|feed 3|c0 read n0 9|feed 6|c0 read n0 9", WHOLE, [
-        "Client 0, line 5, n0: the Overflow 0..564 lost 3 packets, of the stream's packets 0 to 2, at 0.000 s to 0.200 s from the first PCR on.",
-        "Client 0, line 7, n0: the Overflow 564..1692 lost 6 packets, of the stream's packets 3 to 8, at 0.300 s to 0.800 s from the first PCR on."]),
+        "Client 0, line 5, n0: an overflow (bytes 0 to 563) lost 3 packets, of the stream's packets 0 to 2, 0.000 s to 0.200 s after the first PCR.",
+        "Client 0, line 7, n0: an overflow (bytes 564 to 1691) lost 6 packets, of the stream's packets 3 to 8, 0.300 s to 0.800 s after the first PCR."]),
     (OPEN + "c0 size n0 377|c0 pes n0 256 frontend tsdemux_tap 20 260|feed 3|c0 readw n0 376|c0 read n0 9", WHOLE, [
-        "Client 0, line 6, n0: the Overflow 376..564 lost 1 packet, of the stream's packet 2, at 0.200 s from the first PCR on."]),
+        "Client 0, line 6, n0: an overflow (bytes 376 to 563) lost 1 packet, of the stream's packet 2, 0.200 s after the first PCR."]),
     (OPEN + "c0 size n0 20|c0 section n0 256 0 4|feed 1|c0 read n0 16|feed 3|c0 read n0 9", PMTS, [
-        "Client 0, line 7, n0: the Overflow 16..64 lost 3 sections, whose last bytes came by the stream's packets 1 to 3."]),
+        "Client 0, line 7, n0: an overflow (bytes 16 to 63) lost 3 sections, whose last bytes came by the stream's packets 1 to 3."]),
     ("c0 open dvr|c0 size dvr 377|c0 open n0|c0 pes n0 256 frontend ts_tap 20 4|feed 3|c0 read dvr 9", WHOLE, [
-        "Client 0, line 6, the dvr node: the Overflow 0..564 lost 3 packets, of the stream's packets 0 to 2,"]),
+        "Client 0, line 6, the dvr node: an overflow (bytes 0 to 563) lost 3 packets, of the stream's packets 0 to 2,"]),
 ]  # fmt: skip
 
 # The same, and what mustn't stand in the page: a byte goes nowhere else because its value happens to stand there.
@@ -136,13 +136,13 @@ def test_filter_of_a_served_client(hint):
 def test_parts(hint, report_of, words, count):
     script = "c0 open n0|c0 section n0 256 0 4 0=43/ff/00|c1 open n1|c1 size n1 20|c1 section n1 256 0 4|feed 4|c1 read n1 9"
     told = hint(report_of(script, PMTS), session_of(script, PMTS), *words).out
-    assert told.count("Client ") == count and ("Nothing to tell" in told) == (count == 0)
+    assert told.count("Client ") == count and ("Nothing to report" in told) == (count == 0)
 
 
 def test_the_word_that_it_was(tool):
     ran = tool("hint", "report", "session")
     assert (ran.status, ran.out) == (2, "")
-    assert ran.err.endswith("\ndvbemu: error: `hint` is a part of `explain`: dvbemu explain REPORT SESSION\n")
+    assert ran.err.endswith("\ndvbemu: error: `hint` is now part of `explain`: dvbemu explain REPORT SESSION\n")
 
 
 def test_sections_come_packet_by_packet():

@@ -101,7 +101,7 @@ PAGES = [
      ["Client 0", "line 2: opens n1", "n1 without a filter", "Client 1", "line 3, n1: a read gives no bytes"],
      ["The stream", "line 1:"]),
     ("c0 open n0|c0 open n1|c0 read n1 9|c1 open n1", b"", ["--client", "c1"],
-     ["Client 1", "line 4: opens n1: Busy, client 0 is its owner.", "None: this report shows nothing"],
+     ["Client 1", "line 4: opens n1: Busy, client 0 is its owner.", "No hints."],
      ["The stream", "Client 0", "line 3"]),
     ("c0 open n0|c0 open n1|c1 open n1", b"", ["--node", "1", "--client", "0"], ["Client 0", "line 2: opens n1: Done."],
      ["Client 1", "line 1:"]),
@@ -110,8 +110,8 @@ PAGES = [
 REFUSED = [
     (["--node", "n3"], "dvbemu explain: no client called n3\n", 1),
     (["--client", "2"], "dvbemu explain: the report has no client 2\n", 1),
-    (["--node", "n32"], "dvbemu explain: error: argument --node: n0 to n31 or dvr is expected, and not 'n32'\n", 2),
-    (["--client", "c8"], "dvbemu explain: error: argument --client: c0 to c7 is expected, and not 'c8'\n", 2),
+    (["--node", "n32"], "dvbemu explain: error: argument --node: expected n0 to n31 or dvr, got 'n32'\n", 2),
+    (["--client", "c8"], "dvbemu explain: error: argument --client: expected c0 to c7, got 'c8'\n", 2),
 ]
 
 

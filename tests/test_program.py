@@ -36,7 +36,7 @@ def test_too_little_stack_is_told(line):
 def test_lines_behind_stream_are_told(cli, tmp_path):
     script = tmp_path / "script"
     script.write_text("c0 open n0\nstream\nc0 close n0\n")
-    told = f"dvbemu: {script}: line 3, 'c0 close n0', stands behind `stream`: a part of the stream, and no call\n"
+    told = f"dvbemu: {script}: line 3, 'c0 close n0', follows `stream`, so it is part of the stream, not a call\n"
     assert (cli("steps", str(script), str(STREAM)).status, cli("steps", str(script), str(STREAM)).err) == (0, told)
 
 
@@ -44,7 +44,7 @@ def test_a_text_as_a_stream_is_told(cli, tmp_path):
     script, text = tmp_path / "script", EXAMPLES / "programs" / "dvbv5.conf"
     script.write_text("c0 open n0\n")
     done = cli("steps", str(script), str(text))
-    assert (done.status, done.err) == (0, f"dvbemu: {text}: this is a text, and no stream of packets\n")
+    assert (done.status, done.err) == (0, f"dvbemu: {text}: this is text, not a transport stream\n")
 
 
 # Ends with the status of a program, and prints the most memory that it held, in KiB. What started it counts too, so it is started by a small one.

@@ -293,7 +293,7 @@ def test_report_that_no_word_names(served):
     assert "dvbemu serve: the report is dvbemu.report; `dvbemu explain " in served.call(words, ["true"])[0]
     served.path("dvbemu.report").unlink()
     served.path("dvbemu.report").symlink_to("/nowhere/r")
-    told = "dvbemu serve: dvbemu.report: No such file or directory; --report FILE names another file\n"
+    told = "dvbemu serve: dvbemu.report: No such file or directory; give another name with --report FILE\n"
     assert served.call(words, ["true"]) == (told, 1)
 
 

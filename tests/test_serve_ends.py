@@ -177,7 +177,7 @@ def test_an_opened_adapter_is_seen(served, opened):
 def test_unseen_of_other_files(tmp_path, small):
     data = Path(small("-static")).read_bytes()
     (tmp_path / "other").write_bytes(data[:4] + b"\1" + data[5:])
-    assert unseen_as(str(tmp_path / "other")) == "is a program of 32 bits"
+    assert unseen_as(str(tmp_path / "other")) == "is a 32-bit program"
     assert unseen_as(str(tmp_path / "small.c")) is None
 
 

@@ -25,46 +25,46 @@ if TYPE_CHECKING:
 
 ABOUT = "/dev/dvb/adapter0 without a card: DVB programs, or their calls as lines, on a recording."
 ABOVE = "Proved, by the toolchain that --version names (docs/PROVED.md):"
-BELOW = "`dvbemu WORD --help` tells the rest: files, options, statuses, an example. `dvbemu --version` tells the version."
+BELOW = "`dvbemu WORD --help` has files, options, exit statuses and an example. `dvbemu --version` prints the version."
 BATCH, PACKET = "[--batch B]", "[--packet P]"
 # The words of the proved program: what stands behind each, and what it does.
 PROVED = {
-    "steps": (f"{BATCH} {PACKET} [SCRIPT [STREAM ..]]", "does the calls of a script in their order, over the streams, and writes a report"),
-    "run": (f"{BATCH} {PACKET} [SCRIPT [STREAM ..]]", "does them on threads, one for each client and one for the stream"),
-    "check": (f"{PACKET} [REPORT SCRIPT [STREAM ..]]", "whether that is the report of a run of the script: yes or no"),
-    "make": ("N", "writes the session of this number"),
-    "selftest": (f"N {BATCH}", "runs the session of this number, and writes its sums"),
+    "steps": (f"{BATCH} {PACKET} [SCRIPT [STREAM ..]]", "runs a script's calls, in order, against the streams, and prints a report"),
+    "run": (f"{BATCH} {PACKET} [SCRIPT [STREAM ..]]", "runs a script with one thread per client and one for the stream; reports differ from run to run"),
+    "check": (f"{PACKET} [REPORT SCRIPT [STREAM ..]]", "checks that a report is valid for a script and its streams: yes or no"),
+    "make": ("N", "generates the test session with this number"),
+    "selftest": (f"N {BATCH}", "runs the test session with this number, and prints its sums"),
 }
 # The tools, each a module of `commands`, and what it does.
 TOOLS = {
-    "serve": "runs DVB programs, as they are, on a recording, and writes a report of their calls",
+    "serve": "runs unmodified DVB programs on a recording, and writes a report of their calls",
     "fuzz": "runs a program before mutated copies of a recording, and keeps small streams before which it fails",
-    "explain": "tells a report in sentences, with hints; with its stream too, why filters got nothing",
+    "explain": "explains a report in plain English, with hints; with its stream, why filters got nothing",
     "beside": "tells which replies of a session Linux would give otherwise, and why",
     "picture": "draws a report",
     "page": "writes a report as a page for a browser",
     "json": "writes a report as JSON Lines, and back",
-    "bytes": "the bytes that were read from a node, as a file",
-    "session": "makes a session of a report of `serve`, for `steps`",
+    "bytes": "writes the bytes that were read from a node",
+    "session": "turns a report of `serve` into a session that replays it",
     "test": "runs a folder of sessions, and compares their reports",
-    "words": "writes a script with names and hexadecimal numbers as a plain one",
-    "packet": "makes packets of a section or a payload",
+    "words": "translates names and hexadecimal numbers in a script",
+    "packet": "makes packets from a section or a payload",
     "pace": "writes a stream at the pace of its program clock, for `run`",
-    "calls": "writes the calls of a program on a real adapter as a script",
-    "merge": "makes the report of a folder of `serve --keep FOLDER`",
-    "build": "proves and builds the program, or the server of `serve`, ahead of their first use",
+    "calls": "records the calls of a program on a real adapter as a script",
+    "merge": "makes a report from a folder of `serve --keep FOLDER`",
+    "build": "proves and builds the program, or the server of `serve`, in advance",
 }
 # Words that there were, and where what they did is now.
 MOVED = {
-    "hint": "`hint` is a part of `explain`: dvbemu explain REPORT SESSION",
-    "why": "`dvbemu check REPORT SESSION [STREAM ..]` tells what is wrong with a report now, and what was expected there",
+    "hint": "`hint` is now part of `explain`: dvbemu explain REPORT SESSION",
+    "why": "`dvbemu check REPORT SESSION [STREAM ..]` now says what is wrong with a report, and what was expected",
 }
-STATUSES = "0; 1 where {}a file can't be read; 2 for wrong words; 3 where the script has a fault; 5 to 7 where reading, writing or " \
-    "memory failed (docs/BEHAVIOUR.md, 'Statuses'); 128 and the number of a signal that has ended the program"
-READS = "{}a script, or a session that has its stream, and streams behind it; a script without its line `stream` gets it " \
-    "in front of a stream. A file may be `-`, standard input. "
-ALONE = "Without a file standard input is the session"
-ASKED = "Without a file standard input is the line `report N`, a report of N bytes, and its session, and the status is 0 for `no` too"
+STATUSES = "0; 1 if {}a file can't be read; 2 for a usage error; 3 if the script has an error; 5 to 7 if reading, writing or " \
+    "memory failed (docs/BEHAVIOUR.md, 'Statuses'); 128 plus the number of a signal that ended the program"
+READS = "{}a script, or a session with its stream, then more streams; a script without its line `stream` gets it " \
+    "before the first stream. A file may be `-`, standard input. "
+ALONE = "Without files the session is read from standard input"
+ASKED = "Without files standard input has the line `report N`, a report of N bytes, and its session; the status is then 0 for `no` too"
 
 
 def whole_help() -> str:
@@ -76,21 +76,21 @@ def whole_help() -> str:
 def command(word: str) -> tool.Command:
     """A word of the proved program, with the words that may stand behind it."""
     usage, what = PROVED[word]
-    told = {"reads": "nothing", "writes": "the session" if word == "make" else "one line", "status": "0; 2 for wrong words; 6, 7",
+    told = {"reads": "nothing", "writes": "the session" if word == "make" else "one line", "status": "0; 2 for a usage error; 6 if writing failed; 7 if out of memory",
             "example": f"dvbemu {word} 7"}  # fmt: skip
     if word in ("steps", "run"):
         told = {"reads": READS.format("") + ALONE, "writes": "the report", "status": STATUSES.format(""), "example": f"dvbemu {word} my.script my.ts > my.report"}
     elif word == "check":
-        told = {"reads": READS.format("a report; and ") + ASKED, "writes": "yes or no; what is wrong and what was expected is told on standard error",
+        told = {"reads": READS.format("a report; and ") + ASKED, "writes": "yes or no; on standard error what is wrong and what was expected",
                 "status": STATUSES.format("the answer is no or "), "example": "dvbemu check my.report my.script my.ts"}  # fmt: skip
     words = tool.Command(word, usage, f"{what[0].upper()}{what[1:]}.", teller="dvbemu", **told)
     if word in ("steps", "run", "selftest"):
-        words.add_argument("--batch", action=tool.Once, type=tool.number(1, 64, True), metavar="B", help="the most packets of a batch, 1 to 64; without it, 64")
+        words.add_argument("--batch", action=tool.Once, type=tool.number(1, 64, True), metavar="B", help="the maximum number of packets in a batch, 1 to 64; default 64")
     if word in ("steps", "run", "check"):
-        words.add_argument("--packet", action=tool.Once, type=int, choices=(188, 204), metavar="P", help="the bytes that a packet takes up: 188, or 204")
-        words.add_argument("files", metavar="FILE", nargs="*", help="the files, in the order of the usage")
+        words.add_argument("--packet", action=tool.Once, type=int, choices=(188, 204), metavar="P", help="the packet size in the stream: 188 (default) or 204")
+        words.add_argument("files", metavar="FILE", nargs="*", help="the files, in the order shown above")
     else:
-        words.add_argument("number", metavar="N", type=tool.number(0, 2**64 - 1, True), help="the number of a session, below 2^64")
+        words.add_argument("number", metavar="N", type=tool.number(0, 2**64 - 1, True), help="the session's number, below 2^64")
     return words
 
 

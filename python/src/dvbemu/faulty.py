@@ -1,5 +1,5 @@
 """What a script's fault may be about, for those who have written it: behind the two lines of the program a third one. And what is likely a
-mistake, though it is none by the rules: what stands behind the line `stream` where packets should."""
+mistake, though it is none by the rules: what follows the line `stream` where packets should."""
 from __future__ import annotations
 
 import codecs
@@ -25,7 +25,7 @@ def usage(word: str, names: Iterable[str]) -> str:
 def words_of(names: Sequence[str], plain: str) -> str:
     """The line that names the translator."""
     script = names[0] if names[0] != "-" else "SCRIPT"
-    return f"`dvbemu words {script}` takes it, and writes '{plain}'"
+    return f"`dvbemu words {script}` translates it to '{plain}'"
 
 
 def of_file(script: bytes, names: Sequence[str], word: str) -> str:
@@ -35,7 +35,7 @@ def of_file(script: bytes, names: Sequence[str], word: str) -> str:
     if script.startswith(REPORT) and word == "check":
         return f"{names[0]}: this is a report, which comes first: " + " ".join(["dvbemu", word, names[0], "SCRIPT", *names[1:]])
     if script.startswith(REPORT):
-        return f"{names[0]}: this is a report, and no script: `dvbemu explain {names[0]}` tells it"
+        return f"{names[0]}: this is a report, not a script: `dvbemu explain {names[0]}` explains it"
     return ""
 
 
@@ -118,6 +118,6 @@ def warnings(head: bytes, files: Sequence[inputs.Input]) -> str:
     place, told = inputs.stream_at(head), []
     if place >= 0 and (found := LINE.match(head, place + len(inputs.LINE))):
         line, text = head.count(b"\n", 0, found.start()) + 1, found[0].decode(errors="replace")
-        told = [f"{files[0].name}: line {line}, '{text}', stands behind `stream`: a part of the stream, and no call"]
-    told += [f"{file.name}: this is a text, and no stream of packets" for file in files[1:] if is_text(file.beginning)]
+        told = [f"{files[0].name}: line {line}, '{text}', follows `stream`, so it is part of the stream, not a call"]
+    told += [f"{file.name}: this is text, not a transport stream" for file in files[1:] if is_text(file.beginning)]
     return "".join(f"dvbemu: {line}\n" for line in told)

@@ -48,11 +48,11 @@ class Input:
         try:
             piece = os.read(self.file, most)
         except OSError as fault:
-            raise Broken(self.name, f"reading failed behind {many(self.taken, 'byte')}: {fault.strerror}") from None
+            raise Broken(self.name, f"reading failed after {many(self.taken, 'byte')}: {fault.strerror}") from None
         self.beginning = self.beginning or piece[:BEGINNING]
         self.taken += len(piece)
         if not piece and self.size is not None and self.taken < self.size:
-            raise Broken(self.name, f"it ended behind {self.taken:,} of its {many(self.size, 'byte')}")
+            raise Broken(self.name, f"it ended after {self.taken:,} of its {many(self.size, 'byte')}")
         return piece
 
     def pieces(self) -> Iterator[bytes]:
@@ -68,7 +68,7 @@ class Input:
 def opened(names: list[str]) -> list[Input]:
     """These files, each of them open; none is named twice as standard input."""
     if names.count("-") > 1:
-        raise Broken("-", "standard input can be named once")
+        raise Broken("-", "standard input can be given only once")
     return [Input(name) for name in names]
 
 

@@ -1,4 +1,4 @@
-"""Reads what GNU parallel has written of its jobs (--joblog): a line a job with its number, host, status, signal and command."""
+"""Reads a job log of GNU parallel (--joblog): a line a job with its number, host, status, signal and command."""
 from __future__ import annotations
 
 from typing import NamedTuple

@@ -96,7 +96,7 @@ def overview() -> str:
     return "".join([
         head("dvbemu", "/dev/dvb/adapter0 without a card, for tests"), section("SYNOPSIS", ".B dvbemu", "WORD .."),
         section("DESCRIPTION", plain(cli.ABOUT)), section("COMMANDS", *words),
-        section("OPTIONS", ".TP\n.B \\-\\-help\nthe words; behind a word its own help", ".TP\n.B \\-\\-version\nthe version, and what proved it"),
+        section("OPTIONS", ".TP\n.B \\-\\-help\nshow the commands; after a command, its help", ".TP\n.B \\-\\-version\nthe version, and what proved it"),
         section("EXIT STATUS", *statuses(cli.STATUSES.format(""))),
         section("EXAMPLES", plain("dvbemu serve --packets 3000 --report r my.ts -- dvbv5-scan dvbv5.conf; dvbemu explain r")),
         section("SEE ALSO", ", ".join([*(f"dvbemu\\-{word}(1)" for word in (*cli.PROVED, *cli.TOOLS)), SEE])),

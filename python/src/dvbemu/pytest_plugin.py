@@ -43,7 +43,7 @@ def dvb_adapter(request: pytest.FixtureRequest) -> Iterator[Adapter]:
     """An adapter that plays what the test's marker `dvb` names."""
     marker = request.node.get_closest_marker("dvb")
     if marker is None:
-        raise pytest.UsageError(f"{request.node.name}: dvb_adapter wants a marker, as @pytest.mark.dvb('my.ts')")
+        raise pytest.UsageError(f"{request.node.name}: dvb_adapter needs a marker, such as @pytest.mark.dvb('my.ts')")
     folder = os.path.dirname(str(request.node.path))
     words = dict(marker.kwargs)
     streams = [os.path.join(folder, stream) for stream in marker.args]

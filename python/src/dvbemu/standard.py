@@ -102,7 +102,7 @@ def end_by(number: int) -> int:
 
 def how(status: int) -> str:
     """How a process has ended that has this status."""
-    return f"was ended by signal {-status}" if status < 0 else f"ends with the status {status}"
+    return f"was killed by signal {-status}" if status < 0 else f"exited with status {status}"
 
 
 def place_of(fault: BaseException) -> str:
@@ -121,7 +121,7 @@ def told_of(fault: BaseException) -> tuple[str, int]:
         return "out of memory", NO_MEMORY
     if isinstance(fault, OSError):
         return ": ".join(str(part) for part in (fault.filename, fault.strerror or fault) if part), READ_WRONG
-    return f"a fault of this program, at {place_of(fault)}: {type(fault).__name__}: {fault}".replace("\n", " "), INTERNAL
+    return f"internal error, at {place_of(fault)}: {type(fault).__name__}: {fault}".replace("\n", " "), INTERNAL
 
 
 def status_of(teller: str, main: Callable[..., int | None], *words: str) -> int | str | None:
@@ -144,7 +144,7 @@ def status_of(teller: str, main: Callable[..., int | None], *words: str) -> int 
 
 
 def run(teller: str, main: Callable[..., int | None], *words: str) -> NoReturn:
-    """Runs a command, and ends with the status that it gives."""
+    """Runs a command, and exited with status that it gives."""
     hold()
     # (where the caller waits for no child, neither would this)
     signal.signal(signal.SIGCHLD, signal.SIG_DFL)

@@ -1,6 +1,6 @@
 """What the commands of dvbemu share: one form of --help, --version and errors, files or standard input, and how they end.
 
-A command is a script of tools/, which `dvbemu WORD` runs. Its statuses: 0, 1 where a file can't be read or isn't what it should be, 2
+A command is a script of tools/, which `dvbemu WORD` runs. Its statuses: 0, 1 where a file can't be read or is of the wrong kind, 2
 where a word of the command line is wrong, and what its own help says beside these. What it can't do it tells in one line on standard
 error, `dvbemu WORD: ..`; standard.py does so of all that no command looks after itself: 6 where standard output takes no more, 7 where
 memory is missing, 70 for a fault of its own. A reader that has seen enough ends it quietly, and so does Ctrl-C, which a shell sees as the
@@ -25,7 +25,7 @@ ROOT = os.path.normpath(os.path.join(os.path.dirname(os.path.realpath(__file__))
 PARTS = ("reads", "writes", "status", "example")
 WIDTH = 120
 # What --version tells where nothing is proved of the program that runs.
-HASTY = "not proved: compiled in haste (DVBEMU_UNPROVED)"
+HASTY = "not proved: built with DVBEMU_UNPROVED"
 
 # (set where this is read, so that what a command reads behind it ends quietly too)
 signal.signal(signal.SIGPIPE, signal.SIG_DFL)
@@ -71,7 +71,7 @@ class Once(argparse.Action):
 
     def __call__(self, parser: argparse.ArgumentParser, namespace: argparse.Namespace, values: object, option_string: str | None = None) -> None:
         if getattr(namespace, self.dest) is not None:
-            raise argparse.ArgumentError(self, "it stands twice")
+            raise argparse.ArgumentError(self, "given twice")
         setattr(namespace, self.dest, values)
 
 
@@ -86,15 +86,15 @@ class Command(argparse.ArgumentParser):
     """A command: its word, the words behind that, what it does, and what it reads, writes and ends with, and an example."""
 
     # The statuses of all tools, behind their own.
-    others = "; 6 where standard output can't be written; 7 where memory is missing; 70 for a fault of the tool itself"
+    others = "; 6 if standard output can't be written; 7 if out of memory; 70 for a bug in the tool"
 
     def __init__(self, word: str, usage: str, about: str, teller: str | None = None, **told: str) -> None:
         self.teller = teller or f"dvbemu {word}"
         self.told = told
         super().__init__(prog=f"dvbemu {word}", usage=f"dvbemu {word} {usage}", description=about, add_help=False, formatter_class=Page,
                          allow_abbrev=False)  # fmt: skip
-        self.add_argument("-h", "--help", action="help", help="this text")
-        self.add_argument("--version", action=Version, nargs=0, help="the version, its commit, and the toolchain that proved it")
+        self.add_argument("-h", "--help", action="help", help="show this help")
+        self.add_argument("--version", action=Version, nargs=0, help="show the version, its commit, and the toolchain that proved it")
 
     def statuses(self) -> str:
         """The exit statuses, and what they mean."""
@@ -132,7 +132,7 @@ class Command(argparse.ArgumentParser):
         if sys.stdin is None:
             self.fail("standard input: it is closed")
         if sys.stdin.closed:
-            self.fail("-: standard input can be named once")
+            self.fail("-: standard input can be given only once")
         self.tell_waiting()
         return sys.stdin.buffer
 
@@ -157,7 +157,7 @@ def reader(function: Callable[[str], T], expected: str) -> Callable[[str], T]:
         try:
             return function(word)
         except (ValueError, KeyError):
-            raise argparse.ArgumentTypeError(f"{expected} is expected, and not '{word}'") from None
+            raise argparse.ArgumentTypeError(f"expected {expected}, got '{word}'") from None
 
     return read
 

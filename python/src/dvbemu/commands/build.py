@@ -10,10 +10,10 @@ def command() -> tool.Command:
     words = tool.Command(
         "build",
         "PROGRAM ..",
-        "Proves and builds a program, as the first call that needs it does: dvbemu, or dvb_serve, the server of `serve`.",
+        "Proves and builds a program in advance: dvbemu, or dvb_serve, the server of `serve`.",
         reads="the crates of this repository; the toolchain's command rt has to be in the PATH",
         writes="the path of each program; on standard error how far it is",
-        status="0 where the programs are built; 1 where they can't be; 2 for wrong words",
+        status="0 if the programs are built; 1 if they can't be; 2 for a usage error",
         example="dvbemu build dvbemu dvb_serve",
     )
     words.add_argument("programs", metavar="PROGRAM", nargs="+", choices=[*build.PROGRAMS], help="dvbemu or dvb_serve")

@@ -30,17 +30,17 @@ def command() -> tool.Command:
     words = tool.Command(
         "bytes",
         "[--node NODE] [-o FILE] [REPORT]",
-        "Writes the bytes that were read from a node, as a file: what a recorder would have on its disk.",
-        reads="a report, from the file REPORT; from standard input without it or for `-`",
+        "Writes the bytes that were read from a node: what a recorder would have on disk.",
+        reads="a report, from the file REPORT; without it, or with `-`, from standard input",
         writes="the bytes, on standard output or into FILE; on standard error what was lost between them, and "
         "what was asked for and refused",
-        status="0, where bytes were lost too; 1 where a file can't be read or written, REPORT is no report, nobody has read, or "
-        "several nodes were read and none is named; 2 for wrong words",
+        status="0, even if bytes were lost; 1 if a file can't be read or written, REPORT isn't a report, nothing was read, or "
+        "several nodes were read and --node is missing; 2 for a usage error",
         example="dvbemu steps record.script my.ts | dvbemu bytes --node dvr -o recorded.ts",
     )
-    words.add_argument("--node", metavar="NODE", type=tool.reader(reports.node_of, "n0 to n31 or dvr"), help="which node: n0 to n31, or dvr; "
-                       "without it the one that was read")  # fmt: skip
-    words.add_argument("-o", metavar="FILE", dest="to", help="where the bytes are written, if not to standard output")
+    words.add_argument("--node", metavar="NODE", type=tool.reader(reports.node_of, "n0 to n31 or dvr"), help="the node: n0 to n31, or dvr; "
+                       "default: the one that was read")  # fmt: skip
+    words.add_argument("-o", metavar="FILE", dest="to", help="the output file; default: standard output")
     words.add_argument("report", metavar="REPORT", nargs="?", help="the report")
     return words
 
@@ -62,9 +62,9 @@ def chosen(words: tool.Command, given: Namespace, report: Report) -> int:
         for node, entries in sorted(report.nodes.items()):
             for entry in entries:
                 tell_lost(words, node, entry, 0)
-        words.fail("nobody has read a byte; `dvbemu explain` says more")
+        words.fail("no byte was read; `dvbemu explain` says more")
     if len(found) > 1:
-        words.fail(f"{', '.join(map(reports.node_name, found))} were read; --node says which is meant")
+        words.fail(f"{', '.join(map(reports.node_name, found))} were read; choose one with --node")
     return found[0]
 
 
@@ -95,7 +95,7 @@ def tell_lost(words: tool.Command, node: int, entry: Entry, written: int) -> Non
     if entry.reply.startswith("overflow "):
         first, after = reports.span(entry.reply.split(" ")[1])
         lost = many(after - first, "byte is", "bytes are")
-        print(f"{words.prog}: {reports.node_name(node)}: {lost} lost behind byte {written:,} (place {entry.place}: {entry.reply})",
+        print(f"{words.prog}: {reports.node_name(node)}: {lost} lost after byte {written:,} (place {entry.place}: {entry.reply})",
               file=sys.stderr)  # fmt: skip
 
 

@@ -212,15 +212,15 @@ def command() -> tool.Command:
         "Runs a program on an adapter and writes its calls on demux and dvr devices as a script (x86-64 Linux).",
         reads="the program's calls; its standard input is the program's",
         writes="the script, which ends with the line `stream`, into FILE or on standard output",
-        status="that of the program, 128 and the signal's number where one ended it; 127 where there is no such program; 1 where FILE "
-        "can't be written; 2 for wrong words",
+        status="that of the program, 128 plus the signal's number if one ended it; 127 if it doesn't exist; 1 if FILE "
+        "can't be written; 2 for a usage error",
         example="dvbemu calls --to my.script my-receiver ..; dvbemu steps my.script my.ts",
     )
-    told.add_argument("--to", metavar="FILE", help="where the script is written, if not to standard output")
+    told.add_argument("--to", metavar="FILE", help="the output file; default: standard output")
     told.add_argument("--demux", metavar="PATH", type=literal, default=r"/dev/dvb/adapter\d+/demux\d+",
-                      help="another file that is taken for the demux device")  # fmt: skip
+                      help="another file to treat as the demux device")  # fmt: skip
     told.add_argument("--dvr", metavar="PATH", type=literal, default=r"/dev/dvb/adapter\d+/dvr\d+",
-                      help="another file that is taken for the dvr device")  # fmt: skip
+                      help="another file to treat as the dvr device")  # fmt: skip
     told.add_argument("--plain", action="store_true", help="plain commands in place of request numbers and bytes")
     told.add_argument("program", metavar="PROGRAM", nargs=argparse.REMAINDER, help="the program and its arguments")
     return told

@@ -23,11 +23,11 @@ def command() -> tool.Command:
     words = tool.Command(
         "explain",
         "[--node NODE] [--client CLIENT] [REPORT [SESSION]]",
-        "Tells a report in sentences, with hints: what each client asked, got, lost and was refused; with its stream, why filters got nothing.",
-        reads="a report, as `steps`, `run` and `serve` write it, from the file REPORT; from standard input without it or for `-`; and SESSION, "
-        "of which it is one: script and stream, or the recording that `serve` played",
+        "Explains a report in plain English, with hints: what each client asked for, got, lost and was refused; with its stream, why filters got nothing.",
+        reads="a report, as `steps`, `run` and `serve` write it, from the file REPORT; without it, or with `-`, from standard input; and SESSION, "
+        "its session, script and stream, or the recording that `serve` played",
         writes="text",
-        status="0; 1 where a file can't be read, or isn't what it should be; 2 for wrong words",
+        status="0; 1 if a file can't be read, or is of the wrong kind; 2 for a usage error",
         example="dvbemu steps my.script my.ts | dvbemu explain --node n0",
     )
     words.add_argument("--node", metavar="NODE", type=tool.reader(reports.node_of, "n0 to n31 or dvr"), help="only what concerns this node: n0 to n31, or dvr")

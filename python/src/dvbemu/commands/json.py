@@ -19,12 +19,12 @@ def command() -> tool.Command:
         "json",
         "[--back] [REPORT]",
         "Writes a report as JSON Lines: an object for each row of the stream, each command of a client and each entry of a node.",
-        reads="a report, from the file REPORT; from standard input without it or for `-`. With --back what json has written",
+        reads="a report, from the file REPORT; without it, or with `-`, from standard input. With --back the output of json",
         writes="JSON Lines in the form of docs/JSON.md, whose schema is docs/report.schema.json; with --back a report",
-        status="0; 1 where REPORT can't be read, or isn't what it should be; 2 for wrong words",
+        status="0; 1 if REPORT can't be read, or is of the wrong kind; 2 for a usage error",
         example="dvbemu json my.report | jq 'select(.reply.name == \"overflow\")'",
     )
-    words.add_argument("--back", action="store_true", help="writes the report that JSON Lines are")
+    words.add_argument("--back", action="store_true", help="convert JSON Lines back to a report")
     words.add_argument("report", metavar="REPORT", nargs="?", help="the report, or the JSON Lines")
     return words
 

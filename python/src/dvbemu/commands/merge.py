@@ -127,12 +127,12 @@ class Folder:
         if not os.path.isdir(path):
             raise Torn(f"{path}: {'it is no folder' if os.path.exists(path) else 'No such file or directory'}")
         if not os.path.exists(head):
-            raise Torn(f"{path} has no file `head`: the server hasn't ended, or this is no folder of one")
+            raise Torn(f"{path} has no file `head`: the server is still running, or this isn't a --keep folder")
         try:
             with opened(head) as file:
                 self.stream = reports.read(file)
         except NotAReport:
-            raise Torn(f"{head} isn't whole") from None
+            raise Torn(f"{head} isn't complete") from None
         paths = glob.glob(os.path.join(glob.escape(path), "*.calls"))
         for name in paths:
             self.take(name)
@@ -187,10 +187,10 @@ def command() -> tool.Command:
     words = tool.Command(
         "merge",
         "FOLDER",
-        "Makes one report of the calls that `serve --keep FOLDER` has written, each into its program's file.",
-        reads="FOLDER, in which the server has ended",
+        "Makes a report from the calls that `serve --keep FOLDER` has written.",
+        reads="FOLDER, whose server has ended",
         writes="the report, as it comes; what was written before an error is no report",
-        status="0; 1 where a file can't be read, a line is missing, torn or wrong, or the server hasn't ended; 2 for wrong words",
+        status="0; 1 if a file can't be read, a line is missing, torn or wrong, or the server is still running; 2 for a usage error",
         example="dvbemu merge calls > my.report",
     )
     words.add_argument("folder", metavar="FOLDER", help="the folder")

@@ -36,12 +36,12 @@ def command() -> tool.Command:
         "pace",
         "[--rate R] [--pid P] [STREAM]",
         "Writes a stream at the pace of its program clock (PCR), so that `run` meets it as a receiver would.",
-        reads="a transport stream, from the file STREAM; from standard input without it or for `-`",
+        reads="a transport stream, from the file STREAM; without it, or with `-`, from standard input",
         writes="the same bytes, each when it is due",
-        status="0; 1 where STREAM can't be read or has fewer than two PCRs; 2 for wrong words",
+        status="0; 1 if STREAM can't be read or has fewer than two PCRs; 2 for a usage error",
         example="dvbemu pace --rate 2 my.ts | dvbemu run my.script -",
     )
-    words.add_argument("--rate", type=tool.reader(rate, "a number above 0"), default=1.0, metavar="R", help="so many times as fast; a number above 0")
+    words.add_argument("--rate", type=tool.reader(rate, "a number above 0"), default=1.0, metavar="R", help="play R times as fast; R is above 0")
     words.add_argument("--pid", type=tool.number(0, 8191), metavar="P", help="the PID whose PCRs are the clock")
     words.add_argument("stream", metavar="STREAM", nargs="?", help="a transport stream")
     return words
@@ -76,6 +76,6 @@ def main() -> None:
             write(timed(chunks_of(file), given.pid), given.rate, sys.stdout.buffer)
     except NoClock:
         of = "" if given.pid is None else f" on PID {given.pid}"
-        words.fail_on(given.stream, f"fewer than two PCRs{of}, so there is no clock to go by")
+        words.fail_on(given.stream, f"fewer than two PCRs{of}, so it has no usable clock")
     except OSError as wrong:
         words.fail_on(given.stream, wrong)

@@ -26,15 +26,15 @@ def command() -> tool.Command:
     words = tool.Command(
         "packet",
         "[--raw] [--start] PID COUNTER payload|section BYTES ..",
-        "Makes the packets that hold a payload or a section, whose length and CRC_32 it puts in.",
+        "Makes packets from a payload or a section, whose length and CRC_32 it fills in.",
         reads="nothing",
         writes="each byte as two hexadecimal digits, or, with --raw, the packets",
-        status="0; 1 where no packets can hold these bytes; 2 for wrong words",
+        status="0; 1 if no packets can hold these bytes; 2 for a usage error",
         example="dvbemu packet --raw 0 0 section 00b000 0001 c10000 0001e100 > pat.ts",
     )
     words.add_argument("--raw", action="store_true", help="writes the packets themselves")
     words.add_argument("--start", action="store_true", help="a section or a PES packet begins in the payload")
-    words.add_argument("pid", metavar="PID", type=tool.number(0, LAST_PID), help=f"their PID, 0 to {LAST_PID}, or 0x..")
+    words.add_argument("pid", metavar="PID", type=tool.number(0, LAST_PID), help=f"the PID, 0 to {LAST_PID}, or 0x..")
     words.add_argument("counter", metavar="COUNTER", type=tool.number(0, 15), help="continuity_counter of the first, 0 to 15; it rises")
     words.add_argument("kind", metavar="KIND", choices=["payload", "section"], help="payload: 1 to 184 bytes, one packet; section: from its "
                        "table_id on and without its CRC_32")  # fmt: skip

@@ -18,13 +18,13 @@ def command() -> tool.Command:
     words = tool.Command(
         "page",
         "[--title TEXT] [REPORT]",
-        "Writes a report as a page for a browser: its sentences, its picture in strips that fit the window, and its commands.",
-        reads="a report, from the file REPORT; from standard input without it or for `-`",
-        writes="one file of HTML, which asks for no other and for no network",
-        status="0; 1 where REPORT can't be read or is no report; 2 for wrong words",
+        "Writes a report as an HTML page: sentences, picture and commands.",
+        reads="a report, from the file REPORT; without it, or with `-`, from standard input",
+        writes="one HTML file, which needs no other file and no network",
+        status="0; 1 if REPORT can't be read or isn't a report; 2 for a usage error",
         example="dvbemu page my.report > my.html",
     )
-    words.add_argument("--title", metavar="TEXT", help="the page's title; without it the report's name")
+    words.add_argument("--title", metavar="TEXT", help="the page's title; default: the report's name")
     words.add_argument("report", metavar="REPORT", nargs="?", help="the report")
     return words
 

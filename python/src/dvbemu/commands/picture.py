@@ -21,12 +21,12 @@ def command() -> tool.Command:
         "picture",
         "[--title TEXT] [REPORT]",
         "Draws a report: who called which node when, and what each filter's buffer held, gave and lost.",
-        reads="a report, from the file REPORT; from standard input without it or for `-`",
+        reads="a report, from the file REPORT; without it, or with `-`, from standard input",
         writes="an SVG",
-        status="0; 1 where REPORT can't be read or is no report; 2 for wrong words",
+        status="0; 1 if REPORT can't be read or isn't a report; 2 for a usage error",
         example="dvbemu picture my.report > my.svg",
     )
-    words.add_argument("--title", metavar="TEXT", help="the picture's title; without it the report's name")
+    words.add_argument("--title", metavar="TEXT", help="the picture's title; default: the report's name")
     words.add_argument("report", metavar="REPORT", nargs="?", help="the report")
     return words
 

@@ -41,19 +41,19 @@ REPORT, BEGINS = "dvbemu.report", b"dvbemu 1\n"
 CHANNEL = "HZ[:SYSTEM][:POL][:snr=DB][:lock=MS][:drop=S+S]=STREAM"
 EARTHLY = ", ".join(name for name, number in SYSTEMS.items() if number not in SATELLITE)
 ABOUT = """\
-Runs COMMAND, which finds /dev/dvb/adapter0, as all programs that it starts, and writes a report of their calls.
+Runs COMMAND and writes a report of its DVB calls. COMMAND and the programs that it starts find /dev/dvb/adapter0.
 
-The recording plays in a loop, at the pace of its program clock (PCR by PCR), also where no program tunes, and is at each frequency. With
---tune, or --channels, a recording is at its frequency alone: it plays from its beginning, behind a lock that comes after a moment; elsewhere
-there is no lock. All programs of an adapter share its frontend, which is a stand-in.
+The recording loops in real time (by its PCR), whether or not a program tunes, and is found on every frequency. With
+--tune or --channels it exists on its own frequency only, starts from its first packet, and locks after 0.1 s; other
+frequencies don't lock. All programs of an adapter share one simulated frontend.
 
-When COMMAND has ended, by Ctrl-C and SIGTERM too, what it has left running is ended, then the stream ends, and the report is written. Its
-calls are in memory until then: minutes, not days. With --keep none memory doesn't grow, nor with --keep FOLDER."""
+When COMMAND ends, also by Ctrl-C or SIGTERM, the programs it left running are ended, the stream ends, and the report is written. Its
+calls are in memory until then: enough for minutes, not days. With --keep none or --keep FOLDER memory doesn't grow."""
 READS = "STREAM, a recording of packets of 188, 192 or 204 bytes, in a file; or a pipe or `-`, standard input, which is played as it comes"
-WRITES = "the report, into the file of --report, or dvbemu.report here; FILE.tunings beside it says at which packet each tuning stands. Of " \
-    "several adapters the files have .0, .1 and so on behind their names"
-STATUS = "that of COMMAND, 128 and the number of the signal where one has ended it, or 127 where it isn't there; 1 where a file can't be " \
-    "read or is no stream, or there is no report; 2 for wrong words"
+WRITES = "the report, into the file of --report, or dvbemu.report here; FILE.tunings beside it lists each tuning with its packet. With " \
+    "several adapters .0, .1 and so on are appended to the names"
+STATUS = "that of COMMAND, 128 plus the signal's number if one ended it, or 127 if it doesn't exist; 1 if a file can't be " \
+    "read or isn't a stream, or there is no report; 2 for a usage error"
 
 
 def rate(most: float) -> Callable[[str], float]:
@@ -65,7 +65,7 @@ def rate(most: float) -> Callable[[str], float]:
             raise ValueError
         return number
 
-    return tool.reader(read, f"a number above 0, and at most {most},")
+    return tool.reader(read, f"a number above 0, at most {most}")
 
 
 def channel(word: str) -> str:
@@ -79,10 +79,10 @@ class Serve(tool.Command):
     """The command. Where no word is `--`, a wrong word may be one of COMMAND."""
 
     has_command = True
-    others = "; 70 for a fault of `serve` itself"
+    others = "; 70 for a bug in `serve`"
 
     def error(self, message: str) -> NoReturn:
-        super().error(message + ("" if self.has_command else "; -- stands in front of COMMAND"))
+        super().error(message + ("" if self.has_command else "; put -- before COMMAND"))
 
 
 def command() -> Serve:
@@ -90,20 +90,20 @@ def command() -> Serve:
     words = Serve("serve", "[OPTION ..] [STREAM] -- COMMAND [WORD ..]", ABOUT, reads=READS, writes=WRITES, status=STATUS,
                   example="dvbemu serve --packets 3000 --report r my.ts -- dvbv5-scan -o channels dvbv5.conf")  # fmt: skip
     pace = words.add_mutually_exclusive_group()
-    pace.add_argument("--packets", type=rate(FASTEST), metavar="N", help="so many packets a second, whatever the clock says")
-    pace.add_argument("--rate", type=rate(FASTEST * PACKET * 8), metavar="N", help="so many bits a second")
-    words.add_argument("--once", action="store_true", help="the stream is played once")
-    words.add_argument("--seats", type=tool.number(1, 8), default=8, metavar="N", help="how many programs at the same time: 1 to 8; without it, 8")
-    words.add_argument("--report", metavar="FILE", help="where the report goes; - is standard output; without it, dvbemu.report")
-    words.add_argument("--keep", default="all", metavar="all|none|FOLDER", help="what is kept of the calls: all in memory; nothing, and there "
-                       "is no report; or a line each, as they come, in a new or empty folder, of which `dvbemu merge` makes it")  # fmt: skip
+    pace.add_argument("--packets", type=rate(FASTEST), metavar="N", help="play N packets a second, ignoring the clock")
+    pace.add_argument("--rate", type=rate(FASTEST * PACKET * 8), metavar="N", help="play N bits a second")
+    words.add_argument("--once", action="store_true", help="play the stream once")
+    words.add_argument("--seats", type=tool.number(1, 8), default=8, metavar="N", help="the maximum number of programs at the same time, 1 to 8; default 8")
+    words.add_argument("--report", metavar="FILE", help="where to write the report; - is standard output; default dvbemu.report")
+    words.add_argument("--keep", default="all", metavar="all|none|FOLDER", help="where to keep the calls: all of them in memory; none of them, "
+                       "without a report; or in a new or empty folder, from which `dvbemu merge` makes the report")  # fmt: skip
     words.add_argument("--tune", action="append", nargs="+", default=[], metavar=CHANNEL, type=tool.reader(channel, CHANNEL),
-                       help=f"a recording at a frequency: in Hz, 2 MHz near, for a delivery system ({EARTHLY}; DVBS and "
+                       help=f"a recording on a frequency in Hz (the program may tune 2 MHz away), for a delivery system ({EARTHLY}; DVBS and "
                        "DVBS2, with kHz and H, V, L or R); a number below 100,000 is MHz; with so many dB of signal to noise, a lock behind so many "
                        "milliseconds, and one that is lost behind so many seconds for so many more")  # fmt: skip
-    words.add_argument("--channels", metavar="FILE", help="a file of such lines")
-    words.add_argument("--live", action="store_true", help="a recording goes on while another is watched")
-    words.add_argument("--adapter", action="append", default=[], metavar="STREAM|CHANNELS", help="one adapter more: adapter0, adapter1 and so on")
+    words.add_argument("--channels", metavar="FILE", help="a file with such lines")
+    words.add_argument("--live", action="store_true", help="recordings keep running while not tuned")
+    words.add_argument("--adapter", action="append", default=[], metavar="STREAM|CHANNELS", help="add an adapter: adapter0, adapter1 and so on")
     words.add_argument("--trace", action="store_true", help="tells each call of a program on standard error when it comes back, and one that "
                        "waits")  # fmt: skip
     way = words.add_mutually_exclusive_group()
@@ -111,7 +111,7 @@ def command() -> Serve:
                      "one that is linked statically")  # fmt: skip
     way.add_argument("--preload", action="store_true", help="what is loaded into each program stands in the place of the C library's calls; "
                      "without --fuse, this")  # fmt: skip
-    words.add_argument("--played", metavar="FILE", help="keeps the packets as they were played")
+    words.add_argument("--played", metavar="FILE", help="save the packets as they were played")
     words.add_argument("stream", nargs="?", metavar="STREAM", help="a transport stream; `-` is standard input")
     return words
 
@@ -223,7 +223,7 @@ def see_old(path: str) -> None:
     except FileNotFoundError:
         is_report = True
     if not is_report:
-        raise Stopped(f"{path} is no report, and isn't written over: --report FILE names another file")
+        raise Stopped(f"{path} isn't a report, and isn't overwritten: give another name with --report FILE")
 
 
 def keep_of(options: Namespace, number: int, count: int) -> str:
@@ -241,7 +241,7 @@ def keep_of(options: Namespace, number: int, count: int) -> str:
 def outs_of(options: Namespace, air: Sequence[Sequence[Channel]], opened: contextlib.ExitStack) -> list[Outs]:
     """What is written of each adapter. It is opened before anything is built, and emptied behind that."""
     if options.report == "-" and len(air) > 1:
-        raise Stopped("of several adapters the reports need --report FILE")
+        raise Stopped("with several adapters --report FILE is required")
     others, count = not_written(options, air), len(air)
     outs: list[Outs] = []
     for number, channels in enumerate(air):
@@ -260,15 +260,15 @@ def outs_of(options: Namespace, air: Sequence[Sequence[Channel]], opened: contex
 def tell_end(options: Namespace, count: int, adapters: Sequence[Adapter], status: int) -> None:
     """Says where the report is, where no word has, and of a command that no signal has ended that nobody has opened an adapter."""
     if status < 128 and not any(adapter.was_opened() for adapter in adapters):
-        unseen = "" if options.fuse else "; one that is linked statically, made by Go, for musl or 32 bits, or setuid doesn't see it (but by --fuse)"
+        unseen = "" if options.fuse else "; statically linked, Go, musl, 32-bit and setuid programs can't see it (but by --fuse)"
         print(f"dvbemu serve: no program opened the adapter{unseen}", file=sys.stderr)
     if seatless := sum(adapter.front.seatless() for adapter in adapters):
-        print(f"dvbemu serve: {seatless} program{'s' * (seatless > 1)} found no seat, as {options.seats} may be in at a time (--seats)", file=sys.stderr)
+        print(f"dvbemu serve: {seatless} program{'s' * (seatless > 1)} got EIO, since only {options.seats} can be served at a time (--seats)", file=sys.stderr)
     last = f".0 to .{count - 1}" if count > 1 else ""
     if options.keep not in ("all", "none"):
         print(f"dvbemu serve: `dvbemu merge {options.keep}{'/N' if count > 1 else ''}` writes the report", file=sys.stderr)
     elif options.keep == "all" and not options.report:
-        print(f"dvbemu serve: the report is {REPORT}{last}; `dvbemu explain {REPORT}{last[:2]}` tells it", file=sys.stderr)
+        print(f"dvbemu serve: the report is {REPORT}{last}; `dvbemu explain {REPORT}{last[:2]}` explains it", file=sys.stderr)
 
 
 def mounted(options: Namespace, folder: Folder) -> Mount | None:
@@ -340,7 +340,7 @@ def main() -> int:
     except Interrupted as fault:
         known.exit(fault.status, f"{known.teller}: {fault}\n")
     except OSError as fault:
-        other = "; --report FILE names another file" if not options.report and str(fault.filename).startswith(REPORT) else ""
+        other = "; give another name with --report FILE" if not options.report and str(fault.filename).startswith(REPORT) else ""
         known.fail(": ".join(filter(None, [fault.filename, fault.strerror or str(fault)])) + other)
     except (Stopped, Unplayable) as fault:
         known.fail(fault)

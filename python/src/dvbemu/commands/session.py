@@ -177,7 +177,7 @@ def script_of(order: Order) -> tuple[list[str], dict[str, list[int]]]:
             script.append(f"feed {before + act_of(step).get('count', 1)}")
     for count, what in (order.early, "passes"), (order.overtaking, "calls"):
         if count:
-            print(f"dvbemu session: {count} {what} of a node come earlier than they did", file=sys.stderr)
+            print(f"dvbemu session: note: {count} {what} of a node were moved forward; the recorded order can't be replayed exactly", file=sys.stderr)
     return script, numbers
 
 
@@ -211,13 +211,13 @@ def command() -> tool.Command:
     words = tool.Command(
         "session",
         "[--report] REPORT STREAM",
-        "Makes of a report of `serve` a session that gives the same replies again without the programs.",
+        "Turns a `serve` report into a session that replays it without the programs.",
         reads="REPORT, as `serve` wrote it, and STREAM, what was played; one of them may be `-`, standard input",
-        writes="the session: the script of the programs' calls, and the packets behind it",
-        status="0; 1 where a file can't be read, REPORT is none of `serve`, or STREAM isn't what was played; 2 for wrong words",
+        writes="the session: the script of the programs' calls, and then the packets",
+        status="0; 1 if a file can't be read, REPORT isn't from `serve`, or STREAM isn't what was played; 2 for a usage error",
         example="dvbemu session my.report my.ts > my.session; dvbemu steps my.session > again.report",
     )
-    words.add_argument("--report", action="store_true", help="writes, in place of the session, REPORT with the line numbers of its script")
+    words.add_argument("--report", action="store_true", help="write REPORT with the script's line numbers instead of the session")
     words.add_argument("report_file", metavar="REPORT", help="the report")
     words.add_argument("stream", metavar="STREAM", help="a transport stream, which is repeated until it has the report's packets")
     return words
@@ -229,7 +229,7 @@ def report_in(words: tool.Command, name: str) -> Report:
         with words.opened(name) as file:
             report = reports.read(reports.text_of(file))
     except reports.NotAReport as wrong:
-        words.fail_on(name, f"it is no report: {wrong}")
+        words.fail_on(name, f"not a report: {wrong}")
     except OSError as fault:
         words.fail_on(name, fault)
     return report
@@ -238,11 +238,11 @@ def report_in(words: tool.Command, name: str) -> Report:
 def script_in(words: tool.Command, name: str, report: Report) -> tuple[list[str], dict[str, list[int]]]:
     """The lines of the script of a report of `serve`, and the number of the line of each client's commands."""
     if any(entry.act.startswith("pass input=dvr ") for entries in report.nodes.values() for entry in entries):
-        words.fail_on(name, "a client has written, and a report doesn't tell which bytes")
+        words.fail_on(name, "a client has written, and a report doesn't contain the bytes")
     try:
         order = Order(report)
         if why := why_not_served(report, order):
-            words.fail_on(name, f"it is no report of `serve`: {why}")
+            words.fail_on(name, f"not a report of `serve`: {why}")
         return script_of(order)
     except (KeyError, ValueError, IndexError):
         return words.fail_on(name, "its entries aren't those of a report; `dvbemu explain` says more")

@@ -80,20 +80,20 @@ def command() -> tool.Command:
     words = tool.Command(
         "test",
         "[--update] [--linux] [--batch B] [--packet P] PATH .. | --jobs LOG",
-        "Runs sessions, as many at once as there are processors, and compares what they write with the reports beside them.",
+        "Runs sessions, on all processors, and compares their reports with those kept beside them.",
         reads="each PATH, a folder with all below it, or a file: NAME.session, or NAME.script with NAME.ts if there is one; "
-        "NAME.report; and NAME.words, the words that it is run with: without it `steps`, with --batch and --packet as they stand here; "
+        "NAME.report; and NAME.words, its command line: by default `steps`, with --batch and --packet as given here; "
         "NAME.linux, for --linux rows of docs/KERNEL.md, each on a line; "
-        "or LOG, what GNU parallel has written of its jobs (--joblog)",
-        writes="TAP: `ok 1 - NAME`, or `not ok 1 - NAME`, and behind # the line, what stands there and what the rules give",
-        status="0; 1 where a report differs or is missing, a session can't be run, or there is no test; 2 for wrong words",
+        "or LOG, a job log of GNU parallel (--joblog)",
+        writes="TAP: `ok 1 - NAME`, or `not ok 1 - NAME`, and after # the line, what it has and what the rules give",
+        status="0; 1 if a report differs or is missing, a session can't be run, or there is no test; 2 for a usage error",
         example="dvbemu test tests",
     )
-    words.add_argument("--update", action="store_true", help="writes the reports that differ or are missing anew, and says which")
+    words.add_argument("--update", action="store_true", help="rewrite reports that differ or are missing, and say which")
     words.add_argument("--linux", action="store_true", help="a test fails too where Linux would answer otherwise by a row that NAME.linux doesn't name")
-    words.add_argument("--batch", type=tool.number(1, 64, True), metavar="B", help="for tests without words of their own")
-    words.add_argument("--packet", type=int, choices=(188, 204), metavar="P", help="for tests without words of their own")
-    words.add_argument("--jobs", metavar="LOG", help="tells of these jobs, and runs nothing")
+    words.add_argument("--batch", type=tool.number(1, 64, True), metavar="B", help="for tests without NAME.words")
+    words.add_argument("--packet", type=int, choices=(188, 204), metavar="P", help="for tests without NAME.words")
+    words.add_argument("--jobs", metavar="LOG", help="report the results of these jobs, and run nothing")
     words.add_argument("paths", metavar="PATH", nargs="*", help="a folder, or a test")
     return words
 
@@ -103,7 +103,7 @@ def stems_below(words: tool.Command, path: str) -> list[str]:
     if os.path.isfile(path) and path.endswith((".session", ".script")):
         return [os.path.splitext(path)[0]]
     if not os.path.isdir(path):
-        words.fail(f"{path}: {'it is no session and no script' if os.path.exists(path) else 'No such file or directory'}")
+        words.fail(f"{path}: {'not a session or script' if os.path.exists(path) else 'No such file or directory'}")
     return [os.path.join(folder, os.path.splitext(name)[0]) for folder, _, names in os.walk(path) for name in names
             if name.endswith((".session", ".script"))]  # fmt: skip
 
@@ -208,7 +208,7 @@ def tried(program: str, test: Test, is_updated: bool, asks_linux: bool) -> str:
             return "+"
         if is_updated:
             keep(test.path + ".report", report)
-            return f"+written anew: {told}"
+            return f"+updated: {told}"
         return f"-{told}" if kept is not None else f"-{told}: --update writes {test.path}.report"
     except Failed as why:
         return f"-{why}"

@@ -16,11 +16,11 @@ def command() -> tool.Command:
     words = tool.Command(
         "words",
         "[SCRIPT]",
-        "Writes a script with names and hexadecimal numbers as a plain one: 0x1000, CHECK_CRC+IMMEDIATE_START, table_id=0x42,\n"
+        "Translates names and hexadecimal numbers in a script to plain lines: 0x1000, CHECK_CRC+IMMEDIATE_START, table_id=0x42,\n"
         "version_number!=3, table_id=0x40/0xc0 (under a mask), demux0, OTHER for the type 20; tabs and comments at a line's end too.",
-        reads="the script, from the file SCRIPT; from standard input without it or for `-`. Behind its line `stream` may stand a stream",
+        reads="the script, from the file SCRIPT; without it, or with `-`, from standard input. A stream may follow its line `stream`",
         writes="the plain script, and the stream as it is",
-        status="0; 1 where SCRIPT can't be read; 2 for wrong words; 3 where the script has a fault, which is told as the program does",
+        status="0; 1 if SCRIPT can't be read; 2 for a usage error; 3 if the script has an error, reported as by the program",
         example="dvbemu words my.script | dvbemu steps - my.ts",
     )
     words.add_argument("script", metavar="SCRIPT", nargs="?", help="the script")

@@ -62,8 +62,8 @@ PLAIN = {
     "no tap": "reads of the dvr node find nothing, since no filter with the output TS_TAP runs: set one on demux0 and leave it open meanwhile",
     "read of ts_tap": "a read finds nothing on a node whose filter has the output TS_TAP",
     "unbound": "the command names a slot that no open has bound, so it makes no call",
-    "nobody": "No program opened a device. One that is linked statically, or is written in Go, makes its system calls itself, and passes the "
-    "devices of `serve` by: link it with the C library as a shared one, and let it open them by that (in Go by cgo)",
+    "nobody": "No program opened a device. A program that is linked statically, or written in Go, makes its system calls itself and bypasses the "
+    "devices of `serve`: link it dynamically, and open the devices through the C library (in Go with cgo)",
 }
 
 
@@ -72,11 +72,11 @@ def size_words(stumble: Stumble) -> str:
     facts = stumble.facts
     if stumble.kind == "larger":
         item = f"item {facts['item']} has {many(facts['need'], 'byte')}, and the buffer size is {facts['size']}"
-        return f"an Overflow that no reading in time avoids, only a greater size: {item}"
+        return f"an Overflow that only a larger size avoids, however often the client reads: {item}"
     what = "what came" if facts["times"] == 1 else f"all that came, at {facts['times']:,} Overflows"
     held = f"; one of {facts['wanted']} would have held {what}" if 0 < facts["wanted"] <= LARGEST_SIZE else ""
     if facts.get("unsure"):
-        held = "; no size is named, since reads waited behind it, and let packets pass sooner than they would have with a greater buffer"
+        held = "; no size is given, since later reads waited, and let packets pass earlier than with a larger buffer"
     if held and facts["batch"]:
         held += f"; a batch of up to {facts['batch']} packets passes at once, and no client reads in between" + (
             ": set that size" if facts["served"] else ": set that size, or try `--batch 1`")  # fmt: skip
@@ -84,18 +84,18 @@ def size_words(stumble: Stumble) -> str:
         given = f"which is the one that Open gives; SetSize takes others up to {LARGEST_SIZE:,}"
         return f"an Overflow at the buffer size {facts['size']}, {given}{held}"
     late = f"more came before the client read than the buffer size {facts['size']} has room for{held}"
-    return f"an Overflow: {late}{'; `dvbemu explain REPORT SESSION` tells which packets were lost, and when' if facts['asks'] else ''}"
+    return f"an Overflow: {late}{'; `dvbemu explain REPORT SESSION` says which packets were lost, and when' if facts['asks'] else ''}"
 
 
 def size_of_packets_words(facts: Facts) -> str:
     """The words of the stumble over packets that take up another number of bytes."""
     of = f"{many(facts['skipped'], 'byte')} were skipped at {many(facts['packets'], 'packet')}"
     if facts["size"] == 192:
-        shown = f"{of}, as where packets take up 192 bytes of the stream, with a time stamp of 4 in front of each"
-        return f"{shown}: where a stamp has the byte 0x47, what follows is taken for a packet; take the stamps away before"
+        shown = f"{of}, as if packets had 192 bytes, with a time stamp of 4 before each"
+        return f"{shown}: if a stamp has the byte 0x47, what follows is taken for a packet; remove the stamps first"
     if facts["size"] == 204:
-        return f"{of}, as where packets take up 204 bytes of the stream: try `--packet 204`"
-    return f"{of}, as where packets take up 188 bytes of the stream and are read as 204: try it without `--packet 204`"
+        return f"{of}, as if packets had 204 bytes: try `--packet 204`"
+    return f"{of}, as if packets of 188 bytes were read as 204: try without `--packet 204`"
 
 
 def pid_words(stumble: Stumble) -> str:
@@ -112,9 +112,9 @@ def pid_words(stumble: Stumble) -> str:
     of = f"{many(facts['count'], stumble.kind.partition(' ')[0])} of {pids_text([facts['pid']])} in the stream"
     rules = {
         "break of sections": "a section filter loses a section that goes on across a break",
-        "break of packets": "a PES filter gives the packets before and behind a break, and no reply tells the break",
-        "duplicate of sections": "a section filter leaves duplicates out",
-        "duplicate of packets": "a PES filter gives duplicates too, so the reader has to leave them out",
+        "break of packets": "a PES filter gives the packets before and after a break, and no reply reports the break",
+        "duplicate of sections": "a section filter skips duplicates",
+        "duplicate of packets": "a PES filter gives duplicates too, so the reader has to skip them",
     }
     return f"{of}; {rules[stumble.kind]}"
 
@@ -146,15 +146,15 @@ def nothing_words(stumble: Stumble) -> str:
     shown = f"{count} of {of} passed while this filter ran, and it selected no section"
     asked = [place for place, (_, mask, _) in act["bytes"].items() if mask]
     why = [f"its filter byte{'s' * (len(asked) > 1)} {joined(asked)}"] if asked else []
-    why += ["flag 1, by which sections with a wrong CRC_32 are left out"] if act["flags"] & CRC else []
+    why += ["flag 1, which rejects sections with a wrong CRC_32"] if act["flags"] & CRC else []
     if facts["carried"]:
         return f"{shown}: by the PMT that was read the PID carries {facts['carried']}, which `pes` takes"
     if not why:
-        return f"{shown}, though it takes every one: the packets bring none that is whole, or carry no sections"
+        return f"{shown}, though it takes every section: the packets contain no complete one, or no sections at all"
     if not facts["asks"]:
-        return f"{shown}; the stream says why, below"
-    other = f"that may be for {' or '.join(why)}; try it without, `{again_without(stumble)}`"
-    return f"{shown}: {other}, or let `dvbemu explain REPORT SESSION` find what rules each section out"
+        return f"{shown}; see below for the reason"
+    other = f"the cause may be {' or '.join(why)}; try without it, `{again_without(stumble)}`"
+    return f"{shown}: {other}, or find the cause with `dvbemu explain REPORT SESSION`"
 
 
 def late_words(stumble: Stumble) -> str:
@@ -162,7 +162,7 @@ def late_words(stumble: Stumble) -> str:
     facts = stumble.facts
     what = "the dvr node is opened or resized" if stumble.node == DVR else "the filter is started"
     shown = f"{what} when the stream had ended (End is entry {facts['end']} of its history, this call entry {facts['begin']})"
-    none = f"{shown}, so no packet comes to it"
+    none = f"{shown}, so it gets no packet"
     if stumble.kind == "late":
         return f"{none}; a `feed`, `readw` or `drain` before it has taken the stream to its end"
     clock = f"the moments begin at {facts['moment']}, as those of `run` do, whose feeder waits for no client"
@@ -173,7 +173,7 @@ def stream_words(stumble: Stumble) -> str:
     """The words of the stumbles over what the stream is, or when it passes."""
     facts = stumble.facts
     if stumble.kind == "no feed":
-        looked = f"all reads behind line {facts['begin']} came before a packet passed, with {many(facts['packets'], 'packet')} to come"
+        looked = f"all reads after line {facts['begin']} came before a packet passed, with {many(facts['packets'], 'packet')} to come"
         return f"{looked}: write `feed N` between, or `readw` or `drain` in place of `read`"
     if stumble.kind == "packets as sections":
         start = " ".join(f"{byte:02x}" for byte in b"\0" + facts["data"])
@@ -182,7 +182,7 @@ def stream_words(stumble: Stumble) -> str:
     if stumble.kind == "skipped":
         of = f"{facts['skipped']:,} of the {many(facts['whole'], 'byte')} were skipped, and {many(facts['packets'], 'packet')} found"
         what = "isn't a stream of packets that begin with 0x47 and take up 188 bytes each, or 204 with `--packet 204`"
-        return f"{of}: what stands behind the line `stream` {what}"
+        return f"{of}: what follows the line `stream` {what}"
     return size_of_packets_words(facts)
 
 
@@ -204,7 +204,7 @@ def words(stumble: Stumble) -> str:
     if stumble.kind == "busy":
         return f"EBADF, since the Open in line {facts['opened']} was answered Busy and the client calls the node all the same"
     if stumble.kind == "large pid":
-        most, of = (8191, "13 bits") if facts["call"] == "section" else (8192, "which names every packet")
+        most, of = (8191, "13 bits") if facts["call"] == "section" else (8192, "which selects every packet")
         return f"EINVAL, since PID {facts['pid']} is above {most} ({of}); {NAMES[facts['call']]} sets no filter"
     if stumble.kind == "free tap":
         passed = ("" if facts["least"] == facts["most"] else "up to ") + many(facts["most"], "packet")
@@ -212,7 +212,7 @@ def words(stumble: Stumble) -> str:
         return f"{tap}, and {passed} of {pids_text(facts['pids'])} passed it then, which nobody can read there"
     if stumble.kind == "part":
         of = f"of the {many(facts['of'], 'byte')} of a section" if facts["of"] else "of a section"
-        return f"a read of {many(facts['count'], 'byte')} gives a part {of}; the next read goes on behind it"
+        return f"a read of {many(facts['count'], 'byte')} gives a part {of}; the next read continues after it"
     if stumble.kind in ("late", "late in run"):
         return late_words(stumble)
     if stumble.kind == "selects nothing":

@@ -145,14 +145,14 @@ def done_text(call: Call, reply: Reply) -> str:
     elif call.act in ("section", "pes"):
         text += ", the filter waits for a Start"
     if after > first:
-        text += f"; what is unread is dropped, {many(after - first, 'byte')}, {first}..{after}"
+        text += f"; unread bytes are dropped: {many(after - first, 'byte')}, {first}..{after}"
     return text
 
 
 def ready_text(reply: Reply) -> str:
     """A Ready in words."""
     if reply["error"] != "none":
-        return "Ready, " + ("an Overflow" if reply["error"] == "overflow" else "a TimedOut") + " is to be told"
+        return "Ready, " + ("an Overflow" if reply["error"] == "overflow" else "a TimedOut") + " is pending"
     if not reply["readable"]:
         return "nothing, and the stream has ended" if reply["ended"] else "nothing yet"
     return "Ready, bytes can be read" + ("; the stream has ended" if reply["ended"] else "")
@@ -222,7 +222,7 @@ def kind_of_reply(call: Call) -> str:
         return "found nothing, as the stream had ended" if call.entry.reply.endswith("1") else "found nothing"
     if call.reply == "ready":
         if "error=none" not in call.entry.reply:
-            return "told of an Overflow or a TimedOut"
+            return "found an Overflow or a TimedOut"
         return "found bytes" if " readable=1 " in call.entry.reply else "found nothing"
     return {"overflow": "answered Overflow", "timedout": "answered TimedOut"}.get(call.reply, f"answered {call.reply}")
 
@@ -287,11 +287,11 @@ def counter_text(kind: str) -> str:
 def command_text(outcome: Outcome, calls: Sequence[Call]) -> str:
     """What one command did, in words."""
     if outcome.kind == "unbound":
-        return "names a slot that is bound to no node, so it makes no call"
+        return "names an unbound slot, so it makes no call"
     if outcome.kind == "nostc":
-        return "asks for a system time counter where it has read none"
+        return "asks for a system time counter, but has read none"
     if outcome.kind.startswith("stc "):
-        return f"asks for a system time counter and is told {counter_text(outcome.kind)}"
+        return f"asks for a system time counter and gets {counter_text(outcome.kind)}"
     text = calls_text(calls)
     return f"{text}; no node is free (EMFILE)" if outcome.kind == "EMFILE" else text
 
@@ -413,9 +413,9 @@ def lost_text(line: int, call: Call, span: tuple[int, int]) -> str:
     room = f"item {reply['item']}, counted from 0, needs {many(reply['need'], 'byte')} and found room for {reply['room']:,}"
     buffer = f", in a buffer of size {call.note.reason}, which holds {int(call.note.reason) - 1}" if call.note.reason else ""
     if call.note.lost.kept:
-        why = f"all items from {reply['item']} on until a read told the Overflow, behind those that KEEP has kept"
+        why = f"all items from {reply['item']} on until a read reported the Overflow, after those that KEEP has kept"
     else:
-        why = "all that was unread at an Overflow"
+        why = "everything unread at an Overflow"
     return head + f"{lost_items(call.note.lost)}{why}: {room}{buffer}"
 
 
@@ -454,4 +454,4 @@ def refused_text(refused: tuple[str, str, int], lines: Sequence[int]) -> str:
     """Refusals with the same error and reason on the same node in words."""
     error, reason, number = refused
     name = "Busy" if error == "busy" else error
-    return f"{lines_text(lines)}, {node_text(number)}: {name}, {reason or 'for which the report alone has no reason'}"
+    return f"{lines_text(lines)}, {node_text(number)}: {name}, {reason or 'for no reason that the report shows'}"

@@ -54,7 +54,7 @@ def no_section_text(packets: Sequence[bytes]) -> str:
         return f"These are packets of a stream: PES packets begin in them ({names}). `pes` takes them."
     errors, scrambled = sum(map(error_bit, packets)), sum(packet[3] >> 6 != 0 for packet in packets)
     told = f"a section begins in {len(starts):,} (payload_unit_start_indicator), the error bit is set in {errors:,}"
-    return f"No section is whole in them. Of these packets {told}, the payload is scrambled in {scrambled:,}."
+    return f"They contain no complete section. Of these packets {told}, the payload is scrambled in {scrambled:,}."
 
 
 def command_text(node: int, used: Filter, like: Like) -> str:
@@ -97,8 +97,8 @@ def ruled_texts(node: int, used: Filter, found: Sequence[bytes]) -> list[str]:
     """Why a filter selects none of these sections, and what would select some."""
     matched = [section for section in found if matches(used.act["bytes"], section)]
     if selected := [section for section in matched if is_intact(section) or not used.act["flags"] & CRC]:
-        return [f"It selects {len(selected):,} of these sections, and no read came behind them."]
-    wrong = "; their CRC_32 is wrong, and flag 1 leaves them out." if matched else "."
+        return [f"It selects {len(selected):,} of these sections, and no read followed."]
+    wrong = "; their CRC_32 is wrong, and flag 1 rejects them." if matched else "."
     texts = [f"{len(matched):,} of these sections match its bytes{wrong}"]
     groups = Counter(filter(None, (ruled_out(used.act["bytes"], section) for section in found)))
     shown = groups.most_common(GROUPS)
@@ -126,8 +126,8 @@ def lost_text(client: int, line: int, node: int, span: tuple[int, int], lost: Lo
     what = many(lost.items, "section" if lost.is_section else "packet")
     ends = "whose last bytes came by the" if lost.is_section else "of the"
     packets = f"packet {lost.first}" if lost.first == lost.last else f"packets {lost.first} to {lost.last}"
-    told = f"Client {client}, line {line}, {node_text(node)}: the Overflow {span[0]}..{span[1]} lost {what}, {ends} stream's {packets}"
+    told = f"Client {client}, line {line}, {node_text(node)}: an overflow (bytes {span[0]} to {span[1] - 1}) lost {what}, {ends} stream's {packets}"
     if times:
         first, last = (f"{times[place]:.3f} s" for place in (lost.first, lost.last))
-        told += f", at {first if lost.first == lost.last else f'{first} to {last}'} from the first PCR on"
+        told += f", {first if lost.first == lost.last else f'{first} to {last}'} after the first PCR"
     return told + "."

@@ -24,8 +24,8 @@ if TYPE_CHECKING:
 
 SHOWN, NULL = 20, 8191
 LOOK = "`dvbemu explain REPORT STREAM` looks at the stream too"
-NOTHING = "Nothing to tell: packets of its PID passed each filter that ran, each section filter gave something, and no read was answered Overflow."
-NO_FILTER = "Nothing to tell: no filter ran."
+NOTHING = "Nothing to report: packets passed every filter, every section filter gave something, and no read got Overflow."
+NO_FILTER = "Nothing to report: no filter ran."
 
 
 class Told(NamedTuple):
@@ -69,7 +69,7 @@ def pid_row_text(row: reports.PidCount, is_loop: bool) -> str:
     if found:
         return joined(found)
     if row.pid == NULL:
-        return "none with the error bit; the counter of null packets says nothing"
+        return "none with the error bit; null packets have no counter to check"
     return "no break, duplicate or error"
 
 
@@ -129,15 +129,15 @@ def asked_lines(client: Client, part: Part) -> list[Row]:
         on_node = ((outcome, [call for call in calls if call.node == part.node]) for outcome, calls in commands)
         commands = ((outcome, calls) for outcome, calls in on_node if calls)
     lines: list[Row] = [Told(4, text + ".") for text in asked_texts(commands)]
-    return wrapped("What it asked:" if lines else "What it asked: nothing.", 2) + lines
+    return wrapped("What it asked for:" if lines else "What it asked for: nothing.", 2) + lines
 
 
 def idle_lines(clients: Sequence[Client]) -> list[Row]:
     """The page of clients that follow one another and have no command."""
     first, last = clients[0].number, clients[-1].number
     if first == last:
-        return ["", f"Client {first}", "", *wrapped("It has no command.", 2)]
-    return ["", f"Clients {first} to {last}", "", *wrapped("They have no command.", 2)]
+        return ["", f"Client {first}", "", *wrapped("No commands.", 2)]
+    return ["", f"Clients {first} to {last}", "", *wrapped("No commands.", 2)]
 
 
 def client_lines(client: Client, part: Part, is_asked: bool = True) -> list[Row]:
@@ -153,7 +153,7 @@ def client_lines(client: Client, part: Part, is_asked: bool = True) -> list[Row]
     lines += part_lines("What it got", got, "no read was accepted")
     lines += part_lines(lost_title(spans) if lost else "What was lost", lost, "nothing")
     lines += part_lines("What timed out", timed, "nothing")
-    lines += part_lines("Whom it waited for", waits, "nobody")
+    lines += part_lines("Waits", waits, "none")
     return lines + part_lines("What was refused", refused, "nothing")
 
 
@@ -166,7 +166,7 @@ def hint_lines(story: Story, part: Part) -> list[Row]:
         for text in rule_texts(stumble):
             lines += wrapped(text, 4)
     more = "" if story.stream else f" {LOOK}."
-    return lines if found else lines + wrapped(f"None: this report shows nothing that they are given for.{more}", 2)
+    return lines if found else lines + wrapped(f"No hints.{more}", 2)
 
 
 def stream_hints(story: Story, stream: Stream, part: Part) -> list[Row]:

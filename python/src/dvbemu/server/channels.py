@@ -90,14 +90,14 @@ def channel_of(word: str, rate: float | None) -> Channel:
     """The channel of a word HZ[:SYSTEM][:POL]=FILE."""
     found = LINE.fullmatch(word)
     if not found:
-        raise Unplayable(f"{word}: HZ[:SYSTEM][:H|V|L|R][:snr=DB][:lock=MS][:drop=S+S]=FILE is wanted")
+        raise Unplayable(f"{word}: expected HZ[:SYSTEM][:H|V|L|R][:snr=DB][:lock=MS][:drop=S+S]=FILE")
     system = found[2] and found[2].upper().replace("-", "").replace("/", "")
     if system in ("H", "V", "L", "R"):
         system, polarisation = None, system
     else:
         polarisation = found[3]
     if system is not None and system not in SYSTEMS:
-        raise Unplayable(f"{word}: {found[2]} is none of {', '.join(SYSTEMS)}")
+        raise Unplayable(f"{word}: {found[2]} isn't one of {', '.join(SYSTEMS)}")
     systems = (SYSTEMS[system],) if system else SATELLITE if polarisation else ()
     if polarisation and not set(systems) <= set(SATELLITE):
         raise Unplayable(f"{word}: {system} has no polarisation")
@@ -129,7 +129,7 @@ def not_lines(path: str) -> str:
     try:
         lines = data.decode().split("\n")
     except UnicodeDecodeError:
-        return "it is no text"
+        return "it isn't text"
     for number, line in enumerate(map(str.strip, lines), 1):
         if line and not line.startswith("#") and not LINE.fullmatch(line):
             return f"line {number} is {line[:60]!r}"
@@ -141,7 +141,7 @@ def channels_of(tunings: Sequence[str], file: str | None, stream: str | None, ra
     lines: list[str] = []
     if file is not None:
         if (given := lines_in(file)) is None:
-            raise Unplayable(f"{file}: lines HZ[:SYSTEM][:H|V|L|R]=FILE are wanted, and {not_lines(file)}")
+            raise Unplayable(f"{file}: expected lines HZ[:SYSTEM][:H|V|L|R]=FILE, but {not_lines(file)}")
         lines = given
     found = [channel_of(word, rate) for word in [*tunings, *lines]]
     return found + ([Channel(None, (), None, Recording(stream, rate))] if stream is not None else [])

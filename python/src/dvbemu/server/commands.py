@@ -54,15 +54,15 @@ def unseen_as(path: str) -> str | None:
     if head[:4] != b"\x7fELF":
         return None
     if head[4] == 1:
-        return "is a program of 32 bits"
+        return "is a 32-bit program"
     if there.st_mode & stat.S_ISUID and there.st_uid != os.geteuid() or there.st_mode & stat.S_ISGID and there.st_gid != os.getegid():
         return "is setuid or setgid"
     (begin,), (size, count) = struct.unpack_from("<Q", head, 32), struct.unpack_from("<HH", head, 54)
     kinds = [head[at:at + 4] for at in range(begin, begin + size * count, size or 1)]
     if GO_NOTE in head:
-        return "is made by Go, which calls the kernel past the C library"
+        return "is written in Go, which bypasses the C library"
     if MUSL in head:
-        return "has the C library musl, which can't load the preload"
+        return "uses the C library musl, which can't load the preload"
     return None if PT_INTERP in kinds or len(head) < begin + size * count else "is linked statically"
 
 

@@ -59,7 +59,7 @@ class Recording:
             raise Unplayable(f"{self.path} has no packet")
         form = self.form = form_of(data)
         if form is None:
-            raise Unplayable(f"{self.path} is no transport stream: no bytes 0x47 are 188, 192 or 204 bytes apart")
+            raise Unplayable(f"{self.path} isn't a transport stream: no sync bytes 0x47 every 188, 192 or 204 bytes")
         size, at = form
         if size != PACKET or at:
             self.told.append(f"{self.path}: packets of {size} bytes, the first at byte {at}")
