@@ -146,7 +146,7 @@ def test_ends(traced, tmp_path, ends):
 
 
 def test_a_slow_reader(traced, tmp_path):
-    """A pipe that nobody reads for six seconds holds no program back, and what isn't told is counted, in front of the next call."""
+    """A pipe that nobody reads for six seconds holds no program back; what isn't told is counted, in front of the next call."""
     script = "fd = os.open(DEMUX, os.O_RDWR); begun, count = time.monotonic(), 0\n"
     script += "while count < 4500 and time.monotonic() - begun < 15:\n ask(fd, SECTION, section(0, 0)); count += 1\n"
     script += f"time.sleep(8); ask(fd, STOP); open({str(tmp_path / 'made')!r}, 'w').write(str(count))"
