@@ -1,6 +1,6 @@
 /*
- * The ioctls of demux and dvr nodes: the bytes that a request has of them, and what they change of a device. The daemon of FUSE has this
- * file too.
+ * The ioctls of demux and dvr nodes: the bytes that a request has of them, and what they change of a device. The daemon of FUSE
+ * has this file too.
  */
 #define _GNU_SOURCE
 #include <errno.h>

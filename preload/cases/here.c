@@ -5,9 +5,12 @@
 #include "cases.h"
 
 /* what may be done beside other programs, and what wants the adapter alone, one case behind another */
-static const char *const beside[] = { "sections", "poll_by_priority", "by_level", "nothing_is_left", "ends_by_its_time", "closed_by_a_child", NULL };
-static const char *const alone[] = { "select_in_each_set", "in_parts", "all_bytes_of_the_recorder", "one_recorder", "requests_that_it_has_not",
-				     "each_close_frees_the_node", NULL };
+static const char *const beside[] = { "sections",	  "poll_by_priority",  "by_level", "nothing_is_left",
+				      "ends_by_its_time", "closed_by_a_child", NULL };
+static const char *const alone[] = {
+	"select_in_each_set",	     "in_parts", "all_bytes_of_the_recorder", "one_recorder", "requests_that_it_has_not",
+	"each_close_frees_the_node", NULL
+};
 
 static int cases_in(const char *const *names)
 {
@@ -51,7 +54,8 @@ static void makes_many_calls(int count)
 	want(!ioctl(fd, DMX_START) && finds(fd, LATE_MS), "the filter starts once more");
 }
 
-/* A node that another program has closed just before: what is heard of that close, maybe later, doesn't take the bell from who has it. */
+/* A node that another program has closed just before: what is heard of that close, maybe later, doesn't take the bell from who
+ * has it. */
 static void takes_turns(int turns)
 {
 	/* (the other one goes on as long as this one is there) */
@@ -68,16 +72,16 @@ static void takes_turns(int turns)
 }
 
 /* whether the frontend has a lock, by the exit status alone */
-static void sees_the_lock(int status)
-{
-	exit(ioctl(open(TUNER, O_RDONLY), FE_READ_STATUS, &status) || !(status & FE_HAS_LOCK));
-}
+static void sees_the_lock(int status) { exit(ioctl(open(TUNER, O_RDONLY), FE_READ_STATUS, &status) || !(status & FE_HAS_LOCK)); }
 
 static const struct {
 	const char *word;
 	void (*does)(int);
-} all[] = { { "+wait", waits_for_nothing }, { "+last", finds_the_last }, { "+many", makes_many_calls }, { "+turns", takes_turns },
-	    { "+lock", sees_the_lock } };
+	int is_timed;
+} all[] = { { "+wait", waits_for_nothing, 0 }, { "+last", finds_the_last, 0 },	  { "+many", makes_many_calls, 0 },
+	    { "+turns", takes_turns, 0 },      { "+lock", sees_the_lock, 0 },	  { "+calls", time_calls, 1 },
+	    { "+pipes", time_pipes, 1 },       { "+sections", time_sections, 1 }, { "+record", time_recording, 1 },
+	    { "+take", time_bytes, 1 } };
 
 int here(const char *word, const char *number)
 {
@@ -86,6 +90,8 @@ int here(const char *word, const char *number)
 	for (size_t i = 0; i < sizeof all / sizeof *all; i++)
 		if (!strcmp(word, all[i].word)) {
 			all[i].does(number ? atoi(number) : 0);
+			if (all[i].is_timed)
+				return 0;
 			count++;
 		}
 	want(count, "a word that is known");

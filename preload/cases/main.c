@@ -1,6 +1,6 @@
 /*
- * Own calls on an adapter, as tests/test_serve.py has them: cases [NAME ..], cases -NAME .. for all others, each in a process of its
- * own, several side by side; and cases +WORD [NUMBER], of here.c. The last line is `N passed, M failed`.
+ * Own calls on an adapter, as tests/test_serve.py has them: cases [NAME ..], cases -NAME .. for all others, each in a process of
+ * its own, several side by side; and cases +WORD [NUMBER], of here.c. The last line is `N passed, M failed`.
  */
 #define _GNU_SOURCE
 #include <time.h>
@@ -70,12 +70,13 @@ static int once_free(const char *path, int flags)
 int recorder(int flags) { return once_free(RECORDER, flags); }
 int tuner(int flags) { return once_free(TUNER, flags); }
 
-void record_all(int fd)
+int set_pes(int fd, int pid, enum dmx_output output)
 {
-	struct dmx_pes_filter_params params = { .pid = ALL_PIDS, .input = DMX_IN_FRONTEND, .output = DMX_OUT_TS_TAP,
-						.pes_type = DMX_PES_OTHER, .flags = DMX_IMMEDIATE_START };
-	want(!ioctl(fd, DMX_SET_PES_FILTER, &params), "a recording of all packets");
+	struct dmx_pes_filter_params params = { (uint16_t)pid, DMX_IN_FRONTEND, output, DMX_PES_OTHER, DMX_IMMEDIATE_START };
+	return ioctl(fd, DMX_SET_PES_FILTER, &params);
 }
+
+void record_all(int fd) { want(!set_pes(fd, ALL_PIDS, DMX_OUT_TS_TAP), "a recording of all packets"); }
 
 int nodes_free(int *fds)
 {
@@ -139,7 +140,10 @@ static int look(void)
 		}
 		*(status ? &failed : &passed) += 1;
 		if (status)
-			printf("failed: %s: %s %d\n", lane->one->name, is_late ? "no end, signal" : WIFSIGNALED(status) ? "signal" : "status",
+			printf("failed: %s: %s %d\n", lane->one->name,
+			       is_late		     ? "no end, signal"
+			       : WIFSIGNALED(status) ? "signal"
+						     : "status",
 			       WIFSIGNALED(status) ? WTERMSIG(status) : WEXITSTATUS(status));
 		lane->pid = 0;
 	}
