@@ -12,9 +12,9 @@ def given_to(asked):
     """What the program is given: standard input, or what its files have."""
     if not asked.files:
         return sys.stdin.buffer.read()
-    report, session = (inputs.opened(asked.files[:1])[0].whole(), asked.files[1:]) if asked.word == "check" else (None, asked.files)
-    made = b"".join(inputs.session_pieces(inputs.opened(session)))
-    return made if report is None else asked_of(report, made)
+    report = inputs.opened(asked.files[:1]) if asked.word == "check" else []
+    made = b"".join(inputs.session_pieces(inputs.opened(asked.files[len(report) :])))
+    return asked_of(report[0].whole(), made) if report else made
 
 
 def main(*words):

@@ -16,7 +16,8 @@ from conftest import ROOT
 from crates import crate_lines, page_of
 
 TOP = (".ci/", "bench/", "debian/", "docs/", "examples/", "packaging/", "preload/", "python/", "tests/")
-PLACE = re.compile(rf"([\w./-]+)#([^\s#]+)|\w+/(?:must-fail|wrong-bodies)/[\w./-]+\.edit|(?:{'|'.join(map(re.escape, TOP))})[\w./-]*")
+BELOW = "|".join(map(re.escape, TOP))
+PLACE = re.compile(rf"([\w./-]+)#([^\s#]+)|\w+/(?:must-fail|wrong-bodies)/[\w./-]+\.edit|(?:{BELOW})[\w./-]*")
 PAGES = "docs/*.md", "README.md", "CONTRIBUTING.md", "*/README.md"
 DOCUMENTS = sorted(path.relative_to(ROOT).as_posix() for pages in PAGES for path in ROOT.glob(pages))
 # Where a rule stands: the four lines under it, with what the places of each look like.
@@ -79,7 +80,8 @@ def test_rules(tried, page):
     """Where each rule stands: four lines under it, together and in this order, each with places of its kind, or `-`."""
     lines = text_of(page).split("\n")
     firsts = [number for number, line in enumerate(lines) if line.startswith("- Defined:")]
-    assert firsts and sum(line.startswith("- ") and line[2:].split(":")[0] in STANDS for line in lines) == len(STANDS) * len(firsts)
+    labels = [line for line in lines if line.startswith("- ") and line[2:].split(":")[0] in STANDS]
+    assert firsts and len(labels) == len(STANDS) * len(firsts)
     for first, label, line in tried((first, label, line) for first in firsts for label, line in zip(STANDS, lines[first:])):
         assert re.fullmatch(rf"- {label}: (?:-|`[^`]+`(?:, `[^`]+`)*)", line), first + 1
         assert all(re.search(STANDS[label], place) for place in re.findall(r"`([^`]+)`", line)), first + 1

@@ -132,7 +132,8 @@ def test_session(program, seed):
     if wrong := differs(session, seed):
         FOUND.mkdir(exist_ok=True)
         (FOUND / f"{seed}.session").write_bytes(small(session, seed))
-        pytest.fail(f"{wrong}; the session is kept: tests/found/{seed}.session (--batch {session[1]} --packet {session[2]})", pytrace=False)
+        kept = f"tests/found/{seed}.session (--batch {session[1]} --packet {session[2]})"
+        pytest.fail(f"{wrong}; the session is kept: {kept}", pytrace=False)
 
 
 @pytest.mark.parametrize("source, heading, checksum", NAMED)

@@ -137,7 +137,8 @@ def test_room_is_given_back(tmp_path):
     script = b"c0 open n0\nc0 size n0 65536\nc0 section n0 256 0 4\nfeed %d\n%sstream\n" % (READS, READS * b"c0 read n0 65536\n")
     (tmp_path / "given").write_bytes(script + b"".join(packets))
     with open(tmp_path / "given", "rb") as given, open(tmp_path / "told", "wb") as out:
-        with subprocess.Popen([BUILT, "steps"], stdin=given, stdout=out, stderr=subprocess.PIPE, env={**os.environ, **FILLED}) as child:
+        ends = {"stdin": given, "stdout": out, "stderr": subprocess.PIPE}
+        with subprocess.Popen([BUILT, "steps"], **ends, env={**os.environ, **FILLED}) as child:
             line = child.stderr.read()
             _, status, used = os.wait4(child.pid, 0)
             child.returncode = os.waitstatus_to_exitcode(status)
@@ -232,7 +233,8 @@ def run_slowly(session, packets, pause, behind):
 def test_woken():
     """Each packet that passes after the filter's start is read soon after its pass: the median time counts, since a loaded machine
     makes some of them long. There a packet or two may pass before the client has set its filter, and nobody reads those."""
-    report, _ = run_slowly(TAPPED + COUNT * b"c0 readw n1 188\n" + b"stream\n", [packet(256, place) for place in range(COUNT)], PAUSE, 0)
+    packets = [packet(256, place) for place in range(COUNT)]
+    report, _ = run_slowly(TAPPED + COUNT * b"c0 readw n1 188\n" + b"stream\n", packets, PAUSE, 0)
     entries = Report.parse(report).node("n1").entries
     start = next(at for at, entry in enumerate(entries) if entry.call.name == "pes")
     passed = [entry.call.arguments["at"] for entry in entries if entry.call.name == "pass"]
@@ -257,22 +259,25 @@ WRITTEN = "HEX: 1 to 12,032 bytes, two hexadecimal digits each, in lower case"
 MANY, PACKET = 1 << 20, b"\x47" + bytes(187)
 STREAM = "expected that line at the end of the script, and the packets behind it"
 IN_FRONT = "the input begins with a packet: is there a script in front? cat SCRIPT STREAM | dvbemu steps"
-BYTES = (b"#\nc0 section n0 0 0 0 0=0x02/ff/00\nstream\n", "2: bytes", "word 7 is '0=0x02/ff/00'; expected I=FF/MM/DD, two hexadecimal digits each, "
-         "places rising (I from 0 to 15, digits in lower case)")  # fmt: skip
+BYTES = (b"#\nc0 section n0 0 0 0 0=0x02/ff/00\nstream\n", "2: bytes", "word 7 is '0=0x02/ff/00'; expected I=FF/MM/DD, "
+         "two hexadecimal digits each, places rising (I from 0 to 15, digits in lower case)")  # fmt: skip
 # Inputs with a fault, its line and kind, and the line behind that.
 FAULTY = [
     (b"c8 open n0\nstream\n", "1: client", "word 1 is 'c8'; expected feed, tick, a client c0 to c7, or the line stream"),
     (b"#\nc0 strat n0\nstream\n", "2: command", f"word 2 is 'strat'; expected a command: {COMMANDS}"),
     (b"c0 open n32\nstream\n", "1: target", "word 3 is 'n32'; expected a target: n0 to n31, h0 to h31, or dvr"),
-    (b"c0 add n0 0x1000\nstream\n", "1: number", f"word 4 is '0x1000'; expected PID, 0 to 65535 {NUMBER} (decimal: 0x1000 is 4096)"),
+    (b"c0 add n0 0x1000\nstream\n", "1: number",
+     f"word 4 is '0x1000'; expected PID, 0 to 65535 {NUMBER} (decimal: 0x1000 is 4096)"),
     (b"c0 pes n0 0 front tap 0 0\nstream\n", "1: name", "word 5 is 'front'; expected INPUT: frontend or dvr"),
     BYTES,
-    (b"c0 size n0\nstream\n", "1: count", f"the line ends in front of word 4; expected N, 0 to 4294967295 {NUMBER}; the line is cK size T N"),
+    (b"c0 size n0\nstream\n", "1: count",
+     f"the line ends in front of word 4; expected N, 0 to 4294967295 {NUMBER}; the line is cK size T N"),
     (b"c0 poll n0 1\nstream\n", "1: count", "word 4 is '1'; expected the end of the line; the line is cK poll T"),
     (b"c0 write n0 47\nstream\n", "1: target", "word 3 is 'n0'; expected dvr, to which a client writes"),
     (b"c0 write dvr 470\nstream\n", "1: bytes", f"word 4 is '470'; expected {WRITTEN}"),
     (b"c0 write dvr " + 12_033 * b"47" + b"\nstream\n", "1: bytes", f"word 4 is '{20 * '47'}...'; expected {WRITTEN}"),
-    (b"c0 write dvr\nstream\n", "1: count", f"the line ends in front of word 4; expected {WRITTEN}; the line is cK write dvr HEX"),
+    (b"c0 write dvr\nstream\n", "1: count",
+     f"the line ends in front of word 4; expected {WRITTEN}; the line is cK write dvr HEX"),
     (b"c0 write dvr 47 01\nstream\n", "1: count", "word 5 is '01'; expected the end of the line; the line is cK write dvr HEX"),
     (b"#\n", "2: nostream", f"no line is 'stream'; {STREAM}"), (100 * PACKET, "1: nostream", IN_FRONT),
     (PACKET + b"\x47\n" + bytes(186), "1: client", IN_FRONT),
@@ -288,7 +293,8 @@ NO_NUMBER = [
 ]  # fmt: skip
 NO_STREAM = [b"report 5\nabc", b"report 1\n", b"report 4294967295\nabc"]
 # Sessions with a fault, and its line and kind.
-NO_SESSIONS = [(b"", "1: nostream"), (b"#\n", "2: nostream"), (b"stream", "1: nostream"), (b"#\nc0 strat n0\nstream\n", "2: command")]
+NO_SESSIONS = [(b"", "1: nostream"), (b"#\n", "2: nostream"), (b"stream", "1: nostream"),
+               (b"#\nc0 strat n0\nstream\n", "2: command")]  # fmt: skip
 # Texts that are no report, each with the line that shows it: no line, odd bytes, lines of a megabyte.
 NO_TEXTS = [
     (b"", 1), (b"\n", 1), (bytes(1000), 1), (1000 * b"\xff", 1), (MANY * b"1", 1), (MANY * b"1" + b"\n", 1),
@@ -314,7 +320,8 @@ def test_faulty_script(command, given, line, more):
 
 @pytest.mark.parametrize("given, fault", [
     *((given, "0: number") for given in NO_NUMBER), *((given, "0: nostream") for given in NO_STREAM),
-    *((asked_of(report, session), fault) for session, fault in NO_SESSIONS for report in (b"", b"stream\n", b"\n" * 100, ONE_TAP.report)),
+    *((asked_of(report, session), fault)
+      for session, fault in NO_SESSIONS for report in (b"", b"stream\n", b"\n" * 100, ONE_TAP.report)),
 ])  # fmt: skip
 def test_check_that_asks_nothing(given, fault):
     """Input without a report in front, and sessions with a fault behind a report of any bytes."""

@@ -105,8 +105,8 @@ def test_page(page, folder, dvbemu, tried):
     can_be_run = [one for one in commands if not one.needs or SERVER.exists() and all(map(shutil.which, one.needs))]
     assert shown
     for command in tried(can_be_run):
-        ran = subprocess.run(["sh", "-c", command.shell], cwd=folder, stdin=subprocess.DEVNULL, stdout=subprocess.PIPE, stderr=subprocess.STDOUT,
-                             check=False)  # fmt: skip
+        ends = {"stdin": subprocess.DEVNULL, "stdout": subprocess.PIPE, "stderr": subprocess.STDOUT}
+        ran = subprocess.run(["sh", "-c", command.shell], cwd=folder, check=False, **ends)
         found = ran.stdout.decode(errors="replace")
         assert is_shown(command.output, found), f"{page}:{command.line}: it writes\n{found}"
     assert page != TIDY or set(os.listdir(folder)) - before <= IGNORED

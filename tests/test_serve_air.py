@@ -100,13 +100,14 @@ def passes_alone(data, lines, places):
 SATELLITES = "--tune 11362000:DVBS2:H={0} 12188000:DVBS:V={1}"
 SYSTEMS = {
     "DVB-T and DVB-T2, of which a recording is the stream 0": ("--tune 474000000:DVB-T2={0} 482000000:DVBT={1}",
-        "474000000:16 Alpha Beta; 474000000:3 status 1; 482000000:3 Gamma Delta; 474000000:16:2:1:0 Alpha Beta; 474000000:16:2:1:1 status 1"),
-    "satellites": (SATELLITES, "1612000:6:1:1 Alpha Beta; 1612000:6:0:1 status 0; 1612000:5:1:1 status 1; 1588000:5:0:0 Gamma Delta; "
-        "1588000:5:0:1 status 0"),
+        "474000000:16 Alpha Beta; 474000000:3 status 1; 482000000:3 Gamma Delta; 474000000:16:2:1:0 Alpha Beta; "
+        "474000000:16:2:1:1 status 1"),
+    "satellites": (SATELLITES, "1612000:6:1:1 Alpha Beta; 1612000:6:0:1 status 0; 1612000:5:1:1 status 1; "
+        "1588000:5:0:0 Gamma Delta; 1588000:5:0:1 status 0"),
     "voltage and tone": (SATELLITES, "cable 1 1; 1612000:6 Alpha Beta; 1588000:5 status 0; cable 0 0; 1588000:5 Gamma Delta; "
         "1612000:6 status 0; 1588000:5:0:1 status 0; 1588000:5 status 0"),
-    "a satellite's limits": ("--tune=11362000:DVBS2={0}", "1612000:6::::999999 EINVAL; 1612000:6::::45000001 EINVAL; 1612000:5::::0 EINVAL; "
-        "949999:6 EINVAL; 2150001:6 EINVAL; 1612000:6::::1000000 Alpha Beta"),
+    "a satellite's limits": ("--tune=11362000:DVBS2={0}", "1612000:6::::999999 EINVAL; 1612000:6::::45000001 EINVAL; "
+        "1612000:5::::0 EINVAL; 949999:6 EINVAL; 2150001:6 EINVAL; 1612000:6::::1000000 Alpha Beta"),
 }  # fmt: skip
 CHANNELS = """# cable, ATSC and ISDB-T
 346000000:DVBC={0}
@@ -115,8 +116,8 @@ CHANNELS = """# cable, ATSC and ISDB-T
 473142857:ISDBT={2}
 561000000:DVBCB={1}
 """
-HEARD = """346000000:1 Alpha Beta; 57000000:11 Gamma Delta; 473142857:8 Epsilon Zeta; 473142857:1 status 1; 561000000:2 Gamma Delta
-561000000:1 status 1; 346000000:1::::0 EINVAL; 57000000:11::::0 Gamma Delta"""
+HEARD = """346000000:1 Alpha Beta; 57000000:11 Gamma Delta; 473142857:8 Epsilon Zeta; 473142857:1 status 1
+561000000:2 Gamma Delta; 561000000:1 status 1; 346000000:1::::0 EINVAL; 57000000:11::::0 Gamma Delta"""
 
 
 @pytest.mark.parametrize("name", SYSTEMS)
@@ -165,7 +166,8 @@ def test_adapters(served, air):
     words = [TUNER, "474000000", "adapter", "1", "474000000", "482000000"]
     told = "474000000 Alpha Beta\n474000000 status 0\n482000000 Gamma Delta\n"
     assert served.call(["--report", served.report, "--adapter", air[0], "--adapter", "channels"], words) == (told, 0)
-    out, _ = served.call(["--report", served.report, "--adapter", air[0], "--adapter", air[1]], ["ls", "/dev/dvb", "/dev/dvb/adapter1"])
+    words = ["--report", served.report, "--adapter", air[0], "--adapter", air[1]]
+    out, _ = served.call(words, ["ls", "/dev/dvb", "/dev/dvb/adapter1"])
     assert out.split() == ["/dev/dvb:", "adapter0", "adapter1", "/dev/dvb/adapter1:", "demux0", "dvr0", "frontend0"]
     assert [served.read(f"report.{number}")[:8] for number in (0, 1)] == 2 * [b"dvbemu 1"]
 
@@ -324,7 +326,8 @@ def test_libudev(served):
     if "no libudev" in alone:
         pytest.skip("libudev isn't there")
     out, status = served.call([*PACED, "--adapter", served.stream, "--adapter", served.stream], [*words, "dvb"])
-    nodes = [f"dvb dvb{number}.{kind}0 /dev/dvb/adapter{number}/{kind}0 {kind}" for number in (0, 1) for kind in ("frontend", "demux", "dvr")]
+    kinds = [(number, kind) for number in (0, 1) for kind in ("frontend", "demux", "dvr")]
+    nodes = [f"dvb dvb{number}.{kind}0 /dev/dvb/adapter{number}/{kind}0 {kind}" for number, kind in kinds]
     lines = out.splitlines()
     assert status == 0 and [line for line in lines if line.startswith("dvb ")] == nodes
     assert [line for line in lines if not line.startswith("dvb ")] == alone.splitlines()
@@ -352,7 +355,7 @@ def place():
 def test_killed(served, place):
     """Where the wrapper is killed its server ends, programs that wait are told, those that don't end are ended, and its folder
     goes."""
-    script = 'ls -d "$TMPDIR"/dvbemu-*/ > folder; "$0" hold > held; trap \'\' TERM; sleep 600 & echo $! > other; wait; exec sleep 600'
+    script = 'ls -d "$TMPDIR"/dvbemu-*/ > folder; "$0" hold > held; trap "" TERM; sleep 600 & echo $! > other; wait; exec sleep 600'
     words = [SERVE, *PACED, served.stream, "--", "sh", "-c", script, TUNER]
     with subprocess.Popen(words, cwd=served.folder, env={**os.environ, "TMPDIR": place}, start_new_session=True) as child:
         assert comes(lambda: b"held" in served.read("held"))

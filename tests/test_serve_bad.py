@@ -95,7 +95,8 @@ def test_others_stay(served, others):
     """So do processes that the wrapper hasn't begun; and it leaves nothing."""
     place, before = others
     with subprocess.Popen(["sleep", "100"]) as other:
-        out, status = served.call(["--keep", "none", "--packets", RATE, served.stream], ["true"], env={**os.environ, "TMPDIR": str(place)})
+        words = ["--keep", "none", "--packets", RATE, served.stream]
+        out, status = served.call(words, ["true"], env={**os.environ, "TMPDIR": str(place)})
         assert status == 0 and other.poll() is None, out
         other.kill()
     left = set(os.listdir(place))

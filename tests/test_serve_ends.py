@@ -112,7 +112,7 @@ def test_status(served, command, wanted):
 
 def test_nested(served):
     """Of one command in another the inner one's programs have its adapter, and then the outer one's again."""
-    outer, inner = (served.put(f"{names[0]}.ts", Station(number, names, HERTZ).stream(2)) for number, names in enumerate(NAMES[:2], 1))
+    outer, inner = (served.put(names[0], Station(number, names, HERTZ).stream(2)) for number, names in enumerate(NAMES[:2], 1))
     words = ["sh", "-c", '"$@" && "$0" 474000000', TUNER, SERVE, *PACED, inner, "--", TUNER, "474000000"]
     told = "".join(f"474000000 {' '.join(names)}\n" for names in (NAMES[1], NAMES[0]))
     assert served.call([*PACED, outer], words) == (told, 0)
@@ -120,7 +120,8 @@ def test_nested(served):
 
 def test_bells(served):
     """A bell's file is made when its node is opened for the first time, and not before, and once more with another."""
-    script = f"bells() {{ ls \"$DVBEMU_DIR\" | grep -c '^bell'; }}; bells; exec 3<{DEMUX}; bells; exec 3<&-; exec 3<{DEMUX} 4<{DEMUX}; bells"
+    bells = "ls \"$DVBEMU_DIR\" | grep -c '^bell'"
+    script = f"{bells}; exec 3<{DEMUX}; {bells}; exec 3<&-; exec 3<{DEMUX} 4<{DEMUX}; {bells}"
     assert served.run("sh", "-c", script, keep="none")[0] == "0\n1\n2\n"
 
 
@@ -134,7 +135,8 @@ def test_without_rights_of_root(served, command, told):
     served.path("closed").mkdir(0o700)
     words = ["env", f"TMPDIR={served.path('closed')}", SERVE, *PACED, served.stream, "--", sys.executable, "-c", script, *command]
     out = ran(words).stdout
-    assert out.startswith("dvbemu serve: started by root: a program that gives up root's rights can't open") and HINTS.sub("", out) == told
+    assert out.startswith("dvbemu serve: started by root: a program that gives up root's rights can't open")
+    assert HINTS.sub("", out) == told
 
 
 # ------ what won't have the preload
@@ -199,7 +201,9 @@ def test_quoted_command(served, small):
 # ------ seats and processes
 
 
-@pytest.mark.parametrize("seats, told", [("1", "dvbemu serve: 2 programs found no seat, as 1 may be in at a time (--seats)\n"), ("3", "")])
+@pytest.mark.parametrize("seats, told", [
+    ("1", "dvbemu serve: 2 programs found no seat, as 1 may be in at a time (--seats)\n"), ("3", ""),
+])  # fmt: skip
 def test_seatless(served, seats, told):
     """How many programs have found no seat is told at the end, each once."""
     script = '"$0" +wait 12 & sleep 1; (exec 3<$1; exec 3<$1) & "$0" +beside & wait'

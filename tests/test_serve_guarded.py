@@ -16,7 +16,8 @@ from serving import SERVED, SLOW, at_once, ran
 # some times, which takes long here.
 NOT_BY_VALGRIND = ("-numbers_of_the_preload", "-few_descriptors", "-a_high_number", "-by_io_uring", "-by_vfork", "-bad_pointers",
                    "-another_process_sees_the_lock")  # fmt: skip
-NOT_OVER_SANITIZERS, SANITIZED, FEW = ("-by_the_shell", "-small_stacks"), "ASAN_OPTIONS=verify_asan_link_order=0:detect_leaks=0", "ROUNDS=10"
+NOT_OVER_SANITIZERS, FEW = ("-by_the_shell", "-small_stacks"), "ROUNDS=10"
+SANITIZED = "ASAN_OPTIONS=verify_asan_link_order=0:detect_leaks=0"
 ADDRESSES, BOTH = ["-g", "-fsanitize=address"], ["-g", "-fsanitize=address,undefined", "-fno-sanitize-recover=undefined"]
 LIBRARY = ["-O2", "-D_GNU_SOURCE", "-Wall", "-Wextra", "-shared", "-fPIC"]
 # A preload of somebody else, whose stat is by its stat64, as fakeroot's calls are by others.

@@ -51,8 +51,8 @@ PIDS, LEAST, FOLLOWING = {256, 257}, 100, 60
 # The bytes in front of the packets of a datagram.
 RTP = 12
 # What is on the air, the channel that is scanned, and what is found there.
-DVBS2 = ("DELIVERY_SYSTEM = DVBS2, FREQUENCY = 11362000, POLARIZATION = HORIZONTAL, SYMBOL_RATE = 22000000, INNER_FEC = AUTO, MODULATION = PSK/8, "
-         "INVERSION = AUTO")  # fmt: skip
+DVBS2 = ("DELIVERY_SYSTEM = DVBS2, FREQUENCY = 11362000, POLARIZATION = HORIZONTAL, SYMBOL_RATE = 22000000, INNER_FEC = AUTO, "
+         "MODULATION = PSK/8, INVERSION = AUTO")  # fmt: skip
 SYSTEMS = (
     ("11362000:DVBS2:H", DVBS2, ["Alpha", "Beta"]), ("11362000:DVBS2:V", DVBS2, []),
     ("346000000:DVBC", "DELIVERY_SYSTEM = DVBC/ANNEX_A, FREQUENCY = 346000000, SYMBOL_RATE = 6900000, INNER_FEC = NONE, "
@@ -171,7 +171,8 @@ def heard(served, air):
     """What a command, a line or a list, wrote over so many stations; its report is that of a run, where it is kept."""
 
     def run(words, count=1, statuses=(0,), keeps=False, system=":DVBT"):
-        out, status = served.run(*(words.split() if isinstance(words, str) else words), air=air(count, system)[0], keep="none" if keeps else None)
+        words = words.split() if isinstance(words, str) else words
+        out, status = served.run(*words, air=air(count, system)[0], keep="none" if keeps else None)
         assert status in statuses, out
         if not keeps:
             served.is_right(stream=served.path("played"))
@@ -325,8 +326,8 @@ def test_gstreamer(served, heard, line, statuses, more):
     needs("gst-launch-1.0", "gst-inspect-1.0")
     if ran(["gst-inspect-1.0", "dvbsrc"]).returncode:
         pytest.skip("GStreamer's dvbsrc isn't there")
-    launch = f"env XDG_CACHE_HOME={served.folder} timeout -s INT 15 gst-launch-1.0 -q {line.format(HERTZ[0])} ! filesink location=g.ts"
-    heard(launch, statuses=statuses)
+    launch = f"env XDG_CACHE_HOME={served.folder} timeout -s INT 15 gst-launch-1.0 -q"
+    heard(f"{launch} {line.format(HERTZ[0])} ! filesink location=g.ts", statuses=statuses)
     is_of_station(served, "g.ts", more)
     out, _ = served.run("env", f"XDG_CACHE_HOME={served.path('new')}", "gst-inspect-1.0", "-b", keep="none")
     assert "0 blacklisted files" in out, "none of its plugins is written off"
@@ -367,8 +368,8 @@ def test_vlc(served, air):
         os.chmod(served.folder, 0o755)
         os.chown(served.folder, int(NOBODY), -1)
     as_nobody = f"setpriv --reuid={NOBODY} --regid={NOBODY} --clear-groups ".split() if is_root else []
-    line = ("timeout -s INT 25 cvlc -q --no-video --no-audio dvb-t://frequency=474000000:bandwidth=8 --sout #std{access=file,mux=ts,dst=v.ts} "
-            "--run-time 5 vlc://quit")  # fmt: skip
+    line = ("timeout -s INT 25 cvlc -q --no-video --no-audio dvb-t://frequency=474000000:bandwidth=8 "
+            "--sout #std{access=file,mux=ts,dst=v.ts} --run-time 5 vlc://quit")  # fmt: skip
     out, _ = served.run(*line.split(), air=words, keep="none", before=[*as_nobody, "env", f"HOME={served.folder}"])
     assert len(served.read("v.ts")) >= 20 * PACKET, out
     assert not shutil.which("ffprobe") or {"mpeg2video", "mp2"} <= codecs_of(served, "v.ts")
@@ -378,4 +379,5 @@ def test_vlc(served, air):
 def test_kaffeine(served, heard):
     """It starts, and goes on until it is ended."""
     needs("kaffeine", "dbus-run-session")
-    heard(f"env HOME={served.folder} QT_QPA_PLATFORM=offscreen timeout 8 dbus-run-session -- kaffeine", statuses=(124,), keeps=True)
+    line = f"env HOME={served.folder} QT_QPA_PLATFORM=offscreen timeout 8 dbus-run-session -- kaffeine"
+    heard(line, statuses=(124,), keeps=True)

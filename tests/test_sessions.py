@@ -73,7 +73,8 @@ def test_changed_report(name):
 def test_each_byte_of_a_line(tried, first, behind):
     """A report with each byte of a line changed in turn, and cut behind it: `check` and the judge answer the same."""
     report, session = POLLED.report, POLLED.session
-    others = [report[:place] + (b"2" if report[place] == ord("1") else b"1") + report[place + 1 :] for place in range(first, behind)]
+    bytes_ = {place: b"2" if report[place] == ord("1") else b"1" for place in range(first, behind)}
+    others = [report[:place] + other + report[place + 1 :] for place, other in bytes_.items()]
     for other in tried([*others, *([report[:behind]] if behind < len(report) else [])]):
         assert answers(other, session)[:2] == judge.answer(asked_of(other, session))[:2], other
 

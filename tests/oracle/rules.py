@@ -14,7 +14,7 @@ from pathlib import Path
 
 ROOT = Path(__file__).resolve().parents[2]
 DOCUMENTS = "BEHAVIOUR.md", "MADE.md"
-PROGRAMS = "tests/oracle/second.py", "tests/oracle/judge.py", "tests/oracle/reports.py", "tests/oracle/made.py", "tests/test_drawn.py"
+PROGRAMS = [f"tests/{name}.py" for name in ("oracle/second", "oracle/judge", "oracle/reports", "oracle/made", "test_drawn")]
 LINE = re.compile(r"^( *# RULES: )([0-9a-f]{8}) (.+)$", re.M)
 # The lines under a rule that say where it stands, with the line above them that names it, and those that go on with one of them.
 PLACES = re.compile(r"(?:^[^\n]*:\n)?(?:^- (?:Defined|Done by|Shown by|Must fail): .*\n(?:^  .*\n)*)+", re.M)
@@ -33,7 +33,8 @@ def sections():
 
 def named():
     """The program, the heading and the checksum of each line."""
-    return [(program, heading, checksum) for program in PROGRAMS for _, checksum, heading in LINE.findall((ROOT / program).read_text())]
+    found = {program: LINE.findall((ROOT / program).read_text()) for program in PROGRAMS}
+    return [(program, heading, checksum) for program in PROGRAMS for _, checksum, heading in found[program]]
 
 
 def accept():
