@@ -242,16 +242,14 @@ class History(Walk):
         capture.losses = [self.fill_before(loss, capture, bounds) for loss in capture.told_losses]
         if capture.pending is not None:
             capture.losses.append(Untold(capture.pending, capture.pending, min(last, len(self.sizes) - 1)))
-        places = [step.place for step in capture.steps] + [last]
-        for number, step in enumerate(capture.steps):
-            is_told = step.packets <= capture.told_packets or capture.kind == "ts_tap"
-            low, high = (self.within(level, step.place) if is_told else None for level in bounds[number])
-            place, until = places[number : number + 2]
-            self.low[place:until], self.high[place:until] = [low] * (until - place), [high] * (until - place)
-
-    def within(self, level: int, place: int) -> int:
-        """A level that the buffer can have at this place."""
-        return max(0, min(level, (self.sizes[place] or 1) - 1))
+        behind = [step.place for step in capture.steps[1:]] + [last]
+        for (place, packets, *_), until, (low, high) in zip(capture.steps, behind, bounds):
+            # (no more than the buffer can have at this place)
+            most = (self.sizes[place] or 1) - 1
+            is_told = packets <= capture.told_packets or capture.kind == "ts_tap"
+            levels = (max(0, min(low, most)), max(0, min(high, most))) if is_told else (None, None)
+            for at in range(place, until):
+                self.low[at], self.high[at] = levels
 
     def fill_before(self, kept: tuple[int, int, Loss], capture: Capture, bounds: list[tuple[int, int]]) -> Loss:
         """The overflow span with the places behind which it may have come and has come: the buffer is as full then as it says, and
