@@ -72,19 +72,16 @@ os.execv(os.environ["REAL"], [os.environ["REAL"], *sys.argv[1:]])
 FAULTS = [
     ("MemoryError()", 7, "out of memory"), ("OSError(28, 'No space left on device', 'a')", 1, "a: No space left on device"),
     ("OSError(24, 'Too many open files')", 1, "Too many open files"),
-    ("IndexError('a\\nb')", 70, "internal error, at <string>:5: IndexError: a b"),
+    ("IndexError('a\\nb')", 70, "internal error, at <string>:3: IndexError: a b"),
 ]
 FAULTY = """
-import sys
-sys.path.insert(0, sys.argv[1])
 from dvbemu import standard
 def fails(): raise {}
 standard.run("dvbemu it", fails)
 """
 # A hang-up that comes just behind the look that finds the program's end.
 HUNG_UP = """
-import os, signal, sys
-sys.path.insert(0, sys.argv[1])
+import os, signal
 from dvbemu import child
 reap = os.waitpid
 def waitpid(*words):
@@ -230,7 +227,7 @@ def test_a_reader_that_goes(files_room, line):
 
 
 def test_a_hang_up_behind_the_end():
-    ran = subprocess.run([sys.executable, "-c", HUNG_UP, SOURCE], capture_output=True, check=False, timeout=ENDS)
+    ran = subprocess.run([sys.executable, "-c", HUNG_UP], capture_output=True, check=False, timeout=ENDS, env={**os.environ, "PYTHONPATH": SOURCE})
     assert (ran.returncode, ran.stderr) == (-signal.SIGHUP, b"")
 
 
@@ -298,8 +295,8 @@ def test_nohup(files_room):
 @pytest.mark.parametrize("ends", ["", "2>&-", ">&-", "<&- >/dev/full 2>/dev/full"])
 @pytest.mark.parametrize("fault, status, told", FAULTS)
 def test_faults(fault, status, told, ends):
-    words = ["sh", "-c", f"exec \"$0\" -c \"$1\" \"$2\" {ends}", sys.executable, FAULTY.format(fault), SOURCE]
-    ran = subprocess.run(words, stdin=subprocess.DEVNULL, capture_output=True, text=True, check=False)
+    words, place = ["sh", "-c", f"exec \"$0\" -c \"$1\" {ends}", sys.executable, FAULTY.format(fault)], {"PYTHONPATH": SOURCE}
+    ran = subprocess.run(words, stdin=subprocess.DEVNULL, capture_output=True, text=True, check=False, env={**os.environ, **place})
     assert (ran.returncode, ran.stdout, ran.stderr) == (status, "", "" if "2" in ends else f"dvbemu it: {told}\n")
 
 

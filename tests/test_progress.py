@@ -24,10 +24,9 @@ CALLS = "".join(f"0 {step} c0 {step} {('open', 'close')[step % 2]} = {DONE}\n" f
 # `merge`, whose line comes at once.
 MERGE = """
 import sys
-sys.path.insert(0, sys.argv[1])
 from dvbemu import cli, progress
 progress.FIRST = 0.01
-cli.begin("merge", sys.argv[2])
+cli.begin("merge", sys.argv[1])
 """
 
 
@@ -94,8 +93,8 @@ def test_one_terminal():
 def test_merge(room, on_terminal, says):
     room.write({"0.calls": CALLS.encode(), "batches": b"", "head": EMPTY})
     ours, theirs = pty.openpty() if on_terminal else os.pipe()
-    words = [sys.executable, "-c", MERGE, str(ROOT / "python" / "src"), str(room.folder)]
-    with subprocess.Popen(words, stdin=subprocess.DEVNULL, stdout=subprocess.PIPE, stderr=theirs) as process:
+    words, place = [sys.executable, "-c", MERGE, str(room.folder)], {"PYTHONPATH": str(ROOT / "python" / "src")}
+    with subprocess.Popen(words, stdin=subprocess.DEVNULL, stdout=subprocess.PIPE, stderr=theirs, env={**os.environ, **place}) as process:
         os.close(theirs)
         out, said = process.communicate()[0], all_of(ours)
     assert re.fullmatch(says, said, re.S) and process.returncode == 0

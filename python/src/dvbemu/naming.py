@@ -11,7 +11,7 @@ from typing import TYPE_CHECKING, NamedTuple
 
 from . import abi
 from .psi import fields
-from .reports import filter_words
+from .reports import BITS_16, BITS_32, MOST_BYTES, filter_words
 
 if TYPE_CHECKING:
     from typing import Any, Callable, Mapping, Sequence
@@ -30,13 +30,12 @@ FIELDS = {
 }
 FIELDS |= dict.fromkeys(("table_id_extension", "transport_stream_id", "program_number", "service_id", "network_id", "bouquet_id"),
                         FIELDS.pop("table_id_extension"))  # fmt: skip
-MOST, SLOTS = 2**32 - 1, 32
-LARGEST_READ, LARGEST_WRITE = 65536, 12032
+LARGEST_WRITE = 12032
 # What stands behind the target of each command.
 COMMANDS = {"open": (), "close": (), "start": (), "stop": (), "poll": (), "section": ("PID", "TIMEOUT", "FLAGS", "BYTE"),
             "pes": ("PID", "INPUT", "OUTPUT", "TYPE", "FLAGS"), "add": ("PID",), "remove": ("PID",), "size": ("N",), "read": ("COUNT",),
             "readw": ("COUNT",), "drain": ("COUNT",), "ioctl": ("REQ", "HEX"), "write": ("HEX",)}  # fmt: skip
-LIMITS = {"PID": 65535, "COUNT": LARGEST_READ}
+LIMITS = {"PID": BITS_16, "COUNT": MOST_BYTES}
 
 
 class Fault(Exception):
@@ -72,7 +71,7 @@ def number_in(word: str) -> int | None:
 
 def plain_number(kind: str, word: str) -> str:
     """A number as the program reads it."""
-    number, most = number_in(word), LIMITS.get(kind, MOST)
+    number, most = number_in(word), LIMITS.get(kind, BITS_32)
     if number is None or number > most:
         raise Fault("number", word, f"{'N' if kind == 'COUNT' else kind}, 0 to {most}, as 4096 or 0x1000")
     return str(number)
@@ -89,7 +88,7 @@ def plain_flags(word: str) -> str:
     values = [FLAGS.get(bare(part), number_in(part)) for part in parts]
     total = 0
     for value in values:
-        if value is None or value > MOST:
+        if value is None or value > BITS_32:
             raise Fault("number", word, f"FLAGS, a number or {', '.join(FLAGS)} with + between them")
         total |= value
     return str(total)

@@ -8,8 +8,8 @@ import reprlib
 
 from . import naming
 from .abi import DMX_CHECK_CRC, DMX_IMMEDIATE_START, DMX_IN_FRONTEND, DMX_OUT_TSDEMUX_TAP, GET_STC, Flag, Input, Output, PesType
-from .naming import LARGEST_READ, LARGEST_WRITE, MOST
-from .reports import CLIENTS, filter_words
+from .naming import LARGEST_WRITE
+from .reports import BITS_16, BITS_32, CLIENTS, MOST_BYTES, filter_words
 
 PLACES = 16
 
@@ -41,11 +41,11 @@ class Script:
 
     def feed(self, packets: int) -> Script:
         """So many packets of the stream pass."""
-        return self._add("feed", _within(packets, 1, MOST, "packets"))
+        return self._add("feed", _within(packets, 1, BITS_32, "packets"))
 
     def tick(self, milliseconds: int) -> Script:
         """So much time passes."""
-        return self._add("tick", _within(milliseconds, 0, MOST, "milliseconds"))
+        return self._add("tick", _within(milliseconds, 0, BITS_32, "milliseconds"))
 
     def client(self, number: int) -> Client:
         """A program, 0 to 7."""
@@ -92,7 +92,7 @@ class Device:
         if fields and (filter or mask or mode):
             raise ValueError("a filter is its bytes, or fields by their names")
         words = [f"{name}={value}" for name, value in fields.items()]
-        self._call("section", _pid(pid), _within(timeout, 0, MOST, "timeout"), _within(flags, 0, MOST, "flags"),
+        self._call("section", _pid(pid), _within(timeout, 0, BITS_32, "timeout"), _within(flags, 0, BITS_32, "flags"),
                    *_filter_words(filter, mask, mode, words))  # fmt: skip
 
     def set_pes_filter(
@@ -101,7 +101,7 @@ class Device:
     ) -> None:  # fmt: skip
         """DMX_SET_PES_FILTER."""
         self._call("pes", _pid(pid), _value(input, DMX_IN_FRONTEND, "input"), _value(output, DMX_OUT_TSDEMUX_TAP, "output"),
-                   _within(pes_type, 0, MOST, "pes_type"), _within(flags, 0, MOST, "flags"))  # fmt: skip
+                   _within(pes_type, 0, BITS_32, "pes_type"), _within(flags, 0, BITS_32, "flags"))  # fmt: skip
 
     def add_pid(self, pid: int) -> None:
         """DMX_ADD_PID."""
@@ -121,19 +121,19 @@ class Device:
 
     def set_buffer_size(self, size: int) -> None:
         """DMX_SET_BUFFER_SIZE, in bytes."""
-        self._call("size", _within(size, 0, MOST, "size"))
+        self._call("size", _within(size, 0, BITS_32, "size"))
 
     def get_stc(self, number: int = 0) -> None:
         """DMX_GET_STC: its answer is the outcome of this line."""
-        self._call("ioctl", f"{GET_STC.number:08x}", GET_STC.layout.pack(_within(number, 0, MOST, "a counter")).hex())
+        self._call("ioctl", f"{GET_STC.number:08x}", GET_STC.layout.pack(_within(number, 0, BITS_32, "a counter")).hex())
 
     def read(self, count: int, waits: bool = False) -> None:
         """read() of at most so many bytes, with O_NONBLOCK; or one that waits until there is something to tell."""
-        self._call("readw" if waits else "read", _within(count, 0, LARGEST_READ, "count"))
+        self._call("readw" if waits else "read", _within(count, 0, MOST_BYTES, "count"))
 
     def drain(self, count: int) -> None:
         """Reads of at most so many bytes until the stream has ended and nothing is left."""
-        self._call("drain", _within(count, 0, LARGEST_READ, "count"))
+        self._call("drain", _within(count, 0, MOST_BYTES, "count"))
 
     def poll(self) -> None:
         """poll()."""
@@ -180,7 +180,7 @@ def _value(value: enum.Enum, like: enum.Enum, what: str) -> str:
 
 
 def _pid(value: int) -> int:
-    return _within(value, 0, 65535, "a PID")
+    return _within(value, 0, BITS_16, "a PID")
 
 
 def _target(device: str) -> str:

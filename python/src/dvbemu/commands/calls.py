@@ -20,7 +20,8 @@ from typing import TYPE_CHECKING
 from .. import abi
 from .. import tool
 from ..inputs import many
-from ..naming import LARGEST_READ, LARGEST_WRITE, SLOTS, command_text
+from ..naming import LARGEST_WRITE, command_text
+from ..reports import DVR, MOST_BYTES
 from ..traced import Traced, bytes_at, path_of, waits
 
 if TYPE_CHECKING:
@@ -85,7 +86,7 @@ class Script:
     def slot(self) -> str | None:
         """The first slot that no open device has."""
         used = self.open_targets()
-        return next((f"h{i}" for i in range(SLOTS) if f"h{i}" not in used), None)
+        return next((f"h{i}" for i in range(DVR) if f"h{i}" not in used), None)
 
     def opened(self, thread: int, descriptor: int) -> None:
         """A file was opened: a device gets a line."""
@@ -121,10 +122,10 @@ class Script:
 
     def read(self, thread: int, target: str, descriptor: int, count: int) -> None:
         """A read: that of a client that waits, unless the device is open without waiting."""
-        if count > LARGEST_READ:
-            self.line(f"# a read of {count} bytes; one asks for {LARGEST_READ} at most")
+        if count > MOST_BYTES:
+            self.line(f"# a read of {count} bytes; one asks for {MOST_BYTES} at most")
         verb = "readw" if waits(thread, descriptor) else "read"
-        self.line(f"c0 {verb} {target} {min(count, LARGEST_READ)}")
+        self.line(f"c0 {verb} {target} {min(count, MOST_BYTES)}")
 
     def written(self, thread: int, target: str, place: int, count: int) -> None:
         """A write to the dvr device, in lines of as many bytes as one takes."""

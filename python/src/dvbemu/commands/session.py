@@ -30,9 +30,6 @@ if TYPE_CHECKING:
     Key = Tuple[str, int]
 
 
-NODES = 32
-
-
 class Command(NamedTuple):
     """A command of a client: its first call and that one's node, and the keys of its calls, which are client and step."""
 
@@ -199,7 +196,7 @@ def why_not_served(report: Report, order: Order) -> str | None:
         calls = [call for call in command.calls if not order.calls[call][0].act.startswith(("attach ", "detach "))]
         is_first = [order.node_of(call) for call in calls] == list(range(len(calls))) and order.busy.issuperset(calls[:-1])
         if command.is_search():
-            if not is_first or calls[-1] in order.busy and len(calls) < NODES:
+            if not is_first or calls[-1] in order.busy and len(calls) < DVR:
                 return f"an open of demux0 by {command.first.who} doesn't look for the first free node"
         elif len(calls) > 1:
             return f"a command of {command.first.who} makes {len(calls):,} calls"

@@ -27,25 +27,13 @@ MOST_NAMED = 4
 
 
 class Loss(NamedTuple):
-    """An overflow span: the first place behind which it may have come, the first behind which it has, the place of the read that
-    tells it, and the reply's numbers."""
+    """An overflow: the first place behind which it may have come, the first behind which it has, and the place of the read that tells it,
+    with its reply; of one that no read tells the places where a poll or a drop shows it, and the last place of its capture."""
 
     first: int
     sure: int
     told: int
-    begin: int
-    end: int
-    item: int
-    need: int
-    room: int
-
-
-class Untold(NamedTuple):
-    """An overflow that no read tells: the place where a poll or a drop shows it, and the last place of its capture."""
-
-    first: int
-    sure: int
-    told: int
+    reply: Reply | None = None
 
 
 class Step(NamedTuple):
@@ -87,8 +75,8 @@ class Capture(Answered):
         self.labels = [(begin, label)]
         self.over: int | None = None
         self.expiry: Expiry | None = None
-        self.told_losses: list[tuple[int, int, Loss]] = []
-        self.losses: list[Loss | Untold] = []
+        self.told_losses: list[tuple[int, int, int, Reply]] = []
+        self.losses: list[Loss] = []
         self.packets, self.told_packets = 0, 0
         self.known, self.steps = [Known(begin, 0, 0)], [Step(begin, 0, 0, 0)]
         self.clear, self.keeps = 0, False
@@ -111,9 +99,7 @@ class Capture(Answered):
 
     def lose(self, place: int, reply: Reply) -> None:
         """Keeps an overflow span with the number of the last step behind which none was pending, and that of the read's."""
-        begin, end = reply["span"]
-        loss = Loss(place, place, place, begin, end, reply["item"], reply["need"], reply["room"])
-        self.told_losses.append((self.clear, len(self.steps), loss))
+        self.told_losses.append((self.clear, len(self.steps), place, reply))
         self.pending = None
 
 
@@ -137,7 +123,7 @@ class History(Walk):
         for capture in self.captures:
             self.fill(capture)
 
-    def losses(self) -> list[Loss | Untold]:
+    def losses(self) -> list[Loss]:
         """All overflow spans, and the overflows that no read tells."""
         return [loss for capture in self.captures for loss in capture.losses]
 
@@ -239,34 +225,31 @@ class History(Walk):
         """Fills in the bytes unread behind each entry of a capture, and where its overflow spans are drawn from."""
         last = len(self.sizes) if capture.end is None else capture.end
         bounds = [(low - step.answered, high - step.answered) for step, (low, high) in zip(capture.steps, bounds_of(capture))]
-        capture.losses = [self.fill_before(loss, capture, bounds) for loss in capture.told_losses]
+        capture.losses = [self.fill_before(*loss, capture, bounds) for loss in capture.told_losses]
         if capture.pending is not None:
-            capture.losses.append(Untold(capture.pending, capture.pending, min(last, len(self.sizes) - 1)))
-        places = [step.place for step in capture.steps] + [last]
-        for number, step in enumerate(capture.steps):
-            is_told = step.packets <= capture.told_packets or capture.kind == "ts_tap"
-            low, high = (self.within(level, step.place) if is_told else None for level in bounds[number])
-            place, until = places[number : number + 2]
-            self.low[place:until], self.high[place:until] = [low] * (until - place), [high] * (until - place)
+            capture.losses.append(Loss(capture.pending, capture.pending, min(last, len(self.sizes) - 1)))
+        behind = [step.place for step in capture.steps[1:]] + [last]
+        for (place, packets, *_), until, (low, high) in zip(capture.steps, behind, bounds):
+            # (no more than the buffer can have at this place)
+            most = (self.sizes[place] or 1) - 1
+            is_told = packets <= capture.told_packets or capture.kind == "ts_tap"
+            levels = (max(0, min(low, most)), max(0, min(high, most))) if is_told else (None, None)
+            for at in range(place, until):
+                self.low[at], self.high[at] = levels
 
-    def within(self, level: int, place: int) -> int:
-        """A level that the buffer can have at this place."""
-        return max(0, min(level, (self.sizes[place] or 1) - 1))
-
-    def fill_before(self, kept: tuple[int, int, Loss], capture: Capture, bounds: list[tuple[int, int]]) -> Loss:
+    def fill_before(self, clear: int, told: int, place: int, reply: Reply, capture: Capture, bounds: list[tuple[int, int]]) -> Loss:
         """The overflow span with the places behind which it may have come and has come: the buffer is as full then as it says, and
         from then on only what is read leaves it; with KEEP it holds what comes before the span."""
-        clear, told, loss = kept
-        full = (self.sizes[loss.told] or 1) - 1 - loss.room
+        full, begin = (self.sizes[place] or 1) - 1 - reply["room"], reply["span"][0]
         steps, last = capture.steps, max(clear + 1, told - 1)
-        between = [(number, loss.begin - steps[number].answered if capture.keeps else full) for number in range(clear + 1, told)]
+        between = [(number, begin - steps[number].answered if capture.keeps else full) for number in range(clear + 1, told)]
         sure = next((number for number, most in between if bounds[number][0] > most or steps[number].is_over), last)
         first = min(sure, next((number for number, most in between if bounds[number][1] > most), last))
         for number, most in between[first - clear - 1 :]:
             left = most if capture.keeps else full - steps[number].answered + steps[min(first, told - 1)].answered
             bounds[number] = (left if number >= sure else min(bounds[number][0], left), left)
         first, sure = (steps[min(number, told)].place for number in (first, sure))
-        return loss._replace(first=first, sure=sure)
+        return Loss(first, sure, place, reply)
 
 
 def pids_labels(pids: set[int]) -> Label:

@@ -347,19 +347,19 @@ def runs_of(values: Iterable[int | None]) -> list[Run]:
     return [*found, Run(first, place + 1, last)]
 
 
-def loss_label(loss: unread.Loss | unread.Untold) -> str:
+def loss_label(loss: unread.Loss) -> str:
     """An overflow in a few words."""
-    if isinstance(loss, unread.Untold):
+    if loss.reply is None:
         return "overflow that no read tells"
-    return f"lost {loss.begin}..{loss.end}: item {loss.item} needs {loss.need}, room {loss.room}"
+    return "lost {span[0]}..{span[1]}: item {item} needs {need}, room {room}".format(**loss.reply)
 
 
-def loss_words(loss: unread.Loss | unread.Untold) -> str:
+def loss_words(loss: unread.Loss) -> str:
     """An overflow in the words of its reply."""
-    if isinstance(loss, unread.Untold):
+    if loss.reply is None:
         return f"overflow that no read tells, from place {loss.first} on at the latest"
     since = f"place {loss.sure}" if loss.first == loss.sure else f"one of the places {loss.first} to {loss.sure}"
-    what = f"overflow {loss.begin}..{loss.end} item={loss.item} need={loss.need} room={loss.room}"
+    what = "overflow {span[0]}..{span[1]} item={item} need={need} room={room}".format(**loss.reply)
     return f"{what}, from {since} on, told at place {loss.told}"
 
 
