@@ -4,6 +4,7 @@ What that kernel's own code was seen to answer stands in tests/linux: points.row
 cases.rows 148 more. With no row at work the model is docs/BEHAVIOUR.md, as the second program has it."""
 import json
 import re
+import subprocess
 
 import dvbemu
 import pytest
@@ -330,3 +331,12 @@ def test_a_folder_of_tests(room):
 ])  # fmt: skip
 def test_side_by_side(here, there, wanted):
     assert [(place, "".join(one), "".join(two)) for place, one, two in differences([*here], [*there])] == wanted
+
+
+@pytest.mark.usefixtures("server")
+def test_an_adapter():
+    """The report of an adapter knows what was played, unless there are several recordings."""
+    with dvbemu.serve(STREAM, packets=3000) as adapter:
+        adapter.run(["head", "-c", "1", "/dev/dvb/adapter0/demux0"], stdin=subprocess.DEVNULL, timeout=60, check=False)
+    assert adapter.report.node("n0").calls() and adapter.report.same_on_linux()
+    assert dvbemu.serve(tune={"474000000": STREAM}).played is None
