@@ -1,9 +1,10 @@
 """`dvbemu beside`, and the model of Linux 6.1 that it holds a session against.
 
-What that kernel's own code was seen to answer stands in tests/linux: points.rows has a session of each row of docs/KERNEL.md, cases.rows 148 more. With
-no row at work the model is docs/BEHAVIOUR.md, as the second program has it."""
+What that kernel's own code was seen to answer stands in tests/linux: points.rows has a session of each row of docs/KERNEL.md,
+cases.rows 148 more. With no row at work the model is docs/BEHAVIOUR.md, as the second program has it."""
 import json
 import re
+import subprocess
 
 import dvbemu
 import pytest
@@ -224,7 +225,8 @@ def test_undefined(told):
 
 
 def test_a_stream_that_stands_elsewhere(told):
-    """The first packet has its error bit: on Linux the wait ends with its section, here with the next one's. What follows is counted."""
+    """The first packet has its error bit: on Linux the wait ends with its section, here with the next one's. What follows is
+    counted."""
     section = "42 00 05 01 02 03 04 "
     lines = ["session elsewhere", "c0 open n0", "c0 section n0 256 0 4", "c0 open n1", "c0 pes n1 8192 frontend tsdemux_tap 20 4", "c0 readw n0 4096"]
     lines += ["feed 1", "c0 read n0 4096", "c0 read n1 188", "c0 read n1 4096"] * 3 + ["stream", f"bytes 47 c1 00 10 00 {section}00 ff*175"]
@@ -313,7 +315,8 @@ def test_a_folder_of_tests(room):
     room.write({"tests/two.session": session, "tests/two.report": second.report(session, 64).encode()})
     assert room.run("test tests").status == 0
     row = Point.SHARED.row
-    wrong = f"1..1\nnot ok 1 - two\n# line 7 is answered otherwise on Linux 6.1, by '{row}', which tests/two.linux doesn't name\n# 1 of 1 failed\n"
+    why = f"line 7 is answered otherwise on Linux 6.1, by '{row}': tests/two.linux doesn't name that"
+    wrong = f"1..1\nnot ok 1 - two\n# {why}\n# 1 of 1 failed\n"
     assert room.run("test --linux tests") == (1, wrong.encode(), "")
     room.write({"tests/two.linux": f"Stop\n{row}\n".encode()})
     assert room.run("test --linux tests") == (0, b"1..1\nok 1 - two\n", "")
@@ -328,3 +331,12 @@ def test_a_folder_of_tests(room):
 ])  # fmt: skip
 def test_side_by_side(here, there, wanted):
     assert [(place, "".join(one), "".join(two)) for place, one, two in differences([*here], [*there])] == wanted
+
+
+@pytest.mark.usefixtures("server")
+def test_an_adapter():
+    """The report of an adapter knows what was played, unless there are several recordings."""
+    with dvbemu.serve(STREAM, packets=3000) as adapter:
+        adapter.run(["head", "-c", "1", "/dev/dvb/adapter0/demux0"], stdin=subprocess.DEVNULL, timeout=60, check=False)
+    assert adapter.report.node("n0").calls() and adapter.report.same_on_linux()
+    assert dvbemu.serve(tune={"474000000": STREAM}).played is None

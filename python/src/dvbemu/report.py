@@ -201,9 +201,9 @@ class Report:
         return check(self, script, *streams, packet=packet)
 
     def same_on_linux(self, *source: Any) -> Any:
-        """Whether Linux 6.1 would have given the same replies, as `dvbemu beside` says, which is tested: a Verdict, true or false, with the calls
-        that it would answer otherwise. A report of `dvbemu.steps` and of an adapter with one recording knows what it is of; of another that is
-        named: a session, a script and its streams, or the recording that was played."""
+        """Whether Linux 6.1 would have given the same replies, as `dvbemu beside` says, which is tested: a Verdict, true or false, with
+        the calls that it would answer otherwise. A report of `dvbemu.steps`, and of an adapter with one recording, knows what it is of;
+        of another that is named: a session, a script and its streams, or the recording that was played."""
         from .program import same_on_linux  # pylint: disable=import-outside-toplevel
 
         return same_on_linux(self, *(source or self.source))

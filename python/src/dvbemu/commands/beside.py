@@ -1,7 +1,7 @@
 """Tells which replies of a session a Linux kernel would give otherwise: `dvbemu beside --help`.
 
-The replies here are those of the program's `steps`; those of Linux are of the model in dvbemu.linux, whose points of difference are the rows of
-docs/KERNEL.md."""
+The replies here are those of the program's `steps`; those of Linux are of the model in dvbemu.linux, whose points of
+difference are the rows of docs/KERNEL.md."""
 from __future__ import annotations
 
 import io
@@ -46,16 +46,20 @@ def command() -> tool.Command:
         "beside",
         "[--batch B] [--packet P] [--hz HZ] [--json] [SESSION | SCRIPT STREAM .. | REPORT SESSION]",
         "Tells which replies of a session Linux 6.1 would give otherwise, line by line, and by which rows of docs/KERNEL.md.",
-        reads="a session, or a script and its streams, as `steps` does; or a report of `steps` and its session, whose batches are then taken; or one "
-        "of `serve` and what was played, and the lines are those of `dvbemu session`. A file may be `-`; without one standard input is the session",
+        reads="a session, or a script and its streams, as `steps` does; or a report of `steps` and its session, whose batches are then "
+        "taken; or one of `serve` and what was played, and the lines are those of `dvbemu session`. A file may be `-`; without one "
+        "standard input is the session",
         writes="a line for each call that differs, what is answered here and on Linux, and the row; or that all is the same",
-        status="0 where all is the same; 1 where a reply differs, or a file can't be read; 2 for wrong words; 3 where the script has a fault",
+        status="0 where all is the same; 1 where a reply differs, or a file can't be read; 2 for wrong words; 3 where the script has a "
+        "fault",
         example="dvbemu beside my.session; dvbemu beside my.script my.ts; dvbemu beside --hz 250 my.report my.session",
     )
-    words.add_argument("--batch", action=tool.Once, type=tool.number(1, MOST_BATCH, True), metavar="B", help="the most packets of a batch, as of `steps`")
-    words.add_argument("--packet", action=tool.Once, type=int, choices=(188, 204), metavar="P", help="the bytes that a packet takes up: 188, or 204")
-    words.add_argument("--hz", type=int, choices=HERTZ, default=HERTZ[0], help="the jiffies of a second, by which timeouts end; without it 1000")
-    words.add_argument("--json", action="store_true", help="writes JSON Lines: an object for each line that differs, and one at the end")
+    words.add_argument("--batch", action=tool.Once, type=tool.number(1, MOST_BATCH, True), metavar="B",
+                       help="the most packets of a batch, as of `steps`")  # fmt: skip
+    words.add_argument("--packet", action=tool.Once, type=int, choices=(188, 204), metavar="P",
+                       help="the bytes that a packet takes up: 188, or 204")  # fmt: skip
+    words.add_argument("--hz", type=int, choices=HERTZ, default=HERTZ[0], help="the jiffies of a second; without it 1000")
+    words.add_argument("--json", action="store_true", help="writes JSON Lines: an object for each line that differs, and one more")
     words.add_argument("files", metavar="FILE", nargs="*", help="the files, in the order of the usage")
     return words
 
@@ -114,8 +118,8 @@ def change_lines(count: int, changes: Sequence[Change]) -> Iterator[str]:
 
 
 class Teller:
-    """The differences of a session, as text. `times` says how many lines were told by each set of rows, `passed` are the lines that were passed
-    over since, as these rows have been told."""
+    """The differences of a session, as text. `times` says how many lines were told by each set of rows, `passed` are the
+    lines that were passed over since, as these rows have been told."""
 
     def __init__(self, both: Beside) -> None:
         self.both = both
@@ -157,7 +161,7 @@ class Teller:
             return
         first, last, places = self.passed[0], self.passed[-1], self.both.elsewhere(self.passed[0])
         of = f"line {first}" if first == last else f"lines {first} to {last}"
-        where = f"; the stream stands elsewhere, in line {first} at packet {places[0]:,} here, {places[1]:,} on Linux" if places else ""
+        where = "; the stream stands elsewhere, in line {} at packet {:,} here, {:,} on Linux".format(first, *places) if places else ""
         yield f"{of}: {len(self.passed):,} more by rows told above{where}"
         self.passed = []
 
@@ -169,7 +173,8 @@ class Teller:
         if both.is_same():
             yield f"The same on Linux 6.1: {lines}, {many(both.calls(), 'call')}."
         else:
-            yield f"{len(both.differing):,} of {lines} otherwise on Linux 6.1, by {many(len(self.named), 'row')} of docs/KERNEL.md"
+            rows = many(len(self.named), "row")
+            yield f"{len(both.differing):,} of {lines} otherwise on Linux 6.1, by {rows} of docs/KERNEL.md"
 
 
 def plain(reply: Reply) -> str:
@@ -183,12 +188,17 @@ def objects(both: Beside) -> Iterator[str]:
     for line in both.differing:
         causes = both.causes(line)
         named |= dict.fromkeys(cause.point.row for cause in causes)
-        changes = [{"reply": place + 1, "here": list(map(plain, here)), "linux": list(map(plain, there))} for place, here, there in both.changes(line)[1]]
-        rows = [{"name": cause.point.row, "line": cause.line} for cause in causes]
-        yield json.dumps({"kind": "difference", "line": line, "command": both.session.text[line - 1], "changes": changes, "rows": rows,
-                          "packets": both.elsewhere(line)})  # fmt: skip
-    yield json.dumps({"kind": "end", "same": both.is_same(), "lines": len(both.lines), "calls": both.calls(), "differing": len(both.differing),
-                      "rows": list(named), "undefined": both.undefined})  # fmt: skip
+        yield json.dumps({
+            "kind": "difference", "line": line, "command": both.session.text[line - 1],
+            "changes": [{"reply": change.place + 1, "here": [*map(plain, change.here)], "linux": [*map(plain, change.there)]}
+                        for change in both.changes(line)[1]],
+            "rows": [{"name": cause.point.row, "line": cause.line} for cause in causes],
+            "packets": both.elsewhere(line),
+        })  # fmt: skip
+    yield json.dumps({
+        "kind": "end", "same": both.is_same(), "lines": len(both.lines), "calls": both.calls(), "differing": len(both.differing),
+        "rows": list(named), "undefined": both.undefined,
+    })  # fmt: skip
 
 
 def main() -> int:

@@ -90,7 +90,7 @@ def command() -> tool.Command:
         example="dvbemu test tests",
     )
     words.add_argument("--update", action="store_true", help="rewrite reports that differ or are missing, and say which")
-    words.add_argument("--linux", action="store_true", help="a test fails too where Linux would answer otherwise by a row that NAME.linux doesn't name")
+    words.add_argument("--linux", action="store_true", help="also fail a test if Linux would answer otherwise by a row not in NAME.linux")
     words.add_argument("--batch", type=tool.number(1, 64, True), metavar="B", help="for tests without NAME.words")
     words.add_argument("--packet", type=int, choices=(188, 204), metavar="P", help="for tests without NAME.words")
     words.add_argument("--jobs", metavar="LOG", help="report the results of these jobs, and run nothing")
@@ -190,9 +190,10 @@ def on_linux(program: str, test: Test, session: bytes, report: bytes) -> str:
     asked, named = Session.of(session, test.packet()), test.named()
     both = Beside(asked, events_here(text.decode("latin-1").split("\n"), asked), test.option("--batch", 64))
     for line in both.differing:
-        rows = [cause.point.row for cause in both.causes(line)]
-        if not rows or not named.issuperset(rows):
-            return f"line {line} is answered otherwise on Linux 6.1, by '{' and '.join(rows)}', which {test.path}.linux doesn't name"
+        rows = [f"'{cause.point.row}'" for cause in both.causes(line) if cause.point.row not in named]
+        if rows or not both.causes(line):
+            by = ", by " + " and ".join(rows) if rows else ""
+            return f"line {line} is answered otherwise on Linux 6.1{by}: {test.path}.linux doesn't name that"
     return "" if both.undefined is None else f"undefined on Linux 6.1 from line {both.undefined} on"
 
 
@@ -248,7 +249,8 @@ def main() -> int:
     program, failed = child.program(), 0
     print(f"1..{len(tests)}", flush=True)
     with ThreadPoolExecutor(len(os.sched_getaffinity(0))) as pool:
-        for number, (test, text) in enumerate(zip(tests, pool.map(lambda test: tried(program, test, given.update, given.linux), tests)), 1):
+        ends = pool.map(lambda test: tried(program, test, given.update, given.linux), tests)
+        for number, (test, text) in enumerate(zip(tests, ends), 1):
             failed += text[:1] == "-"
             print(f"{'not ' if text[:1] == '-' else ''}ok {number} - {test.name}")
             print(f"# {text[1:]}\n" if text[1:] else "", end="", flush=True)

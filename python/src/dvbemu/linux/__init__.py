@@ -1,1 +1,1 @@
-"""What the demux and dvr devices of Linux 6.1 answer to a session: a model, tested against what that kernel's code was seen to answer."""
+"""What Linux 6.1 answers to a session: a model of its demux and dvr devices, held against what that kernel's code answered."""

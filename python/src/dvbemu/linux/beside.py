@@ -1,6 +1,7 @@
-"""A session by the rules of docs/BEHAVIOUR.md and by those of Linux, line by line: which replies differ, and by which rows of docs/KERNEL.md.
+"""A session by the rules here and by those of Linux, line by line: which replies differ, and by which rows of docs/KERNEL.md.
 
-A row is named for a line where the reply of Linux's rules is the one here once that row alone is taken from them, or several rows together."""
+A row is named for a line where Linux's rules give the reply here once that row alone is taken from them, or several rows
+together."""
 from __future__ import annotations
 
 import re
@@ -16,12 +17,13 @@ from .points import Point
 from .session import NO_NODE, Event, Run, Session
 
 if TYPE_CHECKING:
-    from typing import Dict, FrozenSet, Iterable, Iterator, List, Sequence
+    from typing import Dict, FrozenSet, Iterable, Iterator, List, Sequence, Tuple
 
     from .parts import Reply
 
-    # The events of each line, by its number.
+    # The events of each line, by its number; and of each call of a report, by its client and step, all but line and client.
     Lines = Dict[int, List[Event]]
+    Calls = Dict[Tuple[str, int], Tuple[int, str, Reply, int]]
     Points = FrozenSet[Point]
 
 # How many packets a pass has in a report, and how many it may have.
@@ -56,7 +58,7 @@ def reply_here(text: str) -> Reply:
 def events_here(report: Iterable[str], session: Session) -> list[Event]:
     """The calls of a report of `steps`, which has these lines, in the order of the script's."""
     outcomes: list[tuple[int, reports.Outcome]] = []
-    calls: dict[tuple[str, int], tuple[int, str, Reply, int]] = {}
+    calls: Calls = {}
     client, node, given = 0, NO_NODE, 0
     for row in report:
         first, _, rest = row.partition(" ")
@@ -72,12 +74,12 @@ def events_here(report: Iterable[str], session: Session) -> list[Event]:
             if entry.who == "feed":
                 given += int(words[2][6:]) if name == "pass" else 0
             elif name not in OWN_ACTS:
-                calls[entry.who, entry.step] = node, f"read {words[0]}" if name == "read" else name, reply_here(entry.reply), given
+                call = f"read {words[0]}" if name == "read" else name
+                calls[entry.who, entry.step] = node, call, reply_here(entry.reply), given
     return list(in_order(sorted(outcomes, key=lambda one: one[1].line), calls, session))
 
 
-def in_order(outcomes: Iterable[tuple[int, reports.Outcome]], calls: dict[tuple[str, int], tuple[int, str, Reply, int]],
-             session: Session) -> Iterable[Event]:  # fmt: skip
+def in_order(outcomes: Iterable[tuple[int, reports.Outcome]], calls: Calls, session: Session) -> Iterator[Event]:
     """The calls of commands, one behind the other; a write is one, and what makes no call has its outcome."""
     writes = {line.number for line in session.lines if line.command == "write"}
     for client, outcome in outcomes:
@@ -162,8 +164,8 @@ def differences(here: list[Reply], there: list[Reply]) -> Iterator[Change]:
 
 
 class Beside:
-    """A session here and by the rules of Linux. `lines` are those that are compared, `differing` those whose replies differ, and `undefined` is the
-    line from which on nothing can be told."""
+    """A session here and by the rules of Linux. `lines` are those that are compared, `differing` those whose replies differ, and
+    `undefined` is the line from which on nothing can be told."""
 
     def __init__(self, session: Session, here: Iterable[Event], batch: int, hertz: int = HERTZ) -> None:
         self.session, self.batch, self.hertz = session, batch, hertz
@@ -171,8 +173,8 @@ class Beside:
         self.here, self.there, self.met, self.undefined = by_line(here), by_line(run.events), run.adapter.met, run.undefined
         self.lines = [line for line in self.here if self.undefined is None or line < self.undefined]
         self.differing = [line for line in self.lines if replies(self.here[line]) != replies(self.there.get(line, []))]
-        # of the runs without some rows the lines that are answered as here, and the rows that were met with their first line; and the rows that
-        # have to go together for some line
+        # of the runs without some rows the lines that are answered as here, and the rows that were met with their first line;
+        # and the rows that have to go together for some line
         self.without: dict[Points, tuple[set[int], dict[Point, int]]] = {}
         self.together: list[Points] = []
 
@@ -194,7 +196,7 @@ class Beside:
         return self.without[points]
 
     def gives(self, points: Iterable[Point], line: int) -> bool:
-        """Whether the rules of Linux without these rows answer a line as it is answered here. Behind many runs nothing new is tried."""
+        """Whether Linux without these rows answers a line as it is answered here. Behind many runs nothing new is tried."""
         asked = frozenset(points)
         return (asked in self.without or len(self.without) < MOST_RUNS) and line in self.minus(asked)[0]
 
@@ -211,11 +213,12 @@ class Beside:
         return [Cause(point, self.arose(point, line)) for point in met if point in found]
 
     def several(self, met: list[Point], line: int) -> Points:
-        """The rows that have to go together for the reply here: all that were met, and those that are met in their absence, less each that isn't
-        needed."""
+        """The rows that have to go together for the reply here: all that were met, and those that are met in their absence,
+        less each that isn't needed."""
         gone = frozenset(met)
         while not self.gives(gone, line):
-            more = {point for point, first in (self.without[gone][1] if gone in self.without else {}).items() if first <= line} - gone
+            then = self.without[gone][1] if gone in self.without else {}
+            more = {point for point, first in then.items() if first <= line} - gone
             if not more:
                 return frozenset()
             gone |= more
@@ -225,7 +228,7 @@ class Beside:
         return gone
 
     def changes(self, line: int) -> tuple[int, list[Change]]:
-        """How many replies a line has here, and what differs in them: without those by which a client waits, unless nothing else differs."""
+        """How many replies a line has here, and what differs: without those by which a client waits, unless nothing else does."""
         both = replies(self.here[line]), replies(self.there.get(line, []))
         found = [[reply for reply in some[:-1] if reply != "again"] + some[-1:] for some in both]
         here, there = both if found[0] == found[1] else found
@@ -238,8 +241,8 @@ class Beside:
 
 
 def first_difference(report: reports.Report, text: bytes, packets: Sequence[bytes]) -> str:
-    """The first line of a session that Linux would answer otherwise than a report of it by `steps`, in a sentence. Nothing where there is none, or the
-    report is another one."""
+    """The first line of a session that Linux would answer otherwise than a report of it by `steps`, in a sentence. Nothing
+    where there is none, or the report is another one."""
     try:
         session = Session.of(text)._replace(packets=packets)
         batch, here = batch_of(lines_of(report)), events_here(lines_of(report), session)

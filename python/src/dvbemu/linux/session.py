@@ -1,4 +1,5 @@
-"""A session on the adapter: its script, in the order of `steps` (docs/BEHAVIOUR.md, 'The order of `steps`'), and what each call is answered."""
+"""A session on the adapter: the lines of its script, in the order of `steps` (docs/BEHAVIOUR.md), and what each call is
+answered."""
 from __future__ import annotations
 
 from typing import TYPE_CHECKING, NamedTuple, cast
@@ -23,7 +24,7 @@ ANEW = "open", "close", "section", "pes", "start", "size"
 
 
 class Line(NamedTuple):
-    """A line of a script: its number, its command, the client, the target, the call that it asks for, and its number, or its bytes."""
+    """A line of a script: its number, command, client and target, the call that it asks for, and its number, or its bytes."""
 
     number: int
     command: str
@@ -35,8 +36,8 @@ class Line(NamedTuple):
 
 
 class Event(NamedTuple):
-    """A call and its reply, by the line that asks for it; `given` are the packets of the stream that had passed. Where a command makes no
-    call its outcome is the reply, and the node is NO_NODE."""
+    """A call and its reply, by the line that asks for it; `given` are the packets of the stream that had passed. Where a
+    command makes no call its outcome is the reply, and the node is NO_NODE."""
 
     line: int
     client: int
@@ -112,8 +113,8 @@ def joined(part: bytes, data: bytes) -> tuple[list[bytes], bytes]:
 
 
 def searched(part: bytes, data: bytes) -> tuple[list[bytes], bytes]:
-    """The same as Linux does it: where it passes bytes over, and a packet before the sync byte that it finds stands another one in this write, it
-    goes back to that."""
+    """The same as Linux does it: where it passes bytes over, and a packet before the sync byte that it finds stands another
+    one in this write, it goes back to that."""
     whole = part + data
     packets, rest = joined(part, data)
     if len(whole) < PACKET:
@@ -156,8 +157,8 @@ class Counter:
 
 
 class Run:
-    """A session by the rules of Linux, but for the points in `off`, for which those of docs/BEHAVIOUR.md stand; up to a line. `undefined` is the
-    line from which on nothing can be told, as Linux goes on with memory that is another feed's."""
+    """A session by the rules of Linux, but for the points in `off`, for which those of docs/BEHAVIOUR.md stand. `undefined`
+    is the line from which on nothing can be told, as Linux goes on with memory that is another feed's."""
 
     def __init__(self, session: Session, batch: int, off: Collection[Point] = (), hertz: int = HERTZ) -> None:
         self.session, self.batch, self.adapter = session, batch, Adapter(off, hertz)
@@ -244,7 +245,7 @@ class Run:
         return "EMFILE"
 
     def read_on(self, line: Line, node: int) -> None:
-        """Reads again, and lets packets pass where there is nothing: once until there is something to tell, or to the stream's end."""
+        """Reads, and lets packets pass where there is nothing: until there is something to tell, or to the stream's end."""
         while True:
             had_ended, reply = self.has_ended, self.called(line, node)
             if reply == "again" and not had_ended:
