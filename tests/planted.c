@@ -18,8 +18,8 @@
 
 enum { LENGTH = 1, ZERO = 2, ABSENT = 4, VERSION = 8, LEAK = 16 };
 
-/* the milliseconds in which a section comes, also on a machine that has much to do; and the entries of a PAT that are looked at */
-enum { WAITS = 1000, MOST = 3 };
+/* the milliseconds in which a section comes, also on a busy machine; and the entries of a PAT that are looked at */
+enum { WAITS = 2000, MOST = 3 };
 
 struct pmt {
 	int pid, pcr;

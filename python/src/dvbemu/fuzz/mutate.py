@@ -1,6 +1,7 @@
 """A stream as sections and packets, and changes of it: by the grammar of its tables, then of its packets, then of its bits.
 
-A change is drawn: the same seed gives the same stream on each machine, as all draws are made of `random()`, whose sequence each Python has.
+A change is drawn: the same seed gives the same stream on each machine, as all draws are made of `random()`, whose sequence each
+Python has.
 """
 from __future__ import annotations
 
@@ -28,7 +29,8 @@ if TYPE_CHECKING:
 # How many bytes of a recording are looked at, and how many sections of a table and other packets of it are in a stream.
 LOOKED_AT, OF_TABLE, OTHERS = 16 << 20, 8, 64
 FIXED = 0, 1, NIT, SDT, EIT, TDT
-# How many changes a stream has, and the shares of streams that are changed by their packets and by their bits too, and of wrong CRC_32s.
+# How many changes a stream has, and the shares of streams that are changed by their packets and by their bits too, and of wrong
+# CRC_32s.
 COUNTS, BY_PACKETS, BY_BITS, UNMENDED = (1, 1, 2, 3, 5, 8, 12), 0.2, 0.08, 0.06
 PIDS = 0, 1, NIT, SDT, EIT, TDT, 0x1FFF, 0x1FFE, 0x100, 0x1000
 # What selects the tables of letters (EN 300 468, annex A), and letters with control codes and marks of emphasis.
@@ -138,8 +140,8 @@ def with_lengths(items: Sequence[Item], tag: int) -> list[Item]:
 
 
 def listed(items: Sequence[Item], number: int) -> tuple[list[Item], str] | None:
-    """The first streams, which no draw makes: tables that are right in form, without descriptors, with one of each, and with all; then with one of
-    each of a wrong length. None behind the last."""
+    """The first streams, which no draw makes: tables that are right in form, without descriptors, with one of each, and with all;
+    then with one of each of a wrong length. None behind the last."""
     few: list[list[Right]] = [*([one] for one in RIGHT), RIGHT, []]
     chosen = few[(number + len(few) - 1) % len(few)]
     what = "all descriptors" if len(chosen) > 1 else tag_text(chosen[0].descriptor.tag) if chosen else "no descriptor more"

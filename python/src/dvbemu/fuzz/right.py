@@ -1,4 +1,5 @@
-"""Tables that are right in form, with the descriptors of ISO/IEC 13818-1, 2.6, and of ETSI EN 300 468, clause 6, where they may stand."""
+"""Tables that are right in form, with the descriptors of ISO/IEC 13818-1, 2.6, and of ETSI EN 300 468, clause 6, where they may
+stand."""
 from __future__ import annotations
 
 import datetime
@@ -9,8 +10,9 @@ from ..stream.tables import BAT_ID, CAT_ID, EIT_ID, NIT_ID, PAT_ID, PMT_ID, SCHE
 if TYPE_CHECKING:
     from typing import Callable, Iterable, Sequence
 
-# A descriptor of each tag, right in form: its tag, the tables where it may stand (EN 300 468, table 12), and the bytes behind its length. The
-# tables are N(IT), B(AT), S(DT), E(IT), T(OT) and P(MT). Of the tag 7F there is one for each descriptor_tag_extension.
+# A descriptor of each tag, right in form: its tag, the tables where it may stand (EN 300 468, table 12), and the bytes behind its
+# length. The tables are N(IT), B(AT), S(DT), E(IT), T(OT) and P(MT). Of the tag 7F there is one for each
+# descriptor_tag_extension.
 ROWS = """
 02 P 18485f; 03 P 6f; 04 P f1c0c0c1; 05 P 48444d56; 06 P 02; 07 P 0b409003; 08 P 00000000; 09 P 0b00e1f4; 0a P 64657500; 0b P 401f;
 0c P 80018010; 0d P 00000001; 0e P c07530; 0f P 00000028; 10 P c00400c00400; 11 P ff; 12 P 400c; 1b P 01; 1c P 58; 28 P 4d40283f; 2a P 7e1f;
