@@ -26,7 +26,7 @@ if TYPE_CHECKING:
 # How often a signal is looked at by gdb that was seen with the same last read; the seconds that making small may take; how many
 # of the last calls are told; and how many times the unmutated run's seconds, and least seconds, a stream may take that is made
 # small.
-LOOKED_AT, SECONDS, CALLS, TIMES, LEAST = 3, 60, 12, 4, 2.0
+LOOKED_AT, SECONDS, CALLS, TIMES, LEAST = 3, 60, 12, 4, 5.0
 VALGRIND, EACH, SLOWER = ("valgrind", "-q", "--error-exitcode=99"), 10, 10
 GDB = ("gdb", "-q", "-batch", "-ex", "handle SIGPIPE nostop noprint", "-ex", "run", "-ex", "bt 30", "--args")
 SENTENCE = re.compile(r"^    line \d+: .*(?:\n      .*)*", re.M)
