@@ -18,8 +18,8 @@
 
 enum { LENGTH = 1, ZERO = 2, ABSENT = 4, VERSION = 8, LEAK = 16 };
 
-/* the milliseconds in which a section comes, also on a machine that has much to do; and the entries of a PAT that are looked at */
-enum { WAITS = 1000, MOST = 3 };
+/* the milliseconds in which a section comes, also on a busy machine; and the entries of a PAT that are looked at */
+enum { WAITS = 2000, MOST = 3 };
 
 struct pmt {
 	int pid, pcr;
@@ -69,8 +69,11 @@ static void describe(const unsigned char *b, int n)
 	while (k + 2 <= end && k + 2 <= n) {
 		int length = b[k + 1];
 
-		if (faults & ZERO && b[k] == 0x0a && !length)
+		if (faults & ZERO && b[k] == 0x0a && !length) {
+			/* (it stands still, and leaves the processor to others) */
+			poll(NULL, 0, 10);
 			continue;
+		}
 		if (b[k] == 0x05 && faults & LENGTH)
 			memcpy(form, b + k + 2, length);
 		else if (b[k] == 0x05 && length >= 4 && k + 6 <= n)

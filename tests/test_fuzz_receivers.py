@@ -1,6 +1,7 @@
 """`dvbemu fuzz`: its mutations, what makes a stream small, and hunts before a receiver of C with planted faults (planted.c).
 
-Of a mutation is known what it says, and that a CRC_32 is right is asked by the standard's own register (ISO/IEC 13818-1, annex A), bit by bit.
+Of a mutation is known what it says, and that a CRC_32 is right is asked by the standard's own register (ISO/IEC 13818-1, annex
+A), bit by bit.
 """
 import os
 import re
@@ -23,7 +24,8 @@ from dvbemu.stream.packets import PACKET, counter_of, pcr_of, pid_of
 from dvbemu.stream.sections import sections_of
 
 RECORDING = str(EXAMPLES / "programs" / "scan.ts")
-# Of each fault the seed and the number of a stream that meets it, the kind of failure, and the cause where gdb isn't needed for it.
+# Of each fault the seed and the number of a stream that meets it, the kind of failure, and the cause where gdb isn't needed for
+# it.
 FAULTS = {
     "length": (1, 110, "SIGABRT", r"SIGABRT: \*\*\* stack smashing detected \*\*\*( in describe.*)?"),
     "zero": (1, 115, "no-end", "no end behind PID 409[67], 0x02"),
@@ -31,7 +33,9 @@ FAULTS = {
     "version": (15, 220, "no-end", "no end behind PID 17, 0x42"),
     "leak": (18, 220, "memory", "memory behind PID 17, 0x42"),
 }
-WORDS = ["--jobs", "1", "--packets", "3000", "--tries", "12", "--limit", "4", "--memory", "120"]
+# By how many runs streams become small of which a table has to, and not the stream alone.
+LATE = {"version": "6", "leak": "12"}
+WORDS = ["--jobs", "1", "--packets", "1500", "--limit", "8", "--memory", "60"]
 
 
 def crc(data):
@@ -83,7 +87,8 @@ def test_tables_are_right(chosen):
         assert {one.descriptor for one in chosen if letter in one.tables} <= set(found)
 
 
-# A PMT by hand: program_info_length 6 with a language of 4 bytes; a stream on PID 256 with a registration of 4 bytes, one on PID 257 with none.
+# A PMT by hand: program_info_length 6 with a language of 4 bytes; a stream on PID 256 with a registration of 4 bytes, one on PID
+# 257 with none.
 PMT = bytes.fromhex("02b0230101c30000e100f0060a0464657500" "02e100f006050448444d56" "03e101f000") + bytes(4)
 PMT = grammar.mended(PMT[:1] + bytes([0xB0, len(PMT) - 3]) + PMT[3:])
 SITES = {"section_length": 12, "table_id_extension": 24, "version_number": 42, "section_number": 48, "PCR_PID": 67, "descriptors_length": 84}
@@ -214,15 +219,17 @@ def test_reduced():
 
 @pytest.mark.parametrize("fault", FAULTS)
 def test_planted(tmp_path, planted, fault):
-    """Each fault is found, and the stream made small: at most three packets, which do it again, also by their session's replies."""
+    """Each fault is found, and the stream made small: at most three packets, which do it again, also by their session's
+    replies."""
     seed, number, kind, cause = FAULTS[fault]
     (tmp_path / "found").mkdir()
     (tmp_path / "found" / "state").write_text(f"{seed} {number}\n")
-    status, lines, told = fuzz(tmp_path, *WORDS, "--runs", "1", "--out", "found", RECORDING, command=[planted, fault])
+    words = [*WORDS, "--tries", LATE.get(fault, "4"), "--runs", "1", "--out", "found", RECORDING]
+    status, lines, told = fuzz(tmp_path, *words, command=[planted, fault])
     assert (status, told) == (1, "") and lines[0].startswith("ok 1 - the recording as it is: the command ends with the status 0; ")
     point = re.fullmatch(rf"not ok 2 - ({kind}[\w-]*): {cause}", lines[1])
     assert point and re.match(r"# [1-3] packets?: ", lines[2]), lines
-    assert lines[3].startswith("# again: dvbemu serve --packets 3000 --report r found/") and lines[4] == "1..2"
+    assert lines[3].startswith("# again: dvbemu serve --packets 1500 --report r found/") and lines[4] == "1..2"
     stream = (tmp_path / "found" / f"{point[1]}.ts").read_bytes()
     assert len(stream) <= 3 * PACKET and (tmp_path / "found" / "state").read_text() == f"{seed} {number + 1}\n"
     text = (tmp_path / "found" / f"{point[1]}.txt").read_text()
@@ -230,8 +237,8 @@ def test_planted(tmp_path, planted, fault):
 
 
 def test_mended(tmp_path, planted):
-    """A second run with a folder tries what is known first: it is told as it is, and as mended before a receiver without the fault. The hunt
-    goes on behind the last number."""
+    """A second run with a folder tries what is known first: it is told as it is, and as mended before a receiver without the
+    fault. The hunt goes on behind the last number."""
     folder = tmp_path / "found"
     folder.mkdir()
     (folder / "SIGABRT-1.ts").write_bytes(mutate.stream_of([Item(pid, data) for pid, data in tables_of(PROGRAMS, [])[:2]]))
@@ -250,15 +257,16 @@ def test_no_fault(tmp_path, planted):
     """A receiver without the faults: no failure."""
     (tmp_path / "fuzz").mkdir()
     (tmp_path / "fuzz" / "state").write_text("1 100\n")
-    status, lines, told = fuzz(tmp_path, "--jobs", "2", "--packets", "3000", "--limit", "20", "--runs", "24", RECORDING, command=[planted])
+    status, lines, told = fuzz(tmp_path, "--jobs", "2", "--packets", "1500", "--limit", "30", "--runs", "20", RECORDING, command=[planted])
     assert (status, told, lines[1]) == (0, "", "1..1"), lines
-    assert re.fullmatch(r"# 25 runs in \d+ s, [\d.]+ a second; 0 failures", lines[2])
+    assert re.fullmatch(r"# 21 runs in \d+ s, [\d.]+ a second; 0 failures", lines[2])
     assert sorted(os.listdir(tmp_path)) == ["fuzz"] and os.listdir(tmp_path / "fuzz") == ["state"]
 
 
 # ------ what goes wild is ended, and what can't be done is told
 
-# Runs a command once, before a packet: how it has ended, the beginning and the end of what it wrote, and how much of that is kept.
+# Runs a command once, before a packet: how it has ended, the beginning and the end of what it wrote, and how much of that is
+# kept.
 ONE = """
 import sys
 sys.path.insert(0, sys.argv[1])
@@ -310,7 +318,8 @@ def test_how_it_ends(one, script):
 
 
 def test_wild(one):
-    """A program that writes a gigabyte, passes over signals and leaves others behind: 64 KiB are kept, and nothing is left running."""
+    """A program that writes a gigabyte, passes over signals and leaves others behind: 64 KiB are kept, and nothing is left
+    running."""
     told, left = one(WILD, 120)
     zero = "\0"
     assert told == f"SIGSEGV 11 65536 {zero * 40} {zero * 36}end\n" and left == []

@@ -7,8 +7,8 @@
     def test_my_parser(section):
         parse(section)
 
-What is lawful is right in form, by ISO/IEC 13818-1 and ETSI EN 300 468; of what is broken one to five changes were made by the grammar of
-`dvbemu fuzz`. Importing this raises ImportError where hypothesis isn't there.
+What is lawful is right in form, by ISO/IEC 13818-1 and ETSI EN 300 468; of what is broken one to five changes were made by the
+grammar of `dvbemu fuzz`. Importing this raises ImportError where hypothesis isn't there.
 """
 from __future__ import annotations
 
@@ -52,7 +52,8 @@ def descriptors(tag: Optional[int] = None, broken: bool = False) -> Strategy:
     if not broken:
         return lawful
     tags = st.integers(0, 255) if tag is None else st.just(tag)
-    return st.one_of(st.builds(with_length, lawful, st.integers(0, 255)), st.builds(with_tag, tags, st.integers(0, 255), st.binary(max_size=40)))
+    length = st.integers(0, 255)
+    return st.one_of(st.builds(with_length, lawful, length), st.builds(with_tag, tags, length, st.binary(max_size=40)))
 
 
 def with_length(descriptor: bytes, length: int) -> bytes:
@@ -69,7 +70,8 @@ def programs() -> Strategy:
     """One to four programs, each with one to four streams on PIDs of its own."""
 
     def made(kinds: Sequence[Sequence[int]]) -> list[Program]:
-        return [Program(257 + at, 0x1000 + at, [(kind, 0x100 + 16 * at + place) for place, kind in enumerate(some)]) for at, some in enumerate(kinds)]
+        streams = [[(kind, 0x100 + 16 * at + place) for place, kind in enumerate(some)] for at, some in enumerate(kinds)]
+        return [Program(257 + at, 0x1000 + at, some) for at, some in enumerate(streams)]
 
     kind = st.sampled_from([kind for program in PROGRAMS for kind, _ in program.streams])
     return st.lists(st.lists(kind, min_size=1, max_size=4), min_size=1, max_size=4).map(made)
@@ -97,7 +99,8 @@ def tables(table_id: Optional[int] = None) -> Strategy:
 
 
 def sections(table_id: Optional[int] = None, broken: bool = False) -> Strategy:
-    """Sections of tables: right in form, with a table_id where one is given; or broken ones, whose CRC_32 is mended, and now and then not."""
+    """Sections of tables: right in form, with a table_id where one is given; or broken ones, whose CRC_32 is mended, and now and
+    then not."""
 
     @st.composite
     def one(draw: Any) -> bytes:
@@ -119,7 +122,8 @@ def damaged(draw: Drawn, data: bytes) -> bytes:
 
 
 def streams(broken: bool = False) -> Strategy:
-    """Transport streams of tables of each kind, as the bytes of their packets: right in form, or broken, with changes of sections and of packets."""
+    """Transport streams of tables of each kind, as the bytes of their packets: right in form, or broken, with changes of sections
+    and of packets."""
 
     @st.composite
     def one(draw: Any) -> bytes:

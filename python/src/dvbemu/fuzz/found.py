@@ -8,6 +8,7 @@ import re
 import shlex
 import shutil
 import subprocess
+import textwrap
 import time
 from dataclasses import dataclass, field, replace
 from typing import TYPE_CHECKING, NamedTuple
@@ -22,20 +23,22 @@ from .run import Limits, Plan, Ran, Runner, frames_in
 if TYPE_CHECKING:
     from typing import Collection, Sequence
 
-# How often a signal is looked at by gdb that was seen with the same last read; the seconds that making small may take; how many of the
-# last calls are told; and how many times the unmutated run's seconds a stream may take that is made small.
-LOOKED_AT, SECONDS, CALLS, TIMES = 3, 60, 12, 3
+# How often a signal is looked at by gdb that was seen with the same last read; the seconds that making small may take; how many
+# of the last calls are told; and how many times the unmutated run's seconds, and least seconds, a stream may take that is made
+# small.
+LOOKED_AT, SECONDS, CALLS, TIMES, LEAST = 3, 60, 12, 4, 5.0
 VALGRIND, EACH, SLOWER = ("valgrind", "-q", "--error-exitcode=99"), 10, 10
 GDB = ("gdb", "-q", "-batch", "-ex", "handle SIGPIPE nostop noprint", "-ex", "run", "-ex", "bt 30", "--args")
 SENTENCE = re.compile(r"^    line \d+: .*(?:\n      .*)*", re.M)
-# The mutated streams begin with some of these shares: of the recording, or of what made the command read something new; else right tables.
+# The mutated streams begin with some of these shares: of the recording, or of what made the command read something new; else
+# right tables.
 OF_RECORDING, OF_NEW = 0.4, 0.3
 STATE, ENDING = "state", (".ts", ".session", ".txt")
 
 
 class Options(NamedTuple):
-    """How a hunt goes: the seed, or None; the tags whose descriptors are left out, whether all PIDs are changed, whether valgrind is used, and the most
-    runs by which a stream is made small."""
+    """How a hunt goes: the seed, or None; the tags whose descriptors are left out, whether all PIDs are changed, whether valgrind
+    is used, and the most runs by which a stream is made small."""
 
     seed: int | None
     tags: Collection[int] = ()
@@ -54,7 +57,8 @@ class Hunted(NamedTuple):
 
 
 class Failure(NamedTuple):
-    """A stream before which the command fails: what kind of failure, its cause, what it wrote or its stack, and the PID that it read last."""
+    """A stream before which the command fails: what kind of failure, its cause, what it wrote or its stack, and the PID that it
+    read last."""
 
     hunted: Hunted
     kind: str
@@ -153,7 +157,8 @@ class Hunt:
             return ended.told
         if kind or ended.kind == "ended" and ended.number == 127:
             output = ran.output[-500:].decode(errors="replace").strip()
-            return f"before the recording as it is the command fails: {kind or 'it ends with the status 127'}" + (f"; it wrote: {output}" if output else "")
+            wrote = f"; it wrote: {output}" if output else ""
+            return f"before the recording as it is the command fails: {kind or 'it ends with the status 127'}{wrote}"
         how = f"ends with the status {ended.number}" if ended.kind == "ended" else "goes on"
         self.told.tell(True, f"the recording as it is: the command {how}; {ended.seconds:.2f} s")
         return ""
@@ -176,14 +181,15 @@ class Hunt:
         for name, ran in zip(names, self.runner.all([self.folder.read(name) for name in names])):
             kind, cause = ran.kind(self.runner.plan), self.folder.cause(name)
             self.told.known[cause] = 0
-            self.told.tell(not kind, f"{name}: {f'still: {cause}' if kind else f'mended: {cause}'}", *([f"again: {self.again(name)}"] if kind else []))
+            more = [f"again: {self.again(name)}"] if kind else []
+            self.told.tell(not kind, f"{name}: {'still' if kind else 'mended'}: {cause}", *more)
 
     def again(self, name: str) -> str:
         """The command that shows a failure again."""
         plan = self.runner.plan
         tune = ["--tune", *plan.tune] if plan.tune else []
-        words = ["dvbemu", "serve", "--packets", f"{plan.packets:g}", "--report", "r", *tune, self.folder.place(name, ".ts"), "--", *plan.command]
-        return shlex.join(words)
+        words = ["dvbemu", "serve", "--packets", f"{plan.packets:g}", "--report", "r", *tune]
+        return shlex.join([*words, self.folder.place(name, ".ts"), "--", *plan.command])
 
     def hunt(self, until: float, runs: int | None) -> None:
         """Tries streams until the time is over, or so many runs were made; each new cause is made small and kept."""
@@ -248,63 +254,73 @@ class Hunt:
             self.told.known[failure.cause] += 1
             return
         self.told.known[failure.cause] = 1
-        items = self.small(failure)
-        self.keep(failure, items)
+        self.keep(failure, *self.small(failure, ran))
 
-    def small(self, failure: Failure) -> list[Item]:
-        """The smallest stream with this cause that is found."""
+    def small(self, failure: Failure, ran: Ran) -> tuple[list[Item], Ran]:
+        """The smallest stream with this cause that is found, and a run before it; the whole one where no smaller one fails so
+        again."""
         plan, until, tries = self.runner.plan, time.monotonic() + SECONDS, [0]
-        seconds = min(plan.limits.seconds, max(TIMES * self.seconds, 1.0))
+        seconds = min(plan.limits.seconds, max(TIMES * self.seconds, LEAST))
         before = failure.hunted.before
-        is_waited = failure.kind == "no end" and not plan.is_running
-        quick = replace(plan, limits=Limits(seconds * (SLOWER if before else 1), plan.limits.memory)) if is_waited else self.plan_for(before)
+        quick = self.plan_for(before)
+        if failure.kind == "no end" and not plan.is_running:
+            quick = replace(plan, limits=Limits(seconds * (SLOWER if before else 1), plan.limits.memory))
 
         def first(candidates: Sequence[list[Item]]) -> int | None:
             tries[0] += len(candidates)
             if time.monotonic() > until or tries[0] > self.tries:
                 return None
             rans = self.runner.all([stream_of(items) for items in candidates], before, quick)
-            return next((at for at, ran in enumerate(rans) if candidates[at] and ran.kind(plan) == failure.kind and self.is_same(failure, ran)), None)
+            return next((at for at, ran in enumerate(rans) if candidates[at] and self.is_same(failure, ran)), None)
 
-        items = Reducer(failure.hunted.items, first, self.runner.jobs).reduced([{failure.last}, {0, failure.last}, {pid for pid, _ in self.asked}])
-        if " in " not in failure.cause:
-            return items
+        likely = [{failure.last}, {0, failure.last}, {pid for pid, _ in self.asked}]
+        items = Reducer(failure.hunted.items, first, self.runner.jobs).reduced(likely)
         again = self.runner.one(stream_of(items), before, self.plan_for(before))
-        is_same = again.kind(plan) == failure.kind and self.failure(failure.hunted, again, stream_of(items)).cause == failure.cause
-        return items if is_same else failure.hunted.items
+        is_same = self.is_same(failure, again)
+        if is_same and " in " in failure.cause:
+            is_same = self.failure(failure.hunted, again, stream_of(items)).cause == failure.cause
+        return (items, again) if is_same else (failure.hunted.items, ran)
 
     def is_same(self, failure: Failure, ran: Ran) -> bool:
         """Whether a run fails by the same cause, as far as it tells that by itself."""
-        return self.group(failure.kind, ran) == failure.cause or failure.cause.startswith(f"{failure.kind} in ") or bool(ran.head())
+        if ran.kind(self.runner.plan) != failure.kind:
+            return False
+        return self.group(failure.kind, ran) == failure.cause or failure.cause.startswith(f"{failure.kind} in ")
 
-    def keep(self, failure: Failure, items: list[Item]) -> None:
+    def keep(self, failure: Failure, items: list[Item], ran: Ran) -> None:
         """Keeps a failure in the folder, and tells it."""
         stream = stream_of(items)
         name = f"{re.sub(r'[^A-Za-z]+', '-', failure.kind)[:24].strip('-')}-{hashlib.sha256(stream).hexdigest()[:8]}"
-        ran = self.runner.one(stream, failure.hunted.before, self.plan_for(failure.hunted.before))
         self.folder.write(name, ".ts", stream)
         session, calls = session_of(ran.report, stream), calls_of(ran.report)
         if session:
             self.folder.write(name, ".session", session)
         self.folder.write(name, ".txt", self.text(name, failure, items, calls).encode(errors="replace"))
         count = len(stream) // 188
-        self.told.tell(False, f"{name}: {failure.cause}", f"{count} packet{'s' * (count != 1)}: {self.folder.place(name, '.ts')}, .session, .txt",
-                       f"again: {self.again(name)}")  # fmt: skip
+        files = f"{count} packet{'s' * (count != 1)}: {self.folder.place(name, '.ts')}, {'.session, ' * bool(session)}.txt"
+        self.told.tell(False, f"{name}: {failure.cause}", files, f"again: {self.again(name)}")
 
     def text(self, name: str, failure: Failure, items: list[Item], calls: str) -> str:
         """What is told of a failure."""
-        rows = [f"{item.name()}: {text_of(item.data) or 'no table by its form' if item.is_section else 'as it is'}\n    {item.data.hex()}"
-                + "".join(f"\n    {how} ({value})" for how, value in item.changes) for item in items]  # fmt: skip
+        rows = [row_of(item) for item in items]
         parts = {"Again": [self.again(name)], "What was changed": failure.hunted.told, "What is left of the stream": rows[:50],
                  "The last calls": [calls], "What it wrote, or the stack": [failure.trace[-8000:]]}  # fmt: skip
-        return f"{failure.cause}\n" + "".join(f"\n{head}\n\n" + "".join(f"  {line}\n" for row in some for line in row.split("\n")) for head, some in parts.items())
+        shown = (f"\n{head}\n\n{textwrap.indent(chr(10).join(some), '  ')}\n" for head, some in parts.items())
+        return "\n".join([failure.cause, *shown])
+
+
+def row_of(item: Item) -> str:
+    """What is left of a stream: a section or a packet, its bytes, and what is changed of its packets."""
+    what = text_of(item.data) or "no table by its form" if item.is_section else "as it is"
+    return "\n    ".join([f"{item.name()}: {what}", item.data.hex(), *(f"{how} ({value})" for how, value in item.changes)])
 
 
 def said(words: Sequence[str], report: bytes, stream: bytes = b"") -> bytes:
     """What a word of dvbemu writes of a report, and of a stream behind it."""
     with in_memory([report]) as one, in_memory([stream]) as two:
         names = [f"/dev/fd/{file.fileno()}" for file in ((one, two) if stream else (one,))]
-        ran = subprocess.run([os.path.join(tool.ROOT, "dvbemu"), *words, *names], capture_output=True, check=False, pass_fds=[one.fileno(), two.fileno()])
+        ends, asked = [one.fileno(), two.fileno()], [os.path.join(tool.ROOT, "dvbemu"), *words, *names]
+        ran = subprocess.run(asked, capture_output=True, check=False, pass_fds=ends)
         return b"" if ran.returncode else ran.stdout
 
 

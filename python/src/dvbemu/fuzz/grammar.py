@@ -1,4 +1,5 @@
-"""Where the fields, descriptors and loops of a section stand, whatever its lengths say, and sections of which parts are taken or put in.
+"""Where the fields, descriptors and loops of a section stand, whatever its lengths say, and sections of which parts are taken or
+put in.
 
 The layouts are those of stream/tables.py: a section is walked by them up to where its bytes end, and what is wrong in it stays.
 """
@@ -26,8 +27,8 @@ class Site(NamedTuple):
 
 
 class Region(NamedTuple):
-    """Bytes that go as a whole: a part of a table, a descriptor, what a loop has, or what a descriptor has behind its length; and the lengths
-    in which they are counted."""
+    """Bytes that go as a whole: a part of a table, a descriptor, what a loop has, or what a descriptor has behind its length; and
+    the lengths in which they are counted."""
 
     kind: str
     first: int
@@ -141,7 +142,9 @@ def mended(data: bytes) -> bytes:
     length = (data[1] & 0x0F) << 8 | data[2]
     if length > LONGEST or has_crc(data) and length < 4:
         return data
-    return with_crc(data[: length - 1].ljust(length - 1, b"\xff")) if has_crc(data) else data[: 3 + length].ljust(3 + length, b"\xff")
+    size = length - 1 if has_crc(data) else HEAD + length
+    whole = data[:size].ljust(size, b"\xff")
+    return with_crc(whole) if has_crc(data) else whole
 
 
 def with_bytes(data: bytes, first: int, after: int, new: bytes, lengths: tuple[Site, ...]) -> bytes | None:

@@ -1,6 +1,7 @@
 """A stream as sections and packets, and changes of it: by the grammar of its tables, then of its packets, then of its bits.
 
-A change is drawn: the same seed gives the same stream on each machine, as all draws are made of `random()`, whose sequence each Python has.
+A change is drawn: the same seed gives the same stream on each machine, as all draws are made of `random()`, whose sequence each
+Python has.
 """
 from __future__ import annotations
 
@@ -28,15 +29,16 @@ if TYPE_CHECKING:
 # How many bytes of a recording are looked at, and how many sections of a table and other packets of it are in a stream.
 LOOKED_AT, OF_TABLE, OTHERS = 16 << 20, 8, 64
 FIXED = 0, 1, NIT, SDT, EIT, TDT
-# How many changes a stream has, and the shares of streams that are changed by their packets and by their bits too, and of wrong CRC_32s.
+# How many changes a stream has, and the shares of streams that are changed by their packets and by their bits too, and of wrong
+# CRC_32s.
 COUNTS, BY_PACKETS, BY_BITS, UNMENDED = (1, 1, 2, 3, 5, 8, 12), 0.2, 0.08, 0.06
 PIDS = 0, 1, NIT, SDT, EIT, TDT, 0x1FFF, 0x1FFE, 0x100, 0x1000
 # What selects the tables of letters (EN 300 468, annex A), and letters with control codes and marks of emphasis.
-ENCODINGS = [bytes.fromhex(text) for text in ("", "05", "0b", "100002", "10000f", "1000", "10", "11", "12", "13", "14", "15", "1f01", "1f", "07")]
+ENCODINGS = [bytes.fromhex(text) for text in ",05,0b,100002,10000f,1000,10,11,12,13,14,15,1f01,1f,07".split(",")]
 LETTERS = b"abc XYZ%s%n\\\"'&</;$(\x86\x87\x8a\x80\x9f\x00\x01\x1b\x7f\xc1\xc8\xcf\xa4\xd0\xe0\xff\xee\x80\xd8\x00\xf0\x9f"
 # Where a descriptor's text begins, and whether a length stands in front of it.
-TEXTS = {0x40: (0, False), 0x47: (0, False), 0x48: (1, True), 0x4D: (3, True), 0x50: (6, False), 0x5B: (3, True), 0x5C: (3, True), 0x5D: (3, True),
-         0x5E: (4, True), 0x71: (0, False), 0x73: (0, False)}  # fmt: skip
+TEXTS = {**dict.fromkeys((0x40, 0x47, 0x71, 0x73), (0, False)), **dict.fromkeys((0x4D, 0x5B, 0x5C, 0x5D), (3, True)),
+         0x48: (1, True), 0x50: (6, False), 0x5E: (4, True)}  # fmt: skip
 
 
 class Draw:
@@ -104,7 +106,8 @@ def items_of(packets: Sequence[bytes]) -> list[Item]:
 def named_in(sections: Sequence[bytes]) -> list[int]:
     """The PIDs of sections that a PAT or a PMT names."""
     tables = [table for table in map(read, sections) if table and table.table_id in (PAT_ID, PMT_ID)]
-    return [part.fields["PID"] for table in tables for part in table.parts if part.fields.get("stream_type", SECTIONS[0]) in SECTIONS]
+    numbers = [part.fields for table in tables for part in table.parts]
+    return [fields["PID"] for fields in numbers if fields.get("stream_type", SECTIONS[0]) in SECTIONS]
 
 
 def programs_in(items: Sequence[Item]) -> list[Program]:
@@ -120,7 +123,8 @@ def programs_in(items: Sequence[Item]) -> list[Program]:
 
 def right_items(items: Sequence[Item], chosen: Sequence[Right]) -> list[Item]:
     """Tables that are right in form, with these descriptors, for the programs of a recording, and its other packets."""
-    return [*(Item(pid, data) for pid, data in tables_of(programs_in(items), chosen)), *(item for item in items if not item.is_section)]
+    made = [Item(pid, data) for pid, data in tables_of(programs_in(items), chosen)]
+    return made + [item for item in items if not item.is_section]
 
 
 def with_lengths(items: Sequence[Item], tag: int) -> list[Item]:
@@ -128,18 +132,18 @@ def with_lengths(items: Sequence[Item], tag: int) -> list[Item]:
     made: list[Item] = []
     count = 0
     for item in items:
-        regions = map_of(item.data).regions if item.is_section else []
+        regions = regions_of(map_of(item.data), "descriptor") if item.is_section else []
         data = item.data
-        for place, region in enumerate(region for region in regions if region.kind == "descriptor" and item.data[region.first] == tag):
-            data = data[: region.first + 1] + bytes([(0, 255)[(count + place) % 2]]) + data[region.first + 2 :]
+        for place, first in enumerate(region.first for region in regions if item.data[region.first] == tag):
+            data = data[: first + 1] + bytes([(0, 255)[(count + place) % 2]]) + data[first + 2 :]
         count += data != item.data
         made.append(item._replace(data=mended(data) if data != item.data else data))
     return made
 
 
 def listed(items: Sequence[Item], number: int) -> tuple[list[Item], str] | None:
-    """The first streams, which no draw makes: tables that are right in form, without descriptors, with one of each, and with all; then with one of
-    each of a wrong length. None behind the last."""
+    """The first streams, which no draw makes: tables that are right in form, without descriptors, with one of each, and with all;
+    then with one of each of a wrong length. None behind the last."""
     few: list[list[Right]] = [*([one] for one in RIGHT), RIGHT, []]
     chosen = few[(number + len(few) - 1) % len(few)]
     what = "all descriptors" if len(chosen) > 1 else tag_text(chosen[0].descriptor.tag) if chosen else "no descriptor more"
@@ -200,7 +204,8 @@ def length(draw: Draw, data: bytes, found: Map) -> Changed:
     kind = draw.of(sorted({site.name for site in sites}))
     site = draw.of([site for site in sites if site.name == kind])
     old, most = number_at(data, site), (1 << site.bits) - 1
-    new = draw.of([0, 1, 2, most, most - 1, old + 1, old - 1, len(data) - site.at // 8, min(LONGEST, most), draw.below(most + 1)]) & most
+    rest = len(data) - site.at // 8
+    new = draw.of([0, 1, 2, most, most - 1, old + 1, old - 1, rest, min(LONGEST, most), draw.below(most + 1)]) & most
     return put(data, site, new), f"{site.name} at byte {site.at // 8} is {new} in place of {old}"
 
 
@@ -232,8 +237,8 @@ def field(draw: Draw, data: bytes, found: Map) -> Changed:
     same = [site for site in sites if site.name == kind]
     site = draw.of(same)
     old, most = number_at(data, site), (1 << site.bits) - 1
-    values = PIDS if kind.endswith("PID") else [0, 1, most, most - 1, old + 1, old - 1, number_at(data, draw.of(same)), draw.below(most + 1)]
-    new = draw.of(values) & most
+    other, any_number = number_at(data, draw.of(same)), draw.below(most + 1)
+    new = draw.of(PIDS if kind.endswith("PID") else [0, 1, most, most - 1, old + 1, old - 1, other, any_number]) & most
     return put(data, site, new), f"{kind} at byte {site.at // 8} is {new} in place of {old}"
 
 
@@ -268,14 +273,17 @@ def text(draw: Draw, data: bytes, found: Map) -> Changed:
     body = b"deu\x01\x01\x01\x01"[:first] + (bytes([len(letters)]) if is_counted else b"") + letters
     body = (body + body[first:])[:255] if is_counted else body
     new = with_bytes(data, region.first, region.after, joined([Descriptor(kind, body)]), region.lengths)
-    return (new, f"{tag_text(kind)} at byte {region.first} with a text of {len(letters)} bytes, {letters[:8].hex()} ..") if new else None
+    told = f"{tag_text(kind)} at byte {region.first} with a text of {len(letters)} bytes, {letters[:8].hex()} .."
+    return (new, told) if new else None
 
 
 def size(draw: Draw, data: bytes, found: Map) -> Changed:
     """Bytes are cut away or put in, and some of the lengths that count them tell it."""
     region = draw.of(found.regions)
     first = region.first + draw.below(region.after - region.first + 1)
-    after, new = (min(region.after, first + 1 + draw.below(20)), b"") if draw.is_in(0.5) else (first, draw.bytes(draw.of([1, 2, 5, 50, 300])))
+    after, new = min(region.after, first + 1 + draw.below(20)), b""
+    if draw.is_in(0.5):
+        after, new = first, draw.bytes(draw.of([1, 2, 5, 50, 300]))
     made = with_bytes(data, first, after, new, region.lengths[: draw.below(len(region.lengths) + 1)])
     return (made, f"{after - first} bytes at byte {first} are {len(new)} others") if made else None
 
@@ -295,7 +303,8 @@ def bits(draw: Draw, data: bytes, _: Map) -> Changed:
     return data[:at] + bytes([data[at] ^ 1 << bit]) + data[at + 1 :], f"bit {bit} of byte {at} is the other one"
 
 
-CHANGES: Sequence[Change] = (length, length, length, lengths_of_tag, lengths_of_tag, count, count, field, field, descriptor, descriptor, tag, text, size, some_bytes)
+CHANGES: Sequence[Change] = (length, length, length, lengths_of_tag, lengths_of_tag, count, count, field, field, descriptor, descriptor,
+                             tag, text, size, some_bytes)  # fmt: skip
 
 
 def changed(draw: Draw, item: Item, change: Change) -> tuple[Item, str] | None:
@@ -321,9 +330,8 @@ def with_bits(place: int, mask: int, new: int) -> Callable[[list[bytes], int], l
     """A change of some bits of one of the packets."""
 
     def made(some: list[bytes], value: int) -> list[bytes]:
-        at = value % len(some) if some else 0
-        return [one[:place] + bytes([one[place] & ~mask | (new if new >= 0 else value) & mask]) + one[place + 1 :] if number == at else one
-                for number, one in enumerate(some)]  # fmt: skip
+        bits_of = (new if new >= 0 else value) & mask
+        return one_of(some, value, lambda one: [one[:place] + bytes([one[place] & ~mask | bits_of]) + one[place + 1 :]])
 
     return made
 
@@ -336,7 +344,8 @@ def one_of(some: list[bytes], value: int, change: Callable[[bytes], list[bytes]]
 
 def with_pes(packet: bytes, value: int) -> bytes:
     """A packet whose payload begins with the head of a PES packet: of any stream_id, flags and lengths."""
-    kind, flags, size = (0xE0, 0xC0, 0xBD, 0xBE, 0xBF, 0xFF)[value % 6], (0x80, 0xC0, 0xFF, 0)[value % 4], (0, 5, 255, value)[value % 4]
+    kind, flags = (0xE0, 0xC0, 0xBD, 0xBE, 0xBF, 0xFF)[value % 6], (0x80, 0xC0, 0xFF, 0)[value % 4]
+    size = (0, 5, 255, value)[value % 4]
     head = bytes([0, 0, 1, kind, value & 0xFF, value * 7 & 0xFF, 0x80, flags, size]) + b"\xff" * 10
     return (packet[:1] + bytes([packet[1] | 0x40, packet[2], packet[3] & 0xDF | 0x10]) + head).ljust(PACKET, b"\xff")
 
@@ -350,10 +359,11 @@ def with_pcr(packet: bytes, value: int) -> bytes:
 PACKETS: dict[str, Callable[[list[bytes], int], list[bytes]]] = {
     "is lost": lambda some, value: one_of(some, value, lambda one: []),
     "comes twice": lambda some, value: one_of(some, value, lambda one: [one, one]),
-    "comes last": lambda some, value: [one for at, one in enumerate(some) if at != value % len(some)] + [some[value % len(some)]] if some else [],
+    "comes last": lambda some, value: one_of(some, value, lambda one: []) + [some[value % len(some)]] if some else [],
     "has an adaptation field": lambda some, value: one_of(some, value, lambda one: [with_field(one, value)]),
-    "has another pointer_field": with_bits(4, 0xFF, -1), "is scrambled": with_bits(3, 0xC0, 0xC0), "has an error": with_bits(1, 0x80, 0x80),
-    "has another continuity_counter": with_bits(3, 0x0F, -1), "begins no section": with_bits(1, 0x40, 0), "has no payload": with_bits(3, 0x10, 0),
+    "has another pointer_field": with_bits(4, 0xFF, -1), "is scrambled": with_bits(3, 0xC0, 0xC0),
+    "has an error": with_bits(1, 0x80, 0x80), "has another continuity_counter": with_bits(3, 0x0F, -1),
+    "begins no section": with_bits(1, 0x40, 0), "has no payload": with_bits(3, 0x10, 0),
     "begins with a PES packet's head": lambda some, value: one_of(some, value, lambda one: [with_pes(one, value)]),
     "has a PCR": lambda some, value: one_of(some, value, lambda one: [with_pcr(one, value)]),
 }  # fmt: skip
@@ -374,7 +384,8 @@ def by_tables(draw: Draw, items: list[Item], at: int) -> str:
     item, way = items[at], draw.below(4)
     if way == 0 and len(item.data) > 8:
         place, new = draw.of([3, 4, 5, 5, 6, 7]), draw.below(256)
-        items.insert(draw.below(len(items) + 1), item._replace(data=mended(item.data[:place] + bytes([new]) + item.data[place + 1 :])))
+        data = mended(item.data[:place] + bytes([new]) + item.data[place + 1 :])
+        items.insert(draw.below(len(items) + 1), item._replace(data=data))
         return f"{item.name()}: comes again, with {new} in byte {place}"
     if way == 1:
         pid = draw.of([*PIDS, *(one.pid for one in items)])

@@ -1,4 +1,5 @@
-"""Makes a stream small: sections and packets, their changes, parts, descriptors and bytes are taken away while what is asked of it holds."""
+"""Makes a stream small: sections and packets, their changes, parts, descriptors and bytes are taken away while what is asked of
+it holds."""
 from __future__ import annotations
 
 from typing import TYPE_CHECKING

@@ -1,7 +1,8 @@
-"""Runs of a command before streams, several at a time: each is a fork of this process, with a server, a folder and limits of its own.
+"""Runs of a command before streams, several at a time: each is a fork of this process, with a server, a folder and limits of its
+own.
 
-What a run has is in memory: its stream, its report, and the first and the last of what its programs write. However it ends, its whole tree of
-processes is ended; where this process is killed, the clearing of `serve` ends it.
+What a run has is in memory: its stream, its report, and the first and the last of what its programs write. However it ends, its
+whole tree of processes is ended; where this process is killed, the clearing of `serve` ends it.
 """
 from __future__ import annotations
 
@@ -33,20 +34,23 @@ from ..stream.packets import PACKET
 if TYPE_CHECKING:
     from typing import Any, BinaryIO, Iterator, NoReturn, Sequence
 
-# What is kept of the output, its beginning and its end; the bytes of a file that a program may write, the files and the processes that it may
-# have; the bytes of a file that is copied, and of a pipe; the seconds of a pause, and those behind its limit in which a run has to be over.
+# What is kept of the output, its beginning and its end; the bytes of a file that a program may write, the files and the processes
+# that it may have; the bytes of a file that is copied, and of a pipe; the seconds of a pause, and those behind its limit in which
+# a run has to be over.
 KEPT, FILES_OF, FILES, PROCESSES, COPIED, PIPE, PAUSE, OVER = 32 << 10, 256 << 20, 1024, 256, 16 << 20, 1 << 20, 0.02, 60
 # The signals by which a program is said to have crashed, also where a shell tells it as a status.
-CRASHES = {int(number) for number in (signal.SIGILL, signal.SIGTRAP, signal.SIGABRT, signal.SIGBUS, signal.SIGFPE, signal.SIGSEGV, signal.SIGSYS)}
+CRASHES = {int(getattr(signal, f"SIG{name}")) for name in ("ILL", "TRAP", "ABRT", "BUS", "FPE", "SEGV", "SYS")}
 # The bytes of a loop: a short stream is played as so many of it.
 LOOP = 640 * PACKET
 STOPS = {signal.SIGINT, signal.SIGTERM, signal.SIGHUP}
 # What a sanitizer or valgrind says first, and the C library where it finds its heap or its stack broken.
 HEADS = re.compile(rb"^(?:==\d+==)?\s*(?:ERROR: (\w+Sanitizer: [\w-]+)|WARNING: (\w+Sanitizer: [\w-]+)|(.*runtime error: .*)"
-                   rb"|(Invalid (?:read|write|free)[^\n]*)|(\*\*\* [\w ]+ \*\*\*|.*(?:double free|corrupted|invalid pointer|invalid size).*))", re.M)  # fmt: skip
+                   rb"|(Invalid (?:read|write|free)[^\n]*)|(\*\*\* [\w ]+ \*\*\*)"
+                   rb"|(.*(?:double free|corrupted|invalid pointer|invalid size).*))", re.M)  # fmt: skip
 # A frame of a program's stack, as gdb, a sanitizer and valgrind write it, and which are none of the program's own.
 FRAME = re.compile(rb"^(?:\s*#\d+ +(?:0x\w+ in )?|==\d+== +(?:at|by) 0x\w+: )([A-Za-z_][\w:~]*)(.*)$", re.M)
-NOT_OWN = re.compile(rb"^(?:__|_start|raise|abort|gsignal)|/lib[\w.-]*\.so|vgpreload|preload\.so|/libsanitizer/|(?:\.|\.\.)/(?:nptl|sysdeps|stdlib|string|debug|libio|malloc|csu)/")
+NOT_OWN = re.compile(rb"^(?:__|_start|raise|abort|gsignal)|/lib[\w.-]*\.so|vgpreload|preload\.so|/libsanitizer/"
+                     rb"|\./(?:nptl|sysdeps|stdlib|string|debug|libio|malloc|csu)/")  # fmt: skip
 # What a report tells of filters that were set, and of what was read; and the lines of its nodes.
 SET = re.compile(rb"^\d+ c\d \d+ (?:section|pes|add) pid=(\d+)(?:.*? 0=(\w\w)/ff/00)?.* = done ", re.M)
 READ = re.compile(rb"^\d+ c\d (\d+) read \d+ at=\d+ = data (\w+)|^\d+ c\d \d+ (?:section|pes) pid=(\d+)", re.M)
@@ -61,8 +65,8 @@ class Limits(NamedTuple):
 
 @dataclass
 class Plan:
-    """What is run, and how: the command, the packets a second, its limits, the words of further channels, the seconds of a lock, the words that
-    start the server, and whether the command never ends by itself."""
+    """What is run, and how: the command, the packets a second, its limits, the words of further channels, the seconds of a lock,
+    the words that start the server, and whether the command never ends by itself."""
 
     command: list[str]
     packets: float
@@ -74,8 +78,8 @@ class Plan:
 
 
 class Ended(NamedTuple):
-    """How a command has ended: `ended` with a status, by a `signal`, `no end` within its limit, `memory`, `processes`, or a `fault` of the run
-    itself; and the seconds and the processor's."""
+    """How a command has ended: `ended` with a status, by a `signal`, `no end` within its limit, `memory`, `processes`, or a
+    `fault` of the run itself; and the seconds and the processor's."""
 
     kind: str
     number: int = 0
@@ -132,14 +136,17 @@ class Ran(NamedTuple):
             return f"{signal.Signals(number).name if kind == 'signal' else 'reported'}: {self.head()}"
         if kind == "signal":
             return signal.Signals(number).name
-        if plan.is_running:
-            return "" if kind == "no end" and self.is_reading() else "it reads no more" if kind == "no end" else f"{kind} {number or ''}".strip()
-        return f"status {number} of valgrind" if kind == "ended" and number in error_statuses(plan.command) else "" if kind == "ended" else kind
+        if plan.is_running and kind in ("ended", "no end"):
+            return f"it ends with the status {number}" if kind == "ended" else "" if self.is_reading() else "it reads no more"
+        if kind == "ended":
+            return f"status {number} of valgrind" if number in error_statuses(plan.command) else ""
+        return kind
 
 
 def error_statuses(command: Sequence[str]) -> set[int]:
     """The statuses by which valgrind says that it has found something."""
-    return {int(found[1]) for found in (re.fullmatch(r"--error-exitcode=(\d+)", word) for word in command) if found and found[1] != "0"}
+    found = (re.fullmatch(r"--error-exitcode=(\d+)", word) for word in command)
+    return {int(one[1]) for one in found if one} - {0}
 
 
 def frames_in(text: bytes) -> list[str]:
@@ -281,7 +288,8 @@ def owner_of(name: str) -> int:
 
 
 def copy_named(words: Sequence[str], here: str, room: str) -> None:
-    """Copies into the folder of a run the files that words of a command name as from here: a program that goes wild writes over none."""
+    """Copies into the folder of a run the files that words of a command name as from here: a program that goes wild writes over
+    none."""
     for word in words:
         source, copy = os.path.join(here, word), os.path.normpath(os.path.join(room, word))
         if not os.path.isabs(word) and os.path.isfile(source) and copy.startswith(room + os.sep):
@@ -322,7 +330,8 @@ def served(plan: Plan, path: str, words: Sequence[str], report: BinaryIO, kept: 
         channels: list[Channel] = channels_of(plan.tune, None, path, plan.packets)
         for channel in channels:
             channel.quality = channel.quality._replace(lock=plan.lock)
-        adapter = Adapter(plan.server, folder.adapters[0], channels, Namespace(seats=8, once=False, live=False), Outs(report, None, None, "all"))
+        options = Namespace(seats=8, once=False, live=False)
+        adapter = Adapter(plan.server, folder.adapters[0], channels, options, Outs(report, None, None, "all"))
         adapter.feeder = Held(channels, adapter)
         command, servers = Command(plan, folder, words), {adapter.server.pid}
         adapter.start()
@@ -349,7 +358,8 @@ class Run:
     """A run that is begun: this process's end of the pipe by which it tells how it has ended."""
 
     def __init__(self, plan: Plan, stream: bytes, words: Sequence[str]) -> None:
-        self.stream, self.report, self.output = in_memory([stream] * max(LOOP // max(len(stream), 1), 1)), in_memory(), in_memory()
+        self.stream = in_memory([stream] * max(LOOP // max(len(stream), 1), 1))
+        self.report, self.output = in_memory(), in_memory()
         self.begun, self.parent = time.monotonic(), os.getpid()
         self.end, theirs = os.pipe()
         self.until = self.begun + plan.limits.seconds + OVER
