@@ -22,7 +22,8 @@ DEMUX, RECORDER, TUNER = (f"/dev/dvb/adapter0/{name}0" for name in ("demux", "dv
 # What of preload/cases a regular file or an answer to a kernel can't be: the devices are told as files, which can be spliced; a
 # frontend that is one has places; and a read behind a handler with SA_RESTART is EINTR.
 NOT_BY_FUSE = ("what_a_device_has_not", "links", "stat_by_its_older_names", "open_from_a_folder", "fstat_of_a_device",
-               "stat_of_a_device", "statx_of_a_device", "small_stacks", "at_a_place", "a_signal_begins_a_read_again")  # fmt: skip
+               "stat_of_a_device", "statx_of_a_device", "small_stacks", "at_a_place", "a_signal_begins_a_read_again",
+               "many_signals")  # fmt: skip
 # The cases of which the report is looked at.
 TOLD = "sections", "doubled", "by_edge"
 # The ways to link a program, the compiler of each, and its words; the last has no C library, which is seldom there for 32 bits.
