@@ -1,7 +1,8 @@
 """`dvbemu serve`: runs a command whose DVB programs find an emulated adapter that a recording feeds, and writes the report of all their
 calls. Its --help tells of the words.
 
-The server is dvb_serve, which the first call proves and builds; the preload, preload/*.c, is built at the first call by cc.
+The server is dvb_serve, which the first call proves and builds; the preload, preload/*.c, or with
+--fuse what mounts, fuse/*.c, is built at the first call by cc.
 """
 from __future__ import annotations
 
@@ -151,6 +152,7 @@ def see_command(name: str, known: Serve, is_mount: bool = False) -> None:
         known.exit(127, f"{known.teller}: {name}: No such file or directory{quoted}\n")
     if os.path.isfile(path) and not is_mount and (why := unseen_as(path)):
         print(f"{known.teller}: {name} {why}: it will not see the emulated adapter", file=sys.stderr)
+        print(f"{known.teller}: with --fuse it does", file=sys.stderr)
 
 
 def air_of(options: Namespace) -> list[list[Channel]]:
