@@ -38,9 +38,9 @@ PROVED = {
 # The tools, each a module of `commands`, and what it does.
 TOOLS = {
     "serve": "runs unmodified DVB programs on a recording, and writes a report of their calls",
-    "fuzz": "runs a program before mutated copies of a recording, and keeps small streams before which it fails",
+    "fuzz": "runs a program on mutated copies of a recording, and keeps small streams on which it fails",
     "explain": "explains a report in plain English, with hints; with its stream, why filters got nothing",
-    "beside": "tells which replies of a session Linux would give otherwise, and why",
+    "beside": "shows which replies of a session Linux would give otherwise, and why",
     "picture": "draws a report",
     "page": "writes a report as a page for a browser",
     "json": "writes a report as JSON Lines, and back",

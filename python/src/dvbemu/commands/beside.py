@@ -45,22 +45,21 @@ def command() -> tool.Command:
     words = tool.Command(
         "beside",
         "[--batch B] [--packet P] [--hz HZ] [--json] [SESSION | SCRIPT STREAM .. | REPORT SESSION]",
-        "Tells which replies of a session Linux 6.1 would give otherwise, line by line, and by which rows of docs/KERNEL.md.",
-        reads="a session, or a script and its streams, as `steps` does; or a report of `steps` and its session, whose batches are then "
-        "taken; or one of `serve` and what was played, and the lines are those of `dvbemu session`. A file may be `-`; without one "
-        "standard input is the session",
-        writes="a line for each call that differs, what is answered here and on Linux, and the row; or that all is the same",
-        status="0 where all is the same; 1 where a reply differs, or a file can't be read; 2 for wrong words; 3 where the script has a "
-        "fault",
+        "Plays a session by the rules of Linux 6.1 too, and shows line by line which replies would differ, with the rows of docs/KERNEL.md.",
+        reads="a session, or a script and its streams, like `steps`; or a report of `steps` and its session, with the report's batch size; "
+        "or a report of `serve` and what was played, with the lines of `dvbemu session`. A file may be `-`; without files the session is "
+        "read from standard input",
+        writes="for each call that differs, the reply here and on Linux, and the row; or that all are the same",
+        status="0 if all replies are the same; 1 if one differs, or a file can't be read; 2 for a usage error; 3 if the script has an error",
         example="dvbemu beside my.session; dvbemu beside my.script my.ts; dvbemu beside --hz 250 my.report my.session",
     )
     words.add_argument("--batch", action=tool.Once, type=tool.number(1, MOST_BATCH, True), metavar="B",
-                       help="the most packets of a batch, as of `steps`")  # fmt: skip
+                       help="the maximum number of packets in a batch, as in `steps`")  # fmt: skip
     words.add_argument("--packet", action=tool.Once, type=int, choices=(188, 204), metavar="P",
-                       help="the bytes that a packet takes up: 188, or 204")  # fmt: skip
-    words.add_argument("--hz", type=int, choices=HERTZ, default=HERTZ[0], help="the jiffies of a second; without it 1000")
-    words.add_argument("--json", action="store_true", help="writes JSON Lines: an object for each line that differs, and one more")
-    words.add_argument("files", metavar="FILE", nargs="*", help="the files, in the order of the usage")
+                       help="the packet size in the stream: 188 (default) or 204")  # fmt: skip
+    words.add_argument("--hz", type=int, choices=HERTZ, default=HERTZ[0], help="the timer frequency of the kernel; default 1000")
+    words.add_argument("--json", action="store_true", help="write JSON Lines: one object for each line that differs, and one for the whole")
+    words.add_argument("files", metavar="FILE", nargs="*", help="the files, in the order shown above")
     return words
 
 

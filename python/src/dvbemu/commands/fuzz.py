@@ -30,27 +30,26 @@ if TYPE_CHECKING:
 # no word says so; and the greatest numbers.
 TIME, LIMIT, PACKETS, MEMORY, TRIES, LONGEST, MOST_MEMORY = 60.0, 10.0, 10_000.0, 1024, 400, 10**7, 1 << 20
 ABOUT = """\
-Runs COMMAND, as `serve` does, before mutated copies of a recording, and keeps each stream before which it fails, as small as it
-becomes.
+Runs COMMAND, as `serve` does, on mutated copies of a recording, and keeps each stream on which it fails, reduced.
 
-A failure is a signal, a report of a sanitizer or of valgrind, no end within the limit, or memory beyond --memory. The recording goes
-first as it is, and COMMAND has to end well before it. Then come tables that are right in form, with each descriptor of ETSI EN 300 468,
-then mutations: of lengths, counts, versions, numbers and texts, of packets, and of bits; of the PIDs that COMMAND has asked for.
+A failure is a signal, a report of a sanitizer or of valgrind, no end within the limit, or memory above --memory. The unchanged recording
+comes first, and COMMAND has to succeed on it. Then come well-formed tables with every descriptor of ETSI EN 300 468, and then mutations:
+of lengths, counts, versions, numbers and texts, of packets, and of bits; of the PIDs that COMMAND has asked for.
 
-Each run has a folder of its own, into which the files are copied that words of COMMAND name, limits, and no device of the machine; what
-it leaves running is ended. FOLDER has, for each cause, NAME.ts, the stream; NAME.session, for `steps`; and NAME.txt: what was changed,
-the last calls, the stack where gdb is there, and the command that shows it again. The streams of a FOLDER that is there go first, and
-those that are mended are told; then the hunt goes on."""
-READS = "RECORDING, packets of 188, 192 or 204 bytes, in a file; of a long one the first 16 MiB"
-WRITES = "TAP: a point for the recording, one for each stream that FOLDER has, `not ok` for each cause that is found; and FOLDER"
-STATUS = "0 where no failure was found; 1 where one was, or stands in FOLDER still, COMMAND fails before the recording as it is, or a " \
-    "file can't be read or written; 2 for wrong words; 127 where COMMAND isn't there"
+Each run has its own folder, into which files named in COMMAND are copied, and limits, and doesn't see the machine's devices; what it
+leaves running is ended. FOLDER has, for each cause, NAME.ts, the stream; NAME.session, for `steps`; and NAME.txt: what was changed,
+the last calls, the stack if gdb is installed, and the command that reproduces it. The streams in an existing FOLDER are tried first,
+with `mended` for those that no longer fail."""
+READS = "RECORDING, a file with packets of 188, 192 or 204 bytes; at most its first 16 MiB are used"
+WRITES = "TAP: a test for the recording, one for each stream in FOLDER, and `not ok` for each new cause; and FOLDER"
+STATUS = "0 if no failure was found; 1 if one was, or one in FOLDER still fails, COMMAND fails on the unchanged recording, or a file can't " \
+    "be read or written; 2 for a usage error; 127 if COMMAND doesn't exist"
 
 
 class Fuzz(Serve):
     """The command."""
 
-    others = "; 70 for a fault of `fuzz` itself"
+    others = "; 70 for a bug in `fuzz`"
 
 
 def command() -> Fuzz:
@@ -59,20 +58,20 @@ def command() -> Fuzz:
                  example="dvbemu fuzz --time 60 --out found my.ts -- dvbv5-scan -o channels dvbv5.conf")  # fmt: skip
     whole = tool.number(0, LONGEST)
     words.add_argument("--time", type=seconds, metavar="S",
-                       help="so many seconds; without it, 60, or with --runs no end; 0 tries the streams of FOLDER alone")  # fmt: skip
-    words.add_argument("--runs", type=whole, metavar="N", help="so many streams")
-    words.add_argument("--seed", type=whole, metavar="N", help="the seed of the streams, which gives the same on each machine")
-    words.add_argument("--jobs", type=tool.number(1, 64), metavar="J", help="runs at a time; without it, as many as processors")
-    words.add_argument("--limit", type=rate(LONGEST), default=LIMIT, metavar="S", help="the seconds of a run; without it, 10")
-    words.add_argument("--memory", type=tool.number(1, MOST_MEMORY), default=MEMORY, metavar="MIB", help="its MiB; without it, 1024")
-    words.add_argument("--packets", type=rate(FASTEST), default=PACKETS, metavar="N", help="packets a second; without it, 10,000")
-    words.add_argument("--out", default="fuzz", metavar="FOLDER", help="the folder of what is found; without it, fuzz")
+                       help="stop after S seconds; default 60, or no limit with --runs; 0 tries only the streams in FOLDER")  # fmt: skip
+    words.add_argument("--runs", type=whole, metavar="N", help="stop after N streams")
+    words.add_argument("--seed", type=whole, metavar="N", help="the seed of the streams; a seed gives the same streams on every machine")
+    words.add_argument("--jobs", type=tool.number(1, 64), metavar="J", help="the number of runs at the same time; default: the number of processors")
+    words.add_argument("--limit", type=rate(LONGEST), default=LIMIT, metavar="S", help="the seconds that a run may take; default 10")
+    words.add_argument("--memory", type=tool.number(1, MOST_MEMORY), default=MEMORY, metavar="MIB", help="the MiB of memory that a run may take; default 1024")
+    words.add_argument("--packets", type=rate(FASTEST), default=PACKETS, metavar="N", help="play N packets a second; default 10,000")
+    words.add_argument("--out", default="fuzz", metavar="FOLDER", help="the folder for failures; default fuzz")
     words.add_argument("--expect-running", action="store_true",
-                       help="COMMAND never ends by itself: it has to be alive and reading at the limit")  # fmt: skip
-    words.add_argument("--all", action="store_true", help="PIDs that COMMAND hasn't asked for are changed too")
+                       help="COMMAND never ends by itself: it must be alive and reading at the limit")  # fmt: skip
+    words.add_argument("--all", action="store_true", help="also change PIDs that COMMAND hasn't asked for")
     words.add_argument("--without", action="append", default=[], type=tool.number(0, 255), metavar="TAG",
-                       help="no stream has descriptors of this tag")  # fmt: skip
-    words.add_argument("--tries", type=whole, default=TRIES, metavar="N", help="by how many runs a stream is made small; without it, 400")
+                       help="leave out descriptors with this tag")  # fmt: skip
+    words.add_argument("--tries", type=whole, default=TRIES, metavar="N", help="the number of runs to reduce a stream; default 400")
     words.add_argument("--valgrind", action="store_true",
                        help="valgrind runs over each tenth stream, and over those before which COMMAND crashes")  # fmt: skip
     words.add_argument("--tune", action="append", nargs="+", default=[], metavar=CHANNEL, type=tool.reader(channel, CHANNEL),

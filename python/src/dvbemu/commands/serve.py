@@ -100,18 +100,17 @@ def command() -> Serve:
                        "without a report; or in a new or empty folder, from which `dvbemu merge` makes the report")  # fmt: skip
     words.add_argument("--tune", action="append", nargs="+", default=[], metavar=CHANNEL, type=tool.reader(channel, CHANNEL),
                        help=f"a recording on a frequency in Hz (the program may tune 2 MHz away), for a delivery system ({EARTHLY}; DVBS and "
-                       "DVBS2, with kHz and H, V, L or R); a number below 100,000 is MHz; with so many dB of signal to noise, a lock behind so many "
-                       "milliseconds, and one that is lost behind so many seconds for so many more")  # fmt: skip
+                       "DVBS2, with kHz and H, V, L or R); a number below 100,000 is MHz; snr is the signal to noise ratio in dB, lock how "
+                       "many ms a lock takes, drop after how many seconds it is lost, and for how many")  # fmt: skip
     words.add_argument("--channels", metavar="FILE", help="a file with such lines")
     words.add_argument("--live", action="store_true", help="recordings keep running while not tuned")
     words.add_argument("--adapter", action="append", default=[], metavar="STREAM|CHANNELS", help="add an adapter: adapter0, adapter1 and so on")
-    words.add_argument("--trace", action="store_true", help="tells each call of a program on standard error when it comes back, and one that "
-                       "waits")  # fmt: skip
+    words.add_argument("--trace", action="store_true", help="print each call of a program on standard error when it returns, or while "
+                       "it waits")  # fmt: skip
     way = words.add_mutually_exclusive_group()
-    way.add_argument("--fuse", action="store_true", help="/dev/dvb is a mount by FUSE in a namespace of its own, which any program sees, also "
-                     "one that is linked statically")  # fmt: skip
-    way.add_argument("--preload", action="store_true", help="what is loaded into each program stands in the place of the C library's calls; "
-                     "without --fuse, this")  # fmt: skip
+    way.add_argument("--fuse", action="store_true", help="mount /dev/dvb by FUSE in a namespace of its own: for every program, also if "
+                     "linked statically")  # fmt: skip
+    way.add_argument("--preload", action="store_true", help="load a library into each program that replaces calls of the C library (default)")  # fmt: skip
     words.add_argument("--played", metavar="FILE", help="save the packets as they were played")
     words.add_argument("stream", nargs="?", metavar="STREAM", help="a transport stream; `-` is standard input")
     return words
