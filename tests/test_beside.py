@@ -259,7 +259,7 @@ def test_a_served_report(files_room):
 
 
 @pytest.mark.parametrize("line, wrong", [
-    ("beside report recording", "dvbemu beside: report: it is no report of `serve`"), ("beside served big", "dvbemu beside: served: it isn't the report"),
+    ("beside report recording", "dvbemu beside: report: not a report of `serve`"), ("beside served big", "dvbemu beside: served: it isn't the report"),
     ("beside --hz 999 session", "dvbemu beside: error: argument --hz: invalid choice"), ("beside --batch 65 session", "dvbemu beside: error: argument --batch"),
 ])  # fmt: skip
 def test_what_is_refused(files_room, line, wrong):

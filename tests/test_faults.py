@@ -12,6 +12,7 @@ import os
 import socket
 import statistics
 import subprocess
+import sys
 import termios
 import threading
 import time
@@ -131,20 +132,22 @@ def test_small_memory(large, command):
     assert (told(child), child.stdout) == (MEMORY, b"")
 
 
+# Starts a program from a small process, since what starts it counts as its memory, and writes its status and the KiB that it took.
+STARTER = "import os, sys; _, status, used = os.wait4(os.spawnv(os.P_NOWAIT, sys.argv[1], sys.argv[1:]), 0); " \
+    "print(os.waitstatus_to_exitcode(status), used.ru_maxrss, file=sys.stderr)"
+
+
 def test_room_is_given_back(tmp_path):
     """Of a read the bytes that it gave are kept, and not the room that it had for them."""
     packets = (packet(256, number, b"\0" + SECTION, True) for number in range(READS))
     script = b"c0 open n0\nc0 size n0 65536\nc0 section n0 256 0 4\nfeed %d\n%sstream\n" % (READS, READS * b"c0 read n0 65536\n")
     (tmp_path / "given").write_bytes(script + b"".join(packets))
     with open(tmp_path / "given", "rb") as given, open(tmp_path / "told", "wb") as out:
-        ends = {"stdin": given, "stdout": out, "stderr": subprocess.PIPE}
-        with subprocess.Popen([BUILT, "steps"], **ends, env={**os.environ, **FILLED}) as child:
-            line = child.stderr.read()
-            _, status, used = os.wait4(child.pid, 0)
-            child.returncode = os.waitstatus_to_exitcode(status)
-    assert (child.returncode, line) == (0, b"")
+        words = [sys.executable, "-S", "-c", STARTER, BUILT, "steps"]
+        child = subprocess.run(words, stdin=given, stdout=out, stderr=subprocess.PIPE, check=False, env={**os.environ, **FILLED})
+    status, most = map(int, child.stderr.split())
     assert (tmp_path / "told").read_bytes().count(b" = data " + SECTION.hex().encode() + b"\n") == READS
-    assert used.ru_maxrss << 10 <= MOST_MEMORY
+    assert status == 0 and most << 10 <= MOST_MEMORY
 
 
 @pytest.mark.parametrize("words, given, output", [

@@ -198,7 +198,7 @@ def test_seats(served):
     nine = "for i in 1 2 3 4 5 6 7 8 9; do (sh -c 'exec 3< /dev/dvb/adapter0/demux0 && sleep 7' 2> $i) & done; wait; cat [1-9]"
     done = served.run("sh", "-c", nine)
     assert len(re.findall("I/O error|Input/output error", done.stdout)) == 1, done.stdout
-    assert "1 program found no seat" in done.stderr
+    assert "1 program got EIO, since only 8 can be served at a time" in done.stderr
 
 
 def test_a_killed_program(served):

@@ -56,7 +56,7 @@ def fuzz(room, *words, command=(), **more):
 @pytest.fixture(scope="module")
 def planted(compiled, server):
     """The receiver with planted faults."""
-    return compiled("planted.c", "-g", "-O0", "-fstack-protector-all")
+    return compiled("tests/planted.c", "-w", "-g", "-O0", "-fstack-protector-all")
 
 
 @pytest.fixture

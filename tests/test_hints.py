@@ -201,7 +201,7 @@ SAID = [
         ["at least"],
     ),
     ("feed 1|c0 open n0|c0 section n0 256 0 0 0=43/ff/00|c0 start n0|feed 3|c0 read n0 9",
-     SECTIONS + packet(300, 0) + packet(300, 1), ["at least 1 packet of PID 256 (0x100) passed", "for its filter byte 0; try"],
+     SECTIONS + packet(300, 0) + packet(300, 1), ["at least 1 packet of PID 256 (0x100) passed", "the cause may be its filter byte 0; try"],
      ["flag 1"]),
     (
         "feed 12|c0 open n0|c0 section n0 256 0 4 0=43/ff/00|feed 24|c0 poll n0",
@@ -210,7 +210,7 @@ SAID = [
         [],
     ),
     ("c0 open n0|c0 section n0 9000 0 4", PLAIN, ["PID 9000 is above 8191 (13 bits); SetFilter sets no filter"], []),
-    ("c0 open n0|c0 section n0 256 0 4|feed 9|c0 read n0 9", PLAIN, ["though it takes every one"], ["try it"]),
+    ("c0 open n0|c0 section n0 256 0 4|feed 9|c0 read n0 9", PLAIN, ["though it takes every section"], ["try it"]),
     ("c0 open n0|c0 section n0 256 0 4|feed 4|c0 read n0 4096", PES, ["begins with 00 00 01 e0,", "PID 256 (0x100) carries a stream"], []),
     ("c0 open n0|c0 section n0 300 0 5|c0 open n1|c0 section n1 256 0 4 0=42/ff/00|c0 drain n0 99|c0 drain n1 99",
      packet(300, 0, b"\0" + PROGRAM, True) + PES,
@@ -218,26 +218,26 @@ SAID = [
     (f"c0 open n0|c0 pes n0 256 {TAP} 4|c0 readw n0 9|c0 drain n0 9", PLAIN + packet(300, 0) * 9,
      [", and 50 packets of PID 256 (0x100) passed it then"], ["59"]),
     (f"c0 open n0|c0 pes n0 256 {TAP} 4|feed 20|c0 open dvr", PLAIN + packet(300, 0) * 9, ["up to 20 packets of PID 256"], []),
-    ("c0 open n0|c0 section n0 256 0 4|c0 read n0 9", SECTIONS, ["all reads behind line 2 came before a packet passed, with 4 packets"], []),
+    ("c0 open n0|c0 section n0 256 0 4|c0 read n0 9", SECTIONS, ["all reads after line 2 came before a packet passed, with 4 packets"], []),
 ]
 # What explain says of what was lost: a script, a stream, and the words.
 LOST = [
     (f"c0 open n0|c0 size n0 377|c0 pes n0 256 {WHOLE} 4|feed 3|c0 read n0 188", PLAIN, "564 bytes, 0..564 of the capture, 3 packets, "
-     "the stream's packets 0 to 2, all that was unread"),
+     "the stream's packets 0 to 2, everything unread"),
     (f"c0 open n0|c0 size n0 377|c0 pes n0 256 {WHOLE} 4|feed 1|c0 read n0 999|feed 4|c0 read n0 188", PLAIN, "752 bytes, 188..940 of the "
-     "capture, 4 packets, the stream's packets 1 to 4, all"),
+     "capture, 4 packets, the stream's packets 1 to 4, everything"),
     (f"c0 open n0|c0 size n0 377|c0 pes n0 256 {WHOLE} 260|feed 3|c0 readw n0 376|c0 read n0 188", PLAIN, "188 bytes, 376..564 of the "
      "capture, 1 packet, the stream's packet 2, all items from 2 on"),
     ("c0 open n0|c0 size n0 17|c0 section n0 256 0 4|feed 1|c0 read n0 8|feed 3|c0 read n0 8", SECTIONS, "24 bytes, 8..32 of the capture, "
-     "at least 3 sections, brought by packets among the stream's packets 0 to 3, all"),
+     "at least 3 sections, brought by packets among the stream's packets 0 to 3, everything"),
     ("c0 open n0|c0 size n0 377|c0 pes n0 256 frontend tap 20 4|feed 3|c0 read n0 188", PLAIN, "552 bytes, 0..552 of the capture, brought by "
-     "packets among the stream's packets 0 to 2, all"),
+     "packets among the stream's packets 0 to 2, everything"),
     (f"c0 open dvr|c0 size dvr 377|c0 open n0|c0 pes n0 256 {TAP} 4|feed 3|c0 read dvr 188", PLAIN, "564 bytes, 0..564 of the capture, 3 "
-     "packets, the stream's packets 0 to 2, all"),
+     "packets, the stream's packets 0 to 2, everything"),
     (f"c0 open n0|c0 size n0 377|c0 pes n0 256 {WHOLE} 4|feed 9|c0 read n0 188", packet(300, 0) + PLAIN, "8 packets, among the stream's "
-     "packets 0 to 8, all"),
+     "packets 0 to 8, everything"),
     (f"c0 open dvr|c0 open n0|c0 size n0 377|c0 pes n0 256 {PLAYED} 4|feed 9|c0 write dvr {PLAIN[:564].hex()}|c0 read n0 188", PLAIN,
-     "564 bytes, 0..564 of the capture, 3 packets, all that was unread"),
+     "564 bytes, 0..564 of the capture, 3 packets, everything unread"),
     ("c0 open n0|c0 size n0 2|c0 pes n0 256 frontend tap 20 260|feed 2|c0 read n0 9|c0 read n0 9", SINGLE, "line 6, n0: 1 byte, 1..2 of the "
      "capture, brought by packets among the stream's packets 0 to 1, all items from 1 on"),
 ]  # fmt: skip
@@ -422,7 +422,7 @@ def test_size_that_holds_all(report_of, script, batch):
 @pytest.mark.parametrize("script", BEHIND)
 def test_no_size_where_other_packets_would_have_passed(report_of, script):
     said = said_of(report_of(script, LONG_AND_SHORT))
-    assert "no size is named, since reads waited behind it" in said and held(report_of(script, LONG_AND_SHORT)) is None
+    assert "no size is given, since later reads waited" in said and held(report_of(script, LONG_AND_SHORT)) is None
 
 
 @pytest.mark.parametrize("text, is_loop", LOOPS)

@@ -63,8 +63,8 @@ WRONG = [
     (changed("batches", "0 64 100\n", ""), "line 1 isn't the batch behind 0 packets"),
     (changed("batches", "64 1 145\n", "64 1 14"), "line 2 isn't the batch behind 64 packets"),
     (changed("batches", "64 1 145\n", ""), "tells of 64 packets, and the stream had 65"),
-    (changed("head", "end\n", ""), "isn't whole"),
-    (changed("head", HEAD + "end\n", ""), "isn't whole"),
+    (changed("head", "end\n", ""), "isn't complete"),
+    (changed("head", HEAD + "end\n", ""), "isn't complete"),
     ({"1.calls": ""}, "has no file `head`"),
 ]
 

@@ -269,7 +269,7 @@ def plain_path(folder):
     path = os.path.join(folder, "path")
     os.makedirs(path)
     listed = subprocess.run(["dpkg", "-L", "coreutils"], stdout=subprocess.PIPE, text=True, check=True).stdout.split()
-    for name in [*(one for one in listed if "/bin/" in one), "/bin/sh", "/bin/sed", *filter(None, [shutil.which(SCANNER)])]:
+    for name in [*(one for one in listed if "/bin/" in one), "/bin/sh", "/bin/sed", "/bin/grep", *filter(None, [shutil.which(SCANNER)])]:
         os.symlink(name, os.path.join(path, os.path.basename(name)))
     os.symlink("/usr/bin/python3", os.path.join(path, "python3"))
     return path

@@ -255,14 +255,14 @@ def faulty(served, air):
 
 
 @pytest.mark.parametrize("words, told", [
-    ("noise", "is no transport stream"), ("timeless", "has no program clock"), ("nowhere", "No such file"),
+    ("noise", "isn't a transport stream"), ("timeless", "has no program clock"), ("nowhere", "No such file"),
     ("empty", "has no packet"), ("short", "has no packet"), (".", "is a folder"),
     ("--report Alpha.ts Alpha.ts", "is the recording: give --report another name"),
     ("--report /nowhere/r Alpha.ts", "No such file"), ("--tune 474=x:y", "No such file"),
-    ("--tune 474000000:DVBX=Alpha.ts", "DVBX is none of"), ("--tune Alpha.ts", "is expected"),
-    ("--channels Alpha.ts", "are wanted, and it is no text"),
-    ("--channels wrong", "are wanted, and line 2 is '474000000:DVBT a.ts'"),
-    ("--report - --adapter Alpha.ts --adapter Alpha.ts", "--report FILE"), ("--packets 0 Alpha.ts", "is expected"),
+    ("--tune 474000000:DVBX=Alpha.ts", "DVBX isn't one of"), ("--tune Alpha.ts", "argument --tune: expected HZ"),
+    ("--channels Alpha.ts", "expected lines HZ[:SYSTEM][:H|V|L|R]=FILE, but it isn't text"),
+    ("--channels wrong", "=FILE, but line 2 is '474000000:DVBT a.ts'"),
+    ("--report - --adapter Alpha.ts --adapter Alpha.ts", "--report FILE"), ("--packets 0 Alpha.ts", "argument --packets: expected a number above 0"),
     ("", "arguments are required: STREAM"), ("--tune 474000000:DVBT:H=Alpha.ts", "has no polarisation"),
     ("--keep none --played /nowhere/p Alpha.ts", "/nowhere/p: No such file"),
     ("--keep none --played Alpha.ts Alpha.ts", "is the recording: give --played another name"),
@@ -270,7 +270,7 @@ def faulty(served, air):
     ("--report r --tune 474000000=Alpha.ts", "r.tunings is the recording"),
     ("--report channels --channels channels", "channels is the file of channels"),
     ("--keep none --played channels --adapter channels", "channels is the file of channels"),
-    ("--report both --played both Alpha.ts", "both is written already"), ("Alpha.ts", "dvbemu.report is no report"),
+    ("--report both --played both Alpha.ts", "both is written already"), ("Alpha.ts", "dvbemu.report isn't a report"),
     ("--keep none Alpha.ts", "built\n"),
 ])  # fmt: skip
 def test_faults(faulty, words, told):

@@ -156,8 +156,8 @@ def small(tmp_path):
 
 
 @pytest.mark.parametrize("flag, told", [
-    ("-O0", "None"), ("-static", "is linked statically"), ("-static-pie", "is linked statically"), ("-DGO", "is made by Go"),
-    ("-Wl,--dynamic-linker=/lib/ld-musl-x86_64.so.1", "has the C library musl"),
+    ("-O0", "None"), ("-static", "is linked statically"), ("-static-pie", "is linked statically"), ("-DGO", "is written in Go"),
+    ("-Wl,--dynamic-linker=/lib/ld-musl-x86_64.so.1", "uses the C library musl"),
 ])  # fmt: skip
 def test_unseen(small, flag, told):
     assert str(unseen_as(small(flag))).startswith(told)
@@ -202,7 +202,7 @@ def test_quoted_command(served, small):
 
 
 @pytest.mark.parametrize("seats, told", [
-    ("1", "dvbemu serve: 2 programs found no seat, as 1 may be in at a time (--seats)\n"), ("3", ""),
+    ("1", "dvbemu serve: 2 programs got EIO, since only 1 can be served at a time (--seats)\n"), ("3", ""),
 ])  # fmt: skip
 def test_seatless(served, seats, told):
     """How many programs have found no seat is told at the end, each once."""

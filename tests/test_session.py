@@ -68,12 +68,12 @@ FOUR = HEAD.format(4) + PID.format(4, 3) + "client 0\nend\n"
 WRITTEN = HEAD.format(0) + "client 0\nline 1 steps 0..33 done\nnode 0\n0 c0 1 pass input=dvr first=0 count=1 at=0 = passed\nend\n"
 SPOILED = {
     WRITTEN: "a client has written",
-    "": "is no report",
-    "dvbemu 2\npackets=0 \n": "is no report", "dvbemu 1\n": "is no report", "\xff": "is no report: line 1: expected",
-    SKEWED.replace("line 2", "line 3"): "no report of `serve`: each client counts its commands from 1, and `line 3` stands where `line 2` would",
-    TWO.replace("c1 0 open = busy owner=c0", "c1 0 poll at=0 = EBADF"): "no report of `serve`: a command of c1 makes 2 calls",
+    "": "not a report",
+    "dvbemu 2\npackets=0 \n": "not a report", "dvbemu 1\n": "not a report", "\xff": "not a report: line 1: expected",
+    SKEWED.replace("line 2", "line 3"): "not a report of `serve`: each client counts its commands from 1, and `line 3` stands where `line 2` would",
+    TWO.replace("c1 0 open = busy owner=c0", "c1 0 poll at=0 = EBADF"): "not a report of `serve`: a command of c1 makes 2 calls",
     TWO.replace("line 1 steps 0..2 done\nline 2 steps 2..3 done\n", "line 1 steps 0..1 done\nline 2 steps 1..2 done\nline 3 steps 2..3 done\n"):
-        "no report of `serve`: an open of demux0 by c1 doesn't look for the first free node",
+        "not a report of `serve`: an open of demux0 by c1 doesn't look for the first free node",
     SKEWED.removesuffix("end\n"): "`end` or `fault read`, found the end of the text", SKEWED.replace("steps 1..2", "steps 1..3"): "aren't those of a report",
 }  # fmt: skip
 # Packets that aren't those of a report of four of PID 256, and what is told.
