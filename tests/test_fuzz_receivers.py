@@ -300,15 +300,21 @@ def one(room, server):
 
 
 def marked(folder):
-    """The processes that have a mark in their environment, but for this one."""
-    found = []
-    for number in filter(str.isdecimal, os.listdir("/proc")):
-        try:
-            with open(f"/proc/{number}/environ", "rb") as file:
-                found += [number] if f"FUZZ_MARK={folder}\0".encode() in file.read() else []
-        except OSError:
-            pass
+    """The processes that have a mark in their environment, but for this one, and still have it seconds later: what clears up behind a
+    wrapper ends soon after it."""
+    until = time.monotonic() + 10
+    while (found := [number for number in filter(str.isdecimal, os.listdir("/proc")) if has_mark(number, folder)]) and time.monotonic() < until:
+        time.sleep(0.05)
     return found
+
+
+def has_mark(number, folder):
+    """Whether a process has the mark."""
+    try:
+        with open(f"/proc/{number}/environ", "rb") as file:
+            return f"FUZZ_MARK={folder}\0".encode() in file.read()
+    except OSError:
+        return False
 
 
 @pytest.mark.parametrize("script", ENDS_BY, ids=range(len(ENDS_BY)))

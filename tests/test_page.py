@@ -283,8 +283,10 @@ def test_zoom(page):
 
 
 def middle_of(page, element):
-    """The middle of an element in the window, which is scrolled there."""
-    page.value(f"{element}.scrollIntoView({{block: 'center'}})")
+    """The middle of an element in the window, which is scrolled there: rows that come into sight get their height in the next frames."""
+    frames = "new Promise((done) => requestAnimationFrame(() => requestAnimationFrame(done)))"
+    scroll = f"{element}.scrollIntoView({{block: 'center'}})"
+    page.value(f"(async () => {{ for (let i = 0; i < 3; i++) {{ {scroll}; await {frames}; }} }})()")
     return page.value(f"(({{left, right, top, bottom}}) => [(left + right) / 2, (top + bottom) / 2])({element}.getBoundingClientRect())")
 
 
