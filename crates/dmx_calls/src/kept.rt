@@ -216,19 +216,23 @@ impl SharedReply {
     pub fn of(alloc: Global, last: Option<&Entry>, reply: Reply) -> Result<SharedReply, NoMemory>
         ensures { IfOk result (λ kept. response_of kept ≡ response_of reply) }
     {
-        let reply = log_reply(alloc, reply)?;
+        SharedReply::keep(alloc, last, log_reply(alloc, reply)?)
+    }
+
+    /// Keeps a reply that is told as a log tells it: shared with the one of this entry, where that is the same, and else in
+    /// memory of its own.
+    pub fn keep(
+        alloc: Global,
+        last: Option<&Entry>,
+        reply: LogReply,
+    ) -> Result<SharedReply, NoMemory>
+        ensures { IfOk result (λ kept. kept ≡ reply) }
+    {
         if let Some(entry) = last {
             if are_same(&entry.reply.reply, &reply) {
                 return entry.reply.shared();
             }
         }
-        SharedReply::unshared(alloc, reply)
-    }
-
-    /// Keeps a reply that is told as a log tells it, in memory of its own.
-    pub fn unshared(alloc: Global, reply: LogReply) -> Result<SharedReply, NoMemory>
-        ensures { IfOk result (λ kept. kept ≡ reply) }
-    {
         Ok(SharedReply {
             reply: Arc::new(alloc, reply)?,
         })

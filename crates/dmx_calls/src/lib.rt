@@ -13,7 +13,7 @@
 //! keeps its call (`KeptAct`) and the same response (`SharedReply`), whatever that is shared with; that `refusal` is the refusal
 //! that the answer of a history names. `node_laws` has laws of the definitions, and a worked history.
 //!
-//! Limits: only `ByteBuf::new`, `ByteBuf::fitted`, `KeptAct::keep`, `SharedReply::of` and `SharedReply::unshared` take memory.
+//! Limits: only `ByteBuf::new`, `ByteBuf::fitted`, `KeptAct::keep`, `SharedReply::of` and `SharedReply::keep` take memory.
 //! Sources: the Linux media API, Digital TV demux, for calls, filters, states and errors; ISO/IEC 13818-1 for packets and
 //! sections. What these leave open is this project's rule, as are the numbers of `limits` but the flags other than KEEP, the PIDs
 //! and the PES types.

@@ -43,12 +43,13 @@ fn read_front(bytes: &mut Bytes<'_>) -> Option<EntryFront>
     })
 }
 
-/// A line of this node.
+/// A line of this node. Its reply is shared with that of this entry, where it is the same.
 #[tactic(auto, unfolding(crate::specs::Inside::Entries::entry_in))]
 pub fn read_entry(
     alloc: Global,
     node: u32,
     bytes: &mut Bytes<'_>,
+    last: Option<&Entry>,
 ) -> Result<Option<Entry>, NoMemory>
     ensures value { IfOk result (λ entry. Reads (option_map told_entry entry) bytes.new (entry_in node bytes.old)) }
     ensures range { IfOk result (λ entry. IfSome entry (λ e. IsEntryOf node (told_entry e))) }
@@ -68,7 +69,7 @@ pub fn read_entry(
         step: front.step,
         who: front.who,
         act: KeptAct::keep(alloc, front.act)?,
-        reply: SharedReply::unshared(alloc, reply)?,
+        reply: SharedReply::keep(alloc, last, reply)?,
     }))
 }
 
@@ -89,7 +90,7 @@ pub fn read_entries(
         if !bytes.begins_number() {
             return Ok(Some(entries));
         }
-        let Some(entry) = read_entry(alloc, node, bytes)? else {
+        let Some(entry) = read_entry(alloc, node, bytes, entries.last())? else {
             return Ok(None);
         };
         entries.push(entry)?;
@@ -118,7 +119,7 @@ pub fn read_line(alloc: Global, node: u32, line: &[u8]) -> Result<Option<Entry>,
         × (line.now ≡ entry_text (told_entry e)))) }
 {
     let mut bytes = Bytes::of(line);
-    let Some(entry) = read_entry(alloc, node, &mut bytes)? else {
+    let Some(entry) = read_entry(alloc, node, &mut bytes, None)? else {
         return Ok(None);
     };
     let mut text = Vec::new(alloc);
