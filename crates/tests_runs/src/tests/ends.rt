@@ -2,7 +2,7 @@
 ghost use Rattle.std.specs.Prelude.{true};
 
 use super::report_lines::text_of;
-use emu_io::{Clock, Gate, MemSink, MemSource};
+use emu_io::{Clock, Gate, MemSink, MemSource, Source};
 use emu_top::{Status, emulate};
 use std::alloc::{AllocError as NoMemory, Global};
 use std::sync::atomic::AtomicU64;
@@ -38,6 +38,8 @@ pub struct CountingClock {
 impl Clock for CountingClock {
     ghost may_give = { λ c n. true };
 
+    ghost may_give_behind = { λ c end n. true };
+
     fn now(&self) -> u64 {
         let count = self.count.fetch_add(1, SeqCst);
         if self.is_backwards {
@@ -45,6 +47,10 @@ impl Clock for CountingClock {
         } else {
             count
         }
+    }
+
+    fn now_behind<S: Source>(&self, _source: &S) -> u64 {
+        self.now()
     }
 }
 
