@@ -54,14 +54,14 @@ module _ (handed : List LogEntry) (said : List Outcome) (s : Seat) (has : HasHan
   made_last (t ∷ []) d marked one = made_turn t d marked one
   made_last (t ∷ u ∷ ts) d marked one = absurd one
 
-module _ {T : Type 0} (source : T → SourceEnd) (sink : T → SinkEnd) (may : ℕ → Bool) where
-  told_last : (line at next : T) (ts : List Turn) (t : Turn) → AreTold source sink may line ts at → IsTold source sink may t at next → AreTold source sink may line (ts ++ t ∷ []) next
-  told_last line at next [] t is one = (next, subst (λ (l : T). IsTold source sink may t l next) is one, refl)
+module _ {T : Type 0} (source : T → SourceEnd) (sink : T → SinkEnd) (may : ℕ → Bool) (behind : SourceEnd → ℕ → Bool) where
+  told_last : (line at next : T) (ts : List Turn) (t : Turn) → AreTold source sink may behind line ts at → IsTold source sink may behind t at next → AreTold source sink may behind line (ts ++ t ∷ []) next
+  told_last line at next [] t is one = (next, subst (λ (l : T). IsTold source sink may behind t l next) is one, refl)
   told_last line at next (u ∷ us) t is one = (is.0, is.1, told_last is.0 at next us t is.2 one)
 
 -- ------ request by request
 
-module _ {T J : Type 0} (source : T → SourceEnd) (sink : T → SinkEnd) (may : ℕ → Bool) (took : List LogEntry → List Outcome → J → J → Type 0) where
+module _ {T J : Type 0} (source : T → SourceEnd) (sink : T → SinkEnd) (may : ℕ → Bool) (behind : SourceEnd → ℕ → Bool) (took : List LogEntry → List Outcome → J → J → Type 0) where
   -- From this line, this journal and this caller on it has answered requests, and handed its calls and commands over, or keeps them.
   pub record Hands (line : T) (was : J) (first : Caller) (at : T) (now : J) (s : Seat) : Type 0 where
     pub handed : List LogEntry
@@ -71,7 +71,7 @@ module _ {T J : Type 0} (source : T → SourceEnd) (sink : T → SinkEnd) (may :
     pub made : MakesCalls 0 first (all_calls handed s) s.client
     pub nodes : AreOnNodes handed
     pub turns : List Turn
-    pub told : AreTold source sink may line turns at
+    pub told : AreTold source sink may behind line turns at
     pub calls : all_calls handed s ≡ calls_of turns
     pub became : all_told said s ≡ outcomes_by 0 0 (spelled_by turns)
     pub done : MakesTurns [] first turns s.client
@@ -107,7 +107,7 @@ module _ {T J : Type 0} (source : T → SourceEnd) (sink : T → SinkEnd) (may :
         ∙ (ap (λ (l : List LogEntry). calls_of h.turns ++ l) are ∙ sym (calls_more h.turns ts))))
 
     -- one request more
-    pub hands_turned : (next : T) (new : Seat) (on : Bool) → HasTurned source sink may on at next s new → on ≡ true → GoesOn s new → Hands line was first next now new
+    pub hands_turned : (next : T) (new : Seat) (on : Bool) → HasTurned source sink may behind on at next s new → on ≡ true → GoesOn s new → Hands line was first next now new
     hands_turned next new false one is goes = absurd (cc is)
     hands_turned next new true one is goes =
         let t = one.0 in record {
@@ -118,7 +118,7 @@ module _ {T J : Type 0} (source : T → SourceEnd) (sink : T → SinkEnd) (may :
           made = all_goes h.handed h.said s h.has first new h.made goes;
           nodes = h.nodes;
           turns = h.turns ++ t ∷ [];
-          told = told_last source sink may line at next h.turns t h.told one.1;
+          told = told_last source sink may behind line at next h.turns t h.told one.1;
           calls = calls_then new (calls_in t.commands) (t ∷ []) one.2 (sym (calls_one t));
           became = told_more h.handed h.said s h.has new (spelled_by h.turns) t.commands h.became own_long one.3
               ∙ ap (outcomes_by 0 0) (ap (λ (ds : List DoneCommand). spelled_by h.turns ++ ds) (sym (append-nil t.commands)) ∙ sym (spelled_more h.turns (t ∷ [])));
@@ -189,10 +189,10 @@ module _ {T J : Type 0} (source : T → SourceEnd) (sink : T → SinkEnd) (may :
     nodes_to last nodes = All-append (λ (e : LogEntry). e.node ≤ DEMUX_NODES) h.handed (log_of last) h.nodes nodes
 
     -- the line has ended, and all nodes were closed
-    module _ (next : T) (new last : Seat) (on : Bool) (turned : HasTurned source sink may on at next s new) (is : on ≡ false) (then : GoesOn s new) (d : HasDone (AreClosings (DEMUX_NODES + 1)) new last) (goes : GoesOn new last)
+    module _ (next : T) (new last : Seat) (on : Bool) (turned : HasTurned source sink may behind on at next s new) (is : on ≡ false) (then : GoesOn s new) (d : HasDone (AreClosings (DEMUX_NODES + 1)) new last) (goes : GoesOn new last)
         (left : HasGone new last) where
-      one : HasTurned source sink may false at next s new
-      one = subst (λ b. HasTurned source sink may b at next s new) is turned
+      one : HasTurned source sink may behind false at next s new
+      one = subst (λ b. HasTurned source sink may behind b at next s new) is turned
 
       abbrev gone : List LogEntry
       gone = calls_in d.commands
@@ -216,7 +216,7 @@ module _ {T J : Type 0} (source : T → SourceEnd) (sink : T → SinkEnd) (may :
       calls_are : all_calls h.handed last ≡ calls_in (spelled (h.turns ++ lasts) d.commands)
       calls_are = ap (λ (l : List LogEntry). h.handed ++ l) d.log ∙ (sym (append_assoc h.handed (log_of new) gone) ∙ (ap (λ (l : List LogEntry). l ++ gone) whole ∙ sym (calls_both (spelled_by (h.turns ++ lasts)) d.commands)))
 
-      pub answered_to : HasAnsweredAll source sink may line next first last.client [] (all_calls h.handed last) [] (all_told h.said last)
+      pub answered_to : HasAnsweredAll source sink may behind line next first last.client [] (all_calls h.handed last) [] (all_told h.said last)
       answered_to = record {
         turns = h.turns;
         after = at;

@@ -6,17 +6,17 @@ commands_none : (n : ℕ) (ds : List DoneCommand) → commands_by n ds ≡ [] �
 commands_none n [] is = refl
 commands_none n (d ∷ ds) is = absurd (cc is)
 
-module _ {T : Type 0} (source : T → SourceEnd) (sink : T → SinkEnd) (may : ℕ → Bool) where
-  pub told_turns : (line : T) (ts : List Turn) (after : T) → AreTold source sink may line ts after → All (IsTurn may) ts
+module _ {T : Type 0} (source : T → SourceEnd) (sink : T → SinkEnd) (may : ℕ → Bool) (behind : SourceEnd → ℕ → Bool) where
+  pub told_turns : (line : T) (ts : List Turn) (after : T) → AreTold source sink may behind line ts after → All (IsTurn may) ts
   told_turns line [] after are = All-nil (IsTurn may)
   told_turns line (t ∷ ts) after are = All-cons (IsTurn may) t ts are.1.is.turn (told_turns are.0 ts after are.2)
 
-  pub last_turns : (line end : T) (ts : List Turn) → IsLast source sink may line ts end → All (IsTurn may) ts
+  pub last_turns : (line end : T) (ts : List Turn) → IsLast source sink may behind line ts end → All (IsTurn may) ts
   last_turns line end [] is = All-nil (IsTurn may)
   last_turns line end (t ∷ []) is = All-cons (IsTurn may) t [] is.is.turn (All-nil (IsTurn may))
   last_turns line end (t ∷ u ∷ ts) is = absurd is
 
-  module _ (line end : T) (c d : Caller) (book : List LogEntry) (told : List Outcome) (a : HasAnsweredAll source sink may line end c d [] book [] told) where
+  module _ (line end : T) (c d : Caller) (book : List LogEntry) (told : List Outcome) (a : HasAnsweredAll source sink may behind line end c d [] book [] told) where
     pub answers_played : (client : ℕ) (script : Scripted) → commands_of client script ≡ commands_by 0 (spelled (a.turns ++ a.last) a.leaving) → IsPlayed may client script book told
     answers_played client script is =
         let turns = All-append (IsTurn may) a.turns a.last (told_turns line a.turns a.after a.told) (last_turns a.after end a.last a.is) in

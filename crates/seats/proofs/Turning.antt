@@ -20,19 +20,19 @@ makes_both before c m d (t ∷ ts) us a b =
     let calls = ap (λ (l : List LogEntry). before ++ l) (calls_both t.commands (spelled_by ts)) ∙ sym (append_assoc before (calls_in t.commands) (calls_of ts)) in
     (a.0, a.1, a.2, makes_both (before ++ calls_in t.commands) a.0 m d ts us a.3 (subst (λ (l : List LogEntry). MakesTurns l m us d) calls b))
 
-module _ {T : Type 0} (source : T → SourceEnd) (sink : T → SinkEnd) (may : ℕ → Bool) where
+module _ {T : Type 0} (source : T → SourceEnd) (sink : T → SinkEnd) (may : ℕ → Bool) (behind : SourceEnd → ℕ → Bool) where
   -- no whole request was read
-  pub turned_none : (before after : T) (s : Seat) → RunsOut REQUEST_LEN (source before) (source after) → HasTurned source sink may false before after s s
+  pub turned_none : (before after : T) (s : Seat) → RunsOut REQUEST_LEN (source before) (source after) → HasTurned source sink may behind false before after s s
   turned_none before after s out = ([], out, sym (append-nil (log_of s)), kept_none (commands_done s) (calls_made s) s.outcomes.items s.outcomes.items refl, refl)
 
   module _ (ask : Ask) (now : ℕ) (old new : Seat) (request : List ℕ) (t : Tell) (bytes : List ℕ) (before asked after : T) (is : ask ≡ ask_of request) (long : length request ≡ REQUEST_LEN)
-      (given : IsTrue (may now)) (taken : Takes (source before) (source asked) request) (a : HasAnswered ask now old new t bytes) where
+      (given : IsTrue (may now)) (late : IsTrue (behind (source asked) now)) (taken : Takes (source before) (source asked) request) (a : HasAnswered ask now old new t bytes) where
     turn : Turn
     turn = record { request = request; now = now; commands = a.done.commands; told = t; bytes = bytes }
 
-    its_ask : IsAsked source sink may turn before asked
+    its_ask : IsAsked source sink may behind turn before asked
     unfolding turn
-    its_ask = record { turn = record { long = long; moment = given; is = subst (λ (k : Ask). IsAnswered k now a.done.commands t bytes) is a.done.is }; taken = taken }
+    its_ask = record { turn = record { long = long; moment = given; is = subst (λ (k : Ask). IsAnswered k now a.done.commands t bytes) is a.done.is }; taken = taken; clock = late }
 
     its_made : MakesTurn old turn new.client
     unfolding turn
@@ -40,7 +40,7 @@ module _ {T : Type 0} (source : T → SourceEnd) (sink : T → SinkEnd) (may : �
 
     -- its reply was written whole, or not
     pub turned_one : (on : Bool) → (on ≡ true → Writes (sink asked) (sink after) (reply_bytes t bytes)) → (on ≡ false → BreaksOff (sink asked) (sink after) (reply_bytes t bytes))
-        → HasTurned source sink may on before after old new
+        → HasTurned source sink may behind on before after old new
     unfolding turn
     turned_one true whole cut = (turn, record { asked = asked; is = its_ask; told = whole refl }, a.done.log, a.done.kept, its_made)
     turned_one false whole cut = (

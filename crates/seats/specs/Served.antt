@@ -16,7 +16,7 @@ pub record HaveSat {D : Type 0} (sat : D → D → Type 0) (old new : List D) : 
 
 -- A line tells what is left of it to be read, and what was written to it; or it tells none of these. A journal says whether it
 -- was given these calls, and what became of these commands, and no others, between one state and another.
-module _ {T J : Type 0} (source : T → SourceEnd) (sink : T → SinkEnd) (may : ℕ → Bool)
+module _ {T J : Type 0} (source : T → SourceEnd) (sink : T → SinkEnd) (may : ℕ → Bool) (behind : SourceEnd → ℕ → Bool)
     (took : List LogEntry → List Outcome → J → J → Type 0) where
   -- A seat has served its line: its client has made just these calls, which are those that the requests of the line ask for and
   -- those by which all nodes were closed; its journal was given just them, and what became of the commands that they spell; and
@@ -27,7 +27,7 @@ module _ {T J : Type 0} (source : T → SourceEnd) (sink : T → SinkEnd) (may :
     pub made : MakesCalls 0 old.client calls new.client
     pub nodes : AreOnNodes calls
     pub told : List Outcome
-    pub answers : HasAnsweredAll source sink may before.line after.line old.client new.client [] calls [] told
+    pub answers : HasAnsweredAll source sink may behind before.line after.line old.client new.client [] calls [] told
     pub given : took calls told before.journal after.journal
     pub left : (node : ℕ) → node ≤ DEMUX_NODES → HasLeft node new.client
 

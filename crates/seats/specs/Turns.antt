@@ -65,11 +65,13 @@ MakesLast s [] d = d ≡ s.client
 MakesLast s (t ∷ []) d = MakesTurn s t d
 MakesLast s (t ∷ u ∷ ts) d = ⊥
 
-module _ {T : Type 0} (source : T → SourceEnd) (sink : T → SinkEnd) (may : ℕ → Bool) where
+module _ {T : Type 0} (source : T → SourceEnd) (sink : T → SinkEnd) (may : ℕ → Bool) (behind : SourceEnd → ℕ → Bool) where
   -- the request is taken from the line
   pub record IsAsked (t : Turn) (before asked : T) : Type 0 where
     pub turn : IsTurn may t
     pub taken : Takes (source before) (source asked) t.request
+    -- and the clock was read behind it
+    pub clock : IsTrue (behind (source asked) t.now)
 
   -- and its reply is written to it, whole
   pub record IsTold (t : Turn) (before after : T) : Type 0 where

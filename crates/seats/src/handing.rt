@@ -76,7 +76,8 @@ impl Seat {
         steps: &mut Steps<L>,
     )
         requires ready { IsReadyToHand adapter.now self.old }
-        ensures { HasServed T.Source.end T.Sink.end (C.may_give clock.now) J.took adapter.now at.old at.new self.old self.new }
+        ensures { HasServed T.Source.end T.Sink.end (C.may_give clock.now) (C.may_give_behind clock.now)
+            J.took adapter.now at.old at.new self.old self.new }
     {
         'requests: for _ in rt.forever() {
             if !self.turn(rt, alloc, adapter, &mut at.line, clock, steps) {
@@ -101,7 +102,8 @@ impl Seat {
     )
         requires ledger { (blank.name ≡ L.name) × (blank.parts ≡ L.parts) × (0 < L.parts) }
         requires ready { IsReadyToHand adapter.now self.old }
-        ensures { HasServed T.Source.end T.Sink.end (C.may_give clock.now) J.took adapter.now at.old at.new self.old self.new }
+        ensures { HasServed T.Source.end T.Sink.end (C.may_give clock.now) (C.may_give_behind clock.now)
+            J.took adapter.now at.old at.new self.old self.new }
     {
         let mut steps: Steps<L> = Steps::new(blank);
         self.serve(rt, alloc, adapter, at, clock, &mut steps);
@@ -118,7 +120,8 @@ impl Seat {
         clock: &C,
     )
         requires ready { IsReadyToHand adapter.now self.old }
-        ensures { HasServed T.Source.end T.Sink.end (C.may_give clock.now) J.took adapter.now at.old at.new self.old self.new }
+        ensures { HasServed T.Source.end T.Sink.end (C.may_give clock.now) (C.may_give_behind clock.now)
+            J.took adapter.now at.old at.new self.old self.new }
     {
         self.sit_counted::<T, J, C, Brand, R>(rt, alloc, adapter, at, clock, Blank::new(1))
     }

@@ -11,13 +11,12 @@
 //!
 //! What is proved, whatever comes on the lines and however the threads fall: `Ask::of` is what the definition says of any 76
 //! bytes, and what is told is read again (`written_and_read`). The requests are answered in their order up to the line's end or
-//! the first read or write that fails, each by the calls of the table, or, unless it is to leave, for want of memory by none; the
-//! bytes written are the reply of the call whose place they name. A request to leave is always done, and a seat that has served
+//! the first read or write that fails, each by the calls of the table, at a moment that the clock may give behind the request, or,
+//! unless it is to leave, for want of memory by none; the bytes written are the reply of the call whose place they name. A request to leave is always done, and a seat that has served
 //! its line owns no node (`GivesBack`). The journal was given just these calls and what became of the commands; a script's client
 //! makes the same calls (`lines_are_played`).
 //!
-//! What is only tested, in `tests_runs`: that errors have Linux's numbers, and that a call's moment is looked for behind its
-//! request. Limits: 2^40 calls, of which 66 are kept for leaving. No clause says that a seat ends, nor when it takes a request.
+//! What is only tested, in `tests_runs`: that errors have Linux's numbers. Limits: 2^40 calls, of which 66 are kept for leaving. No clause says that a seat ends, nor when it takes a request.
 #![tactic(auto)]
 
 mod answers;

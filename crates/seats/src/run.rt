@@ -1,6 +1,7 @@
 // The threads of the seats.
 ghost use Rattle.std.specs.Prelude.{◌<◌, ℕ, Bool, List, All};
 ghost use Rattle.atomic_table.specs.Seated.{TableId};
+ghost use Rattle.emu_io.specs.Ends.{SourceEnd};
 ghost use Rattle.seats.specs.Served.{HaveSat};
 
 use crate::journal::{Journal, JournalLine};
@@ -26,13 +27,13 @@ pub trait Sitting {
     /// Its seat is ready.
     ghost ready: { List TableId → Self → Type 0 };
 
-    /// Its seat has served its line, at moments that the clock may give.
-    ghost sat: { (may : ℕ → Bool) → List TableId → Self → Self → Type 0 };
+    /// Its seat has served its line, at moments that the clock may give behind what was read of it.
+    ghost sat: { (may : ℕ → Bool) → (behind : SourceEnd → ℕ → Bool) → List TableId → Self → Self → Type 0 };
 
     /// Its seat answers the requests of its line until that has ended or failed, and then closes what its program has.
     fn sit<R: Wait, C: Clock>(&mut self, rt: &R, alloc: Global, adapter: &Adapter, clock: &C)
         requires { ready adapter.now self.old }
-        ensures { sat (C.may_give clock.now) adapter.now self.old self.new };
+        ensures { sat (C.may_give clock.now) (C.may_give_behind clock.now) adapter.now self.old self.new };
 }
 
 impl<T: Source + Sink + Drop, J: Journal + Drop> Sitting for Desk<JournalLine<T, J>> {
@@ -41,7 +42,7 @@ impl<T: Source + Sink + Drop, J: Journal + Drop> Sitting for Desk<JournalLine<T,
 
     ghost ready = { λ locks d. IsReadyToHand locks d.seat };
 
-    ghost sat = { λ may locks a b. HasServed T.Source.end T.Sink.end may J.took locks a.line b.line a.seat b.seat };
+    ghost sat = { λ may behind locks a b. HasServed T.Source.end T.Sink.end may behind J.took locks a.line b.line a.seat b.seat };
 
     fn sit<R: Wait, C: Clock>(&mut self, rt: &R, alloc: Global, adapter: &Adapter, clock: &C) {
         self.seat.sit(rt, alloc, adapter, &mut self.line, clock)
@@ -58,11 +59,11 @@ pub fn sit_all<R: Threads + Wait + Sync, D: Sitting + Send, C: Clock + Sync>(
     desks: &mut Vec<D>,
 )
     requires ready { All (λ d. D.ready adapter.now d) desks.old.items }
-    ensures { HaveSat (D.sat (C.may_give clock.now) adapter.now) desks.old.items desks.new.items }
+    ensures { HaveSat (D.sat (C.may_give clock.now) (C.may_give_behind clock.now) adapter.now) desks.old.items desks.new.items }
 {
     let call = |_: usize, desk: &mut D|
         requires { D.ready adapter.now desk.old }
-        ensures { D.sat (C.may_give clock.entry.now) adapter.entry.now desk.old desk.new }
+        ensures { D.sat (C.may_give clock.entry.now) (C.may_give_behind clock.entry.now) adapter.entry.now desk.old desk.new }
     { desk.sit(rt, alloc, adapter, clock) };
     let threads = desks.len().max(1);
     thread::for_each_mut(rt, desks, threads, &call);

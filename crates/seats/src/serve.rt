@@ -89,14 +89,16 @@ impl Seat {
         ensures fit { IsFit adapter.now self.new }
         ensures room { MayLeave self.new }
         ensures goes { GoesOn self.old self.new }
-        ensures turned { HasTurned T.Source.end T.Sink.end (C.may_give clock.now) result line.old line.new self.old self.new }
+        ensures turned { HasTurned T.Source.end T.Sink.end (C.may_give clock.now) (C.may_give_behind clock.now)
+            result line.old line.new self.old self.new }
     {
         let mut bytes = [0u8; REQUEST_LEN];
         if !fill(line, &mut bytes) {
             return false;
         }
         let ask = Ask::of(&bytes);
-        let answered = self.answer(rt, alloc, adapter, ask, clock.now(), steps);
+        let now = clock.now_behind(line);
+        let answered = self.answer(rt, alloc, adapter, ask, now, steps);
         self.tell(line, &answered).is_ok()
     }
 }
