@@ -1,5 +1,5 @@
 -- The workers before the first call.
-use Rattle.workers.proofs.Imports.{◌≡◌, ◌≢◌, inr, ℕ, Bool, true, false, ◌+◌, ◌≤◌, ◌^◌, List, [], ◌∷◌, ◌++◌, length, map, Some, refl, ap, sym, ◌∙◌, subst, arith, option_map, IsTrue, if◌then◌else◌, SourceEnd, slice_get-map, slice_get_within, All-nil, TableId, View, Entry, told_entry, LogEntry, Fed, ToldEntry, Scripted, MOST_CALLS, IsAfter, replies, IsGiven, Caller, IsFreshCaller, AreFreshCallers, AreAllCallers, Fits, at_place, at_before, at_last, AreOnNodes, ClientWorker, FeederWorker, IsLogged, HasCalled, IsFit, IsWorking, AreFreshWorkers, HasFed, HasMade, IsFitFeeder, HasPassed, draws_none}
+use Rattle.workers.proofs.Imports.{◌≡◌, ◌≢◌, inr, ℕ, Bool, true, false, ◌+◌, ◌≤◌, ◌^◌, List, [], ◌∷◌, ◌++◌, length, map, Some, refl, ap, sym, ◌∙◌, subst, arith, option_map, IsTrue, if◌then◌else◌, SourceEnd, slice_get-map, slice_get_within, All-nil, TableId, View, Entry, told_entry, LogEntry, Fed, ToldEntry, Scripted, MOST_CALLS, IsAfter, replies, IsGiven, Caller, IsFreshCaller, AreFreshCallers, AreAllCallers, Fits, at_place, at_before, at_last, AreOnNodes, ClientWorker, FeederWorker, IsLogged, HasCalled, IsFit, IsWorking, AreFreshWorkers, HasFed, HasMade, IsFitFeeder, HasPassed, IsReadBehind, draws_none}
 use Rattle.std.specs.Prelude.{slice_get}
 use Rattle.dmx_calls.specs.Response.{NoMemory}
 
@@ -75,10 +75,11 @@ module _ (script : Scripted) (locks : List TableId) (n : ℕ) (feeder : Caller) 
       given = omega (arith, given);
     }
 
-    pub begun_passed : {B : Type 0} (among : ℕ → Bool) (most : ℕ) (may : ℕ → Bool) (took : List Fed → B → B → Type 0) (x : SourceEnd) (was : B) → took [] was was → HasPassed among most may took x x f.puller was was f
-    begun_passed among most may took x was nothing = record {
+    pub begun_passed : {B : Type 0} (among : ℕ → Bool) (most : ℕ) (may : ℕ → Bool) (behind : SourceEnd → ℕ → Bool) (took : List Fed → B → B → Type 0) (x : SourceEnd) (was : B) → took [] was was → HasPassed among most may behind took x x f.puller was was f
+    begun_passed among most may behind took x was nothing = record {
       feeding = [];
       told = nothing;
+      clock = All-nil (IsReadBehind behind x f.puller);
       packets = [];
       draws = draws_none x f.puller;
       given = given;

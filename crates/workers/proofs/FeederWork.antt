@@ -1,5 +1,5 @@
 -- The turns of the feeder.
-use Rattle.workers.proofs.Imports.{◌≡◌, ◌≢◌, ◌⊎◌, inl, inr, ⊎_elim, refl, sym, ap, subst, ◌∙◌, ℕ, Bool, ◌+◌, ◌<◌, ◌≤◌, List, [], ◌∷◌, ◌++◌, length, length-append, append-nil, arith, Result, Ok, Err, OnOk, IsTrue, IsOk, All, slice_index, if◌then◌else◌, slice_get_within, All-push, cases_lt, SourceEnd, get_elem?, TableId, View, Packets, Fed, DEMUX_NODES, Entry, Going, Pulling, Pulls, IsDone, ReadsNothing, Draws, Caller, MakesEachEntry, fed, ended, FeederWorker, AreFullBatches, HasEnded, HasEndedBy, HasFed, HasMade, fed_entries, LeavesOthers, HasPassed, HasPassedAll, at_place, draws_then, none_given, zero, suc, false, map, take, drop, append_assoc, map-append, take-append-le, drop-append-le, length-drop, drop-append_seam, take-length, All-tail, some, IsPrefix, at_below, prefix_at, Frontend, Pass, Passed, entry_of, caller_of, IsLegalAt, OneMore, at_end, fed_entry, Tiles, StandAt}
+use Rattle.workers.proofs.Imports.{◌≡◌, ◌≢◌, ◌⊎◌, inl, inr, ⊎_elim, refl, sym, ap, subst, ◌∙◌, ℕ, Bool, ◌+◌, ◌<◌, ◌≤◌, List, [], ◌∷◌, ◌++◌, length, length-append, append-nil, arith, Result, Ok, Err, OnOk, IsTrue, IsOk, All, slice_index, if◌then◌else◌, slice_get_within, All-push, cases_lt, SourceEnd, get_elem?, TableId, View, Packets, Fed, DEMUX_NODES, Entry, Going, Pulling, Pulls, IsDone, ReadsNothing, Draws, Caller, MakesEachEntry, fed, ended, FeederWorker, AreFullBatches, HasEnded, HasEndedBy, HasFed, HasMade, fed_entries, LeavesOthers, HasPassed, HasPassedAll, IsReadBehind, at_place, draws_then, none_given, zero, suc, false, map, take, drop, append_assoc, map-append, take-append-le, drop-append-le, length-drop, drop-append_seam, take-length, All-tail, some, IsPrefix, at_below, prefix_at, Frontend, Pass, Passed, entry_of, caller_of, IsLegalAt, OneMore, at_end, fed_entry, Tiles, StandAt}
 use Rattle.std.specs.Prelude.{slice_get, Option, Some, None, true}
 use Rattle.atomic_table.proofs.Lists.{at_last}
 use Rattle.workers.proofs.Completing.{made_nothing}
@@ -112,17 +112,18 @@ pub on_ok : {T E : Type 0} (r : Result T E) (P : Type 0) → IsOk r → OnOk r P
 on_ok (Ok x) P is p = p
 on_ok (Err e) P is p = absurd cc
 
-module _ {B : Type 0} (among : ℕ → Bool) (most : ℕ) (may : ℕ → Bool) (took : List Fed → B → B → Type 0) where
+module _ {B : Type 0} (among : ℕ → Bool) (most : ℕ) (may : ℕ → Bool) (behind : SourceEnd → ℕ → Bool) (took : List Fed → B → B → Type 0) where
   module _ (before x y : SourceEnd) (first : Pulling) (was now : B) (p q : FeederWorker) (qs : List (List ℕ)) (draws : Draws x y p.puller q.puller qs) (given : q.puller.given ≡ p.puller.given + length qs)
-      (h : HasPassed among most may took before x first was now p) where
+      (h : HasPassed among most may behind took before x first was now p) where
     given_now : q.puller.given ≡ length (h.packets ++ qs)
     given_now = given ∙ (ap (λ (n : ℕ). n + length qs) h.given ∙ sym (length-append h.packets qs))
 
     -- no packet was left
-    pub passed_none : qs ≡ [] → q.feeder ≡ p.feeder → IsDone q.puller → HasPassed among most may took before y first was now q
+    pub passed_none : qs ≡ [] → q.feeder ≡ p.feeder → IsDone q.puller → HasPassed among most may behind took before y first was now q
     passed_none none same done = record {
       feeding = h.feeding;
       told = h.told;
+      clock = h.clock;
       packets = h.packets ++ qs;
       draws = draws_then before x y first p.puller q.puller h.packets qs h.draws draws;
       given = given_now;
@@ -150,11 +151,19 @@ module _ {B : Type 0} (among : ℕ → Bool) (most : ℕ) (may : ℕ → Bool) (
           (h.full ahead taken given pulls).1
 
       pub passed_batch : ((a b c : B) (xs ys : List Fed) → took xs a b → took ys b c → took (xs ++ ys) a c) → took (batch_now ∷ []) now later → qs ≡ batch.packets → q.feeder.who ≡ p.feeder.who
-          → MakesEachEntry among (fed batch moment) places p.feeder.passes q.feeder.passes → batch.first ≡ p.puller.given → 1 ≤ length batch.packets → length batch.packets ≤ most → IsTrue (may moment)
-          → (length batch.packets < most → IsDone q.puller) → (p.puller.reading ≢ Going → ReadsNothing p.puller q.puller) → HasPassed among most may took before y first was later q
-      passed_batch both told is who entries first_is least few given_is done still = record {
+          → MakesEachEntry among (fed batch moment) places p.feeder.passes q.feeder.passes → batch.first ≡ p.puller.given → 1 ≤ length batch.packets → length batch.packets ≤ most → IsTrue (may moment) → IsTrue (behind y moment)
+          → (length batch.packets < most → IsDone q.puller) → (p.puller.reading ≢ Going → ReadsNothing p.puller q.puller) → HasPassed among most may behind took before y first was later q
+      passed_batch both told is who entries first_is least few given_is late done still = record {
         feeding = h.feeding ++ batch_now ∷ [];
         told = both was now later h.feeding (batch_now ∷ []) h.told told;
+        clock = All-push (IsReadBehind behind before first) h.feeding batch_now h.clock (record {
+          at = y;
+          puller = q.puller;
+          packets = h.packets ++ qs;
+          draws = draws_then before x y first p.puller q.puller h.packets qs h.draws draws;
+          count = let a = h.given in let b = length-append h.packets qs in let n = ap length is in omega (arith, first_is, a, b, n);
+          moment = late;
+        });
         packets = h.packets ++ qs;
         draws = draws_then before x y first p.puller q.puller h.packets qs h.draws draws;
         given = given_now;
@@ -164,11 +173,12 @@ module _ {B : Type 0} (among : ℕ → Bool) (most : ℕ) (may : ℕ → Bool) (
       }
 
   -- the end of the stream passes
-  pub passed_all : (before x : SourceEnd) (first : Pulling) (was now later : B) (p q : FeederWorker) (places : List ℕ) → HasPassed among most may took before x first was now p
-      → ((a b c : B) (xs ys : List Fed) → took xs a b → took ys b c → took (xs ++ ys) a c) → took [] now later → IsDone p.puller → q.puller ≡ p.puller → q.feeder.who ≡ p.feeder.who → MakesEachEntry among ended places p.feeder.passes q.feeder.passes → HasPassedAll among most may took before x first was later q
+  pub passed_all : (before x : SourceEnd) (first : Pulling) (was now later : B) (p q : FeederWorker) (places : List ℕ) → HasPassed among most may behind took before x first was now p
+      → ((a b c : B) (xs ys : List Fed) → took xs a b → took ys b c → took (xs ++ ys) a c) → took [] now later → IsDone p.puller → q.puller ≡ p.puller → q.feeder.who ≡ p.feeder.who → MakesEachEntry among ended places p.feeder.passes q.feeder.passes → HasPassedAll among most may behind took before x first was later q
   passed_all before x first was now later p q places h both told done puller who entries = record {
     feeding = h.feeding;
     told = subst (λ (l : List Fed). took l was later) (append-nil h.feeding) (both was now later h.feeding [] h.told told);
+    clock = h.clock;
     packets = h.packets;
     draws = subst (λ (k : Pulling). Draws before x first k h.packets) (sym puller) h.draws;
     done = subst IsDone (sym puller) done;
@@ -213,11 +223,12 @@ has_ended among b c d places same entries nodes made begun = record {
 }
 
 -- the same nodes, told otherwise
-pub as_named : {B : Type 0} (a b : ℕ → Bool) (most : ℕ) (may : ℕ → Bool) (took : List Fed → B → B → Type 0) (before x : SourceEnd) (first : Pulling) (was now : B) (f : FeederWorker) → ((node : ℕ) → node ≤ DEMUX_NODES → a node ≡ b node) → length f.feeder.passes ≡ DEMUX_NODES + 1
-    → HasPassedAll a most may took before x first was now f → HasPassedAll b most may took before x first was now f
-as_named a b most may took before x first was now f same nodes h = record {
+pub as_named : {B : Type 0} (a b : ℕ → Bool) (most : ℕ) (may : ℕ → Bool) (behind : SourceEnd → ℕ → Bool) (took : List Fed → B → B → Type 0) (before x : SourceEnd) (first : Pulling) (was now : B) (f : FeederWorker) → ((node : ℕ) → node ≤ DEMUX_NODES → a node ≡ b node) → length f.feeder.passes ≡ DEMUX_NODES + 1
+    → HasPassedAll a most may behind took before x first was now f → HasPassedAll b most may behind took before x first was now f
+as_named a b most may behind took before x first was now f same nodes h = record {
   feeding = h.feeding;
   told = h.told;
+  clock = h.clock;
   packets = h.packets;
   draws = h.draws;
   done = h.done;

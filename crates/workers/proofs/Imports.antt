@@ -78,7 +78,7 @@ pub use Rattle.std.specs.Prelude.{All, IsOk, IsSome, IsTrue, if◌then◌else◌
 pub use Rattle.std.specs.Result.{result_err}
 pub use Rattle.ts_batch.specs.Batch.{Packets}
 pub use Rattle.workers.specs.Budget.{CallsAreWithinBudget, FewBytesAreFewCalls, IsRunning, ManyCallsAreTooLong}
-pub use Rattle.workers.specs.Feeding.{AreFullBatches, HasEnded, HasEndedBy, HasFed, HasFedAll, HasMade, StandAt, Tiles, batch_of, fed_entries, fed_entry}
+pub use Rattle.workers.specs.Feeding.{AreFullBatches, HasEnded, HasEndedBy, HasFed, HasFedAll, HasMade, IsReadBehind, StandAt, Tiles, batch_of, fed_entries, fed_entry}
 pub use Rattle.workers.specs.Imports.{Act, AreAllCallers, AreFreshCallers, AreFull, AreInOrder, AreNumbered, AreOnNodes, Batch, Batches, Caller, Command as CommandLine, Core, DEMUX_NODES, Draws, Dvr, Entry, Event, Fed, Fits, Frontend, Going, HaveHistories, InTurn, Input, IsAfter, IsDone, IsFrom, IsGiven, IsHistory, IsLegalAt, IsPacket, IsSameCaller, IsTooLong, IsWholeRun, Line, LogEntry, MOST_CALLS, NoMemory, Node, OfStream, Outcome, Pass, Passed, Pulling, Pulls, Response, Scripted, Slot, SourceEnd, Sources, StandsIn, Step, Stop, TableId, Target, TooLong, Verb, View, act_of, all_commands, bytes_written, call_of as call_at, call_of, clients_in, column, cut, ended, entry_of, feeder_acts, feeder_entry, filled_entry, get_elem?, head_of, is_in, list_any, most_calls, next_event, next_of, outcomes, replies, response_of, rows_of, some, sources, steps_of, told_entry, waits_on}
 pub use Rattle.workers.specs.Inside.Begun.{AreFreshWorkers, AreOutcomesOf, HaveCome, IsFreshWorker, IsLeftByClients}
 pub use Rattle.workers.specs.Inside.FeederWork.{HasPassed, HasPassedAll, IsFitFeeder, LeavesOthers}

@@ -40,9 +40,9 @@ module _ (may : ℕ → Bool) (locks : List TableId) where
 -- ------ the feeder
 
 -- all packets of the stream that was taken have passed
-pub worked_feeder : {B : Type 0} (among : ℕ → Bool) (most : ℕ) (may : ℕ → Bool) (took : List Fed → B → B → Type 0) (x y : SourceEnd) (first : Pulling) (was now : B) (f : FeederWorker) (k : HasPassedAll among most may took x y first was now f) (ahead : List ℕ) → Pulls ahead [] [] first
+pub worked_feeder : {B : Type 0} (among : ℕ → Bool) (most : ℕ) (may : ℕ → Bool) (behind : SourceEnd → ℕ → Bool) (took : List Fed → B → B → Type 0) (x y : SourceEnd) (first : Pulling) (was now : B) (f : FeederWorker) (k : HasPassedAll among most may behind took x y first was now f) (ahead : List ℕ) → Pulls ahead [] [] first
     → HasFedAll among most may (cut first.cutting.size (ahead ++ k.draws.carries.more)).packets f.feeder k.feeding
-worked_feeder among most may took x y first was end f k ahead pulls =
+worked_feeder among most may behind took x y first was end f k ahead pulls =
     let more = k.draws.carries.more in
     let now : Pulls ahead more k.packets f.puller = k.draws.carries.pulls ahead [] [] pulls in
     let all : (cut first.cutting.size (ahead ++ more)).packets ≡ k.packets = ap (λ size. (cut size (ahead ++ more)).packets) (sym k.draws.carries.size) ∙ (Pulls-done ahead more k.packets f.puller now k.done).packets in

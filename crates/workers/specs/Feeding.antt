@@ -1,6 +1,6 @@
 -- What the feeder has done, and how it is tied to what its passes know.
 use Rattle.std.specs.Prelude.{◌≡◌, ◌<◌, ◌≤◌, ◌+◌, ℕ, Bool, true, false, IsTrue, if◌then◌else◌, List, [], ◌∷◌, ◌++◌, length, map, take, drop, slice_get, Some, All}
-use Rattle.workers.specs.Imports.{AreFull, Batch, Caller, DEMUX_NODES, Entry, Fed, Frontend, Pass, Passed, TableId, View, ended, entry_of, get_elem?, some}
+use Rattle.workers.specs.Imports.{AreFull, Batch, Caller, DEMUX_NODES, Draws, Entry, Fed, Frontend, Pass, Passed, Pulling, SourceEnd, TableId, View, ended, entry_of, get_elem?, some}
 
 -- the entry of a batch of these packets' stream
 abbrev pub fed_entry : (stream : List (List ℕ)) → Fed → Entry
@@ -29,6 +29,16 @@ abbrev pub StandAt : List Entry → (entries : List Entry) → (places : List �
 StandAt h [] [] = Unit {0}
 StandAt h (x ∷ xs) (place ∷ places) = (get_elem? h place ≡ some x) × StandAt h xs places
 StandAt h _ _ = ⊥
+
+-- The clock may give the moment of this batch where the source stands behind its packets: those that were drawn there, from this
+-- puller on, are just these and the ones before them.
+pub record IsReadBehind (behind : SourceEnd → ℕ → Bool) (before : SourceEnd) (first : Pulling) (fed : Fed) : Type 0 where
+  pub at : SourceEnd
+  pub puller : Pulling
+  pub packets : List (List ℕ)
+  pub draws : Draws before at first puller packets
+  pub count : fed.first + fed.count ≡ length packets
+  pub moment : IsTrue (behind at fed.now)
 
 -- a pass of the feeder has made just these entries, in this order
 pub record HasMade (entries : List Entry) (p : TableId × View Entry) : Type 0 where

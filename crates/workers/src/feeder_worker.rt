@@ -53,9 +53,9 @@ impl FeederWorker {
         ensures draws { (packets : List (List ℕ))
             × Draws (S.end source.old) (S.end source.new) self.old.puller self.new.puller packets }
         ensures passed { OnOk result ((before : SourceEnd) (first : Pulling) (was : B)
-            → HasPassed (is_in nodes.now) most (C.may_give clock.now) B.took before
+            → HasPassed (is_in nodes.now) most (C.may_give clock.now) (C.may_give_behind clock.now) B.took before
             (S.end source.old) first was batches.old self.old
-            → HasPassed (is_in nodes.now) most (C.may_give clock.now) B.took before
+            → HasPassed (is_in nodes.now) most (C.may_give clock.now) (C.may_give_behind clock.now) B.took before
             (S.end source.new) first was batches.new self.new) }
         ensures done { IfOk result (λ some. some ≡ false → IsDone self.new.puller) }
         ensures rises { IfOk result (λ some. some ≡ true → self.old.puller.given < self.new.puller.given) }
@@ -64,7 +64,7 @@ impl FeederWorker {
         let Some(batch) = self.puller.pull(source, most)? else {
             return Ok(false);
         };
-        let now = clock.now();
+        let now = clock.now_behind(source);
         let fed = Fed {
             first: batch.first(),
             count: batch.count(),
@@ -97,9 +97,9 @@ impl FeederWorker {
         ensures draws { (packets : List (List ℕ))
             × Draws (S.end source.old) (S.end source.new) self.old.puller self.new.puller packets }
         ensures passed { OnOk result ((before : SourceEnd) (first : Pulling) (was : B)
-            → HasPassed (is_in nodes.now) most (C.may_give clock.now) B.took before
+            → HasPassed (is_in nodes.now) most (C.may_give clock.now) (C.may_give_behind clock.now) B.took before
             (S.end source.old) first was batches.old self.old
-            → HasPassed (is_in nodes.now) most (C.may_give clock.now) B.took before
+            → HasPassed (is_in nodes.now) most (C.may_give clock.now) (C.may_give_behind clock.now) B.took before
             (S.end source.new) first was batches.new self.new) }
         ensures done { OnOk result (IsDone self.new.puller) }
     {
@@ -141,9 +141,11 @@ impl FeederWorker {
     )
         requires ledger { (blank.name ≡ L.name) × (blank.parts ≡ L.parts) × (0 < L.parts) }
         requires may { MayPass most adapter.now self.old }
-        requires begun { HasPassed (is_in nodes.now) most (C.may_give clock.now) B.took (S.end source.old)
+        requires begun { HasPassed (is_in nodes.now) most (C.may_give clock.now) (C.may_give_behind clock.now)
+            B.took (S.end source.old)
             (S.end source.old) self.old.puller batches.old batches.old self.old }
-        ensures { HasFedToEnd (is_in nodes.now) most (C.may_give clock.now) B.took (S.end source.old)
+        ensures { HasFedToEnd (is_in nodes.now) most (C.may_give clock.now) (C.may_give_behind clock.now)
+            B.took (S.end source.old)
             (S.end source.new) batches.old batches.new self.old self.new }
     {
         let mut steps: Steps<L> = Steps::new(blank);
@@ -171,9 +173,11 @@ impl FeederWorker {
         gate: &G,
     )
         requires may { MayPass most adapter.now self.old }
-        requires begun { HasPassed (is_in nodes.now) most (C.may_give clock.now) B.took (S.end source.old)
+        requires begun { HasPassed (is_in nodes.now) most (C.may_give clock.now) (C.may_give_behind clock.now)
+            B.took (S.end source.old)
             (S.end source.old) self.old.puller batches.old batches.old self.old }
-        ensures { HasFedToEnd (is_in nodes.now) most (C.may_give clock.now) B.took (S.end source.old)
+        ensures { HasFedToEnd (is_in nodes.now) most (C.may_give clock.now) (C.may_give_behind clock.now)
+            B.took (S.end source.old)
             (S.end source.new) batches.old batches.new self.old self.new }
     {
         self.work_counted::<S, B, Brand, R, C, G>(

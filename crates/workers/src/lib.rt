@@ -10,8 +10,8 @@
 //!
 //! What is proved, in whatever order the threads act: `work` leaves what `IsLeftBy` says, over what stood ahead in the puller and
 //! the bytes taken. `TooLong` comes only for so many reads, or where commands and bytes allow a client so many calls; none makes
-//! more (`calls_are_within_budget`). The feeder ends its nodes (`HasEnded`); each client's call is on a node that `is_named`
-//! names (`calls_are_on_named_nodes`). `histories_of_run` tells just what was called, each call at its place with its reply
+//! more (`calls_are_within_budget`). The feeder reads the clock for a batch behind its packets (`IsReadBehind`), and ends its nodes
+//! (`HasEnded`); each client's call is on a node that `is_named` names (`calls_are_on_named_nodes`). `histories_of_run` tells just what was called, each call at its place with its reply
 //! (`TellWhatWasCalled`); of what `work` leaves (`workers_have_called`) they are the histories of a run of the script
 //! (`IsWholeRun` of `script_run`).
 //!

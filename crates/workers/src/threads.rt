@@ -58,18 +58,22 @@ pub fn work_all<
     gate: &G,
 )
     requires feeder { MayPass batch adapter.now feeder.old }
-    requires begun { HasPassed (is_in nodes.now) batch (C.may_give clock.now) B.took (S.end source.old)
+    requires begun { HasPassed (is_in nodes.now) batch (C.may_give clock.now) (C.may_give_behind clock.now)
+        B.took (S.end source.old)
         (S.end source.old) feeder.old.puller batches.old batches.old feeder.old }
     requires clients { All (λ w. MayWork adapter.now w) clients.old.items }
-    ensures feeder { HasFedToEnd (is_in nodes.now) batch (C.may_give clock.now) B.took (S.end source.old)
+    ensures feeder { HasFedToEnd (is_in nodes.now) batch (C.may_give clock.now) (C.may_give_behind clock.now)
+        B.took (S.end source.old)
         (S.end source.new) batches.old batches.new feeder.old feeder.new }
     ensures clients { HaveCome (C.may_give clock.now) adapter.now clients.old.items clients.new.items }
 {
     let mut first = ||
         requires may { MayPass batch adapter.now feeder.now }
-        requires begun { HasPassed (is_in nodes.now) batch (C.may_give clock.now) B.took (S.end source.now)
+        requires begun { HasPassed (is_in nodes.now) batch (C.may_give clock.now) (C.may_give_behind clock.now)
+            B.took (S.end source.now)
             (S.end source.now) feeder.now.puller batches.now batches.now feeder.now }
-        ensures { HasFedToEnd (is_in nodes.entry.now) batch (C.may_give clock.entry.now) B.took (S.end source.entry.now)
+        ensures { HasFedToEnd (is_in nodes.entry.now) batch (C.may_give clock.entry.now) (C.may_give_behind clock.entry.now)
+            B.took (S.end source.entry.now)
             (S.end source.exit.now) batches.entry.now batches.exit.now feeder.entry.now feeder.exit.now }
     { feeder.work(rt, adapter, source, batches, batch, nodes, clock, gate) };
     let mut others = ||

@@ -2,7 +2,7 @@
 use Rattle.std.specs.Prelude.{◌≡◌, ◌≢◌, ◌⊎◌, ◌≤◌, ◌+◌, ◌-◌, ◌^◌, ℕ, Bool, false, List, [], ◌∷◌, length, slice_get, None, Some, All}
 use Rattle.workers.specs.Imports.{DEMUX_NODES, Draws, Entry, Fed, Fits, IsDone, IsSameCaller, NoMemory, Pulling, Pulls, SourceEnd, TableId, TooLong, TooMany, View, ended}
 use Rattle.workers.specs.declared.feeder_worker.FeederWorker.{FeederWorker}
-use Rattle.workers.specs.Feeding.{AreFullBatches, HasEnded, HasFed}
+use Rattle.workers.specs.Feeding.{AreFullBatches, HasEnded, HasFed, IsReadBehind}
 
 -- It has a pass of each of these locks, and made no more calls than packets were given.
 pub record IsFitFeeder (locks : List TableId) (f : FeederWorker) : Type 0 where
@@ -22,12 +22,14 @@ abbrev pub LeavesOthers : (among : ℕ → Bool) → (old new : List (TableId ×
 LeavesOthers among old new = (node : ℕ) → among node ≡ false → slice_get new node ≡ slice_get old node
 
 -- What keeps batches says whether it was told of these, and of no others, between one state and another.
-module _ {B : Type 0} (among : ℕ → Bool) (most : ℕ) (may : ℕ → Bool) (took : List Fed → B → B → Type 0) where
+module _ {B : Type 0} (among : ℕ → Bool) (most : ℕ) (may : ℕ → Bool) (behind : SourceEnd → ℕ → Bool)
+    (took : List Fed → B → B → Type 0) where
   -- It has passed the packets that were drawn from the source, from this puller on, through the nodes that are among these, in
   -- full batches but for the last; and these were told.
   pub record HasPassed (before after : SourceEnd) (first : Pulling) (was now : B) (f : FeederWorker) : Type 0 where
     pub feeding : List Fed
     pub told : took feeding was now
+    pub clock : All (IsReadBehind behind before first) feeding
     pub packets : List (List ℕ)
     pub draws : Draws before after first f.puller packets
     pub given : f.puller.given ≡ length packets
@@ -41,6 +43,7 @@ module _ {B : Type 0} (among : ℕ → Bool) (most : ℕ) (may : ℕ → Bool) (
   pub record HasPassedAll (before after : SourceEnd) (first : Pulling) (was now : B) (f : FeederWorker) : Type 0 where
     pub feeding : List Fed
     pub told : took feeding was now
+    pub clock : All (IsReadBehind behind before first) feeding
     pub packets : List (List ℕ)
     pub draws : Draws before after first f.puller packets
     pub done : IsDone f.puller

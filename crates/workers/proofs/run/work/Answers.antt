@@ -13,7 +13,7 @@ use Rattle.workers.proofs.Lists.{mapped}
 
 module _ (script : Scripted) (locks : List TableId) (n : ℕ) (feeder : Caller) (clients : List Caller) (fresh : AreFreshCallers locks n feeder clients) (all : AreAllCallers locks (clients ++ feeder ∷ []))
     (may : ℕ → Bool) (old new : List ClientWorker) (b : AreFreshWorkers script clients old) (h : HaveCome may locks old new)
-    {B : Type 0} (most : ℕ) (took : List Fed → B → B → Type 0) (x y : SourceEnd) (first : Pulling) (was now : B) (f : FeederWorker) (k : HasPassedAll (is_named script.lines) most may took x y first was now f)
+    {B : Type 0} (most : ℕ) (behind : SourceEnd → ℕ → Bool) (took : List Fed → B → B → Type 0) (x y : SourceEnd) (first : Pulling) (was now : B) (f : FeederWorker) (k : HasPassedAll (is_named script.lines) most may behind took x y first was now f)
     (found : (i : ℕ) (w : ClientWorker) → slice_get new i ≡ Some w → w.stop ≢ Some NoMemory) (is : n ≡ clients_in script) (numbered : AreNumbered script) (histories : HaveHistories (map (λ (w : ClientWorker). w.client) new ++ f.feeder ∷ [])) where
   now_pulls : (ahead : List ℕ) → Pulls ahead [] [] first → Pulls ahead k.draws.carries.more k.packets f.puller
   now_pulls ahead pulls = k.draws.carries.pulls ahead [] [] pulls
@@ -84,7 +84,7 @@ work_all-requires-clause-begun g c κs within =
     let r = c.requires in
     begun_passed c.args.script.now c.args.adapter.now _ c.args.feeder c.args.clients.items r.fresh r.all
     (record { feeder = c.args.feeder; puller = c.args.puller; count = 0; stop = None }) refl refl r.given
-    (is_in c.named.result) c.args.batch (g.C.Clock.may_give c.args.clock.now) took _ c.new-feeding.result (added_none c.new-feeding.result.items)
+    (is_in c.named.result) c.args.batch (g.C.Clock.may_give c.args.clock.now) (g.C.Clock.may_give_behind c.args.clock.now) took _ c.new-feeding.result (added_none c.new-feeding.result.items)
 
 pub work_all-requires-clause-clients : goal.work_all-requires-clause-clients
 work_all-requires-clause-clients g c κs within k d low =
@@ -101,19 +101,20 @@ returns-in_ok-left_by-in-None-clause-left g c =
     let r = c.requires in let ws = c.in_ok-workers.workers.items in let vs = c.work_all.new.clients.items in
     let f = c.work_all.new.feeder in let fed = c.work_all.ensures.feeder in
     let may = g.C.Clock.may_give c.args.clock.now in
+    let behind = g.C.Clock.may_give_behind c.args.clock.now in
     let b = c.in_ok-workers.ensures.fresh in
     let stop : c.stop_of.result ≡ None = search rules in
     let s : StopsBy f.stop vs c.stop_of.result = rw (← c.deref.ensures.value) c.stop_of.ensures in
     let none = s.none stop in
     let left : IsLeftByWorkers f c.work_all.new.batches.items vs c.in_ok-left_by-in-None.field-0 = c.in_ok-left_by-in-None.ensures in
-    let all = as_named (is_in c.named.result) (is_named c.args.script.now.lines) c.args.batch may took _ _ c.args.puller c.new-feeding.result c.work_all.new.batches f (λ node low. c.named.ensures node low) fed.nodes (fed.all (no_stop f.stop none.0)) in
+    let all = as_named (is_in c.named.result) (is_named c.args.script.now.lines) c.args.batch may behind took _ _ c.args.puller c.new-feeding.result c.work_all.new.batches f (λ node low. c.named.ensures node low) fed.nodes (fed.all (no_stop f.stop none.0)) in
     let more = all.draws.carries.more in (
       more,
       all.draws.carries.consumes,
       λ ahead pulls. record {
         worked = all_worked c.args.script.now c.args.adapter.now _ c.args.feeder c.args.clients.items r.fresh r.all may ws vs b c.work_all.ensures.clients f c.work_all.new.batches.items c.in_ok-left_by-in-None.field-0 left none.1
             c.args.batch _ refl (subst (λ (fs : List Fed). HasFedAll (is_named c.args.script.now.lines) c.args.batch may (cut c.args.puller.cutting.size (ahead ++ more)).packets f.feeder fs) (sym (all.told ∙ ap (λ (l : List Fed). l ++ all.feeding) c.new-feeding.ensures.items))
-            (worked_feeder (is_named c.args.script.now.lines) c.args.batch may took _ _ c.args.puller c.new-feeding.result c.work_all.new.batches f all ahead pulls));
+            (worked_feeder (is_named c.args.script.now.lines) c.args.batch may behind took _ _ c.args.puller c.new-feeding.result c.work_all.new.batches f all ahead pulls));
         head = left.head ahead more all.packets (all.draws.carries.pulls ahead [] [] pulls) ∙ ap (λ size. head_of size (ahead ++ more) c.in_ok-left_by-in-None.field-0.head.read_fault) all.draws.carries.size;
       },
     )
@@ -147,14 +148,15 @@ returns-in_ok-gather-in-Some-clause-too_long g c turns is =
     let r = c.requires in let ws = c.in_ok-workers.workers.items in let vs = c.work_all.new.clients.items in
     let f = c.work_all.new.feeder in let fed = c.work_all.ensures.feeder in
     let may = g.C.Clock.may_give c.args.clock.now in
+    let behind = g.C.Clock.may_give_behind c.args.clock.now in
     let stop : c.stop_of.result ≡ Some (TooLong turns) = c.in-Some.is ∙ ap Some cc in
     let s : StopsBy f.stop vs c.stop_of.result = rw (← c.deref.ensures.value) c.stop_of.ensures in
     let found : c.stop_of.result ≢ Some NoMemory = λ e. absurd (cc (stop, e)) in
     let memory = s.memory found in
-    let all = as_named (is_in c.named.result) (is_named c.args.script.now.lines) c.args.batch may took _ _ c.args.puller c.new-feeding.result c.work_all.new.batches f (λ node low. c.named.ensures node low) fed.nodes (fed.all memory.0) in
+    let all = as_named (is_in c.named.result) (is_named c.args.script.now.lines) c.args.batch may behind took _ _ c.args.puller c.new-feeding.result c.work_all.new.batches f (λ node low. c.named.ensures node low) fed.nodes (fed.all memory.0) in
     ⊎_elim
     (λ first. let k = fed.too_long turns first in of_stream (g.S.Source.end c.args.source.now) (g.S.Source.end c.work_all.new.source) c.args.puller _ (IsTooLong c.args.script.now c.args.puller.start turns) (λ ahead taken (q : 2 ^ 32 ≤ c.args.puller.start + length taken). inl (k.0, q))
     (many_reads _ _ c.args.puller f.puller fed.draws.0 fed.draws.1 k.1))
     (λ many. calls_by c.args.script.now c.args.adapter.now _ c.args.feeder c.args.clients.items r.fresh r.all may ws vs c.in_ok-workers.ensures.fresh c.work_all.ensures.clients
-    c.args.batch took _ _ c.args.puller c.new-feeding.result c.work_all.new.batches f all memory.1 refl c.in_ok-workers.ensures.numbered c.in_ok-gather-in-Some.ensures many_calls turns many.1.0 many.1.1 many.1.2 many.1.3 many.0)
+    c.args.batch behind took _ _ c.args.puller c.new-feeding.result c.work_all.new.batches f all memory.1 refl c.in_ok-workers.ensures.numbered c.in_ok-gather-in-Some.ensures many_calls turns many.1.0 many.1.1 many.1.2 many.1.3 many.0)
     (one_of_both may c.args.adapter.now ws vs c.work_all.ensures.clients f.stop c.stop_of.result turns s stop)

@@ -12,7 +12,7 @@ returns-in_default-clause-passed g c before first was h =
     let qs = given_by c.pull.result (λ batch. batch.value.packets) in
     let none : qs ≡ [] = search rules in
     let done : IsDone c.pull.new.self = search rules in
-    passed_none (is_in c.args.nodes.now) c.args.most (g.C.Clock.may_give c.args.clock.now) g.B.Batches.took before _ _ first was c.args.batches.now c.args.self.now (record c.args.self.now { puller = c.pull.new.self }) qs
+    passed_none (is_in c.args.nodes.now) c.args.most (g.C.Clock.may_give c.args.clock.now) (g.C.Clock.may_give_behind c.args.clock.now) g.B.Batches.took before _ _ first was c.args.batches.now c.args.self.now (record c.args.self.now { puller = c.pull.new.self }) qs
     (record { carries = e.stream; follows = e.follows; start = e.start }) e.given h none refl done
 
 pub returns-in_err-take-clause-others : goal.returns-in_err-take-clause-others
@@ -33,8 +33,8 @@ returns-clause-passed g c before first was h =
     let done : length batch.packets < c.args.most → IsDone c.pull.new.self = search rules in
     let one : c.first.result ≡ batch.first = search rules in
     let two : c.count.result ≡ length batch.packets = search rules in
-    let took = same_fed c.now-now.result one two (λ (f : Fed). g.B.Batches.took (f ∷ []) c.begin.new.self c.take.new.self) c.in_ok-take.ensures in
+    let took = same_fed c.now_behind-now.result one two (λ (f : Fed). g.B.Batches.took (f ∷ []) c.begin.new.self c.take.new.self) c.in_ok-take.ensures in
     let told = g.met.B.Batches.took_both c.args.batches.now c.begin.new.self c.take.new.self [] _ c.begin.ensures took in
-    passed_batch (is_in c.args.nodes.now) c.args.most (g.C.Clock.may_give c.args.clock.now) g.B.Batches.took before _ _ first was c.args.batches.now c.args.self.now _ qs
-    (record { carries = e.stream; follows = e.follows; start = e.start }) e.given h c.take.new.self batch c.now-now.result c.feed-places.result
-    g.met.B.Batches.took_both told is c.feed-places.ensures.same.0 c.feed-places.ensures.entries number some few c.now-now.ensures done e.stopped
+    passed_batch (is_in c.args.nodes.now) c.args.most (g.C.Clock.may_give c.args.clock.now) (g.C.Clock.may_give_behind c.args.clock.now) g.B.Batches.took before _ _ first was c.args.batches.now c.args.self.now _ qs
+    (record { carries = e.stream; follows = e.follows; start = e.start }) e.given h c.take.new.self batch c.now_behind-now.result c.feed-places.result
+    g.met.B.Batches.took_both told is c.feed-places.ensures.same.0 c.feed-places.ensures.entries number some few c.now_behind-now.ensures.any c.now_behind-now.ensures.behind done e.stopped
