@@ -27,6 +27,7 @@ pub use Rattle.dmx_calls.specs.Response.{Response}
 pub use Rattle.dmx_calls.specs.Rules.{rules_at}
 pub use Rattle.dmx_calls.specs.declared.log.Entry.{Entry as ToldEntry}
 pub use Rattle.dmx_calls.specs.declared.params.Input.{Input}
+pub use Rattle.feed_pull.proofs.PullLemmas.{Pulls-front}
 pub use Rattle.feed_pull.specs.Pulling.{Pulling}
 pub use Rattle.feed_pull.specs.Steps.{Follows}
 pub use Rattle.feed_pull.specs.Streams.{Draws}
@@ -47,7 +48,7 @@ pub use Rattle.serve_top.specs.Inside.Keeping.{AreKeptLines, HasNothing}
 pub use Rattle.serve_top.specs.Inside.Writing.{written_none, written_then}
 pub use Rattle.serve_top.specs.Journaled.{AreServed, IsLeftBy, IsNewFeeder}
 pub use Rattle.serve_top.specs.Lines.{HasWritten, call_line, fed_line}
-pub use Rattle.serve_top.specs.Read.{HasReadTo, HasReadTooOften}
+pub use Rattle.serve_top.specs.Read.{HasReadTo, HasReadTooOften, IsTimed}
 pub use Rattle.serve_top.specs.Reported.{FindMemory, HasReported, IsRunOf, IsServed, every, fed_by}
 pub use Rattle.serve_top.specs.declared.journals.Handed.{Handed}
 pub use Rattle.serve_top.specs.declared.journals.ReportParts.{ReportParts}
@@ -57,7 +58,7 @@ pub use Rattle.std.proofs.Common.{Bool, Err, Global, List, None, Option, Result,
 pub use Rattle.std.proofs.lemmas.Bool.{cases_lt}
 pub use Rattle.std.proofs.lemmas.Bool.Decides.{nat_tests}
 pub use Rattle.std.proofs.lemmas.List.{append-nil, append_assoc, get_or-replicate, length-map, length-reverse, length-set, map-append, reverse-append, same_lists, take_all, take_more}
-pub use Rattle.std.proofs.lemmas.List.Elements.{All-append, All-cons, All-head, All-nil, All-tail}
+pub use Rattle.std.proofs.lemmas.List.Elements.{All-append, All-cons, All-head, All-nil, All-tail, All-weaker}
 pub use Rattle.std.proofs.lemmas.Simd.{map-map}
 pub use Rattle.std.proofs.lemmas.Option.{get_or_from_slice_get, slice_get-get_or, slice_get-map, slice_get_within}
 pub use Rattle.std.specs.Prelude.{All, IsSome, get_or, if◌then◌else◌, option_map, slice_get, slice_index_or}
@@ -68,6 +69,7 @@ pub use Rattle.workers.proofs.Leaving.{no_stop, worked_feeder}
 pub use Rattle.workers.proofs.Lists.{mapped}
 pub use Rattle.workers.proofs.Logging.{brings_more, logged_more}
 pub use Rattle.workers.proofs.Working.{same_self}
+pub use Rattle.workers.specs.Feeding.{IsReadBehind}
 pub use Rattle.workers.specs.Inside.FeederWork.{HasPassedAll}
 pub use Rattle.workers.specs.Left.{AreWorked, HasWorked}
 pub use Rattle.workers.specs.Logged.{BringFrom, IsLogged}

@@ -3,7 +3,7 @@ use Rattle.std.specs.Prelude.{◌≡◌, ◌≤◌, ◌+◌, ◌++◌, ◌∷◌
 use Rattle.serve_top.specs.Imports.{AreOnNodes, Caller, Consumes, DEMUX_NODES, Desk, Fed, FeederWorker, Going, HasAnsweredAll, HasFedAll, HasLeft, HaveCalled, HaveHistories, JournalLine, LogEntry, Of188, Outcome, PassesNone, Pulls, SinkEnd, SourceEnd, TableId, cut, has_failed, head_of, told_head}
 use Rattle.serve_top.specs.declared.journals.Handed.{Handed}
 use Rattle.serve_top.specs.declared.journals.ReportParts.{ReportParts}
-use Rattle.serve_top.specs.Read.{HasReadTo}
+use Rattle.serve_top.specs.Read.{HasReadTo, IsTimed}
 use Rattle.serve_top.specs.Reported.{every, fed_by}
 
 -- A line tells what is left of it to be read, and what was written to it; or it tells none of these. A journal says whether it
@@ -14,19 +14,21 @@ module _ {T J B : Type 0} (source : T → SourceEnd) (sink : T → SinkEnd) (too
   -- A seat has served its line: its client has made just these calls, by which it came to what it is now; they are those that the
   -- requests of the line ask for, one after another, each told in its reply, and then those by which all nodes were closed, as by
   -- each request to leave; the line's journal was given just them, and what became of the commands; and by none do packets pass.
-  pub record IsHandedOver (may : ℕ → Bool) (line : JournalLine T J) (client : Caller) (book : List LogEntry)
+  pub record IsHandedOver (may : ℕ → Bool) (behind : SourceEnd → ℕ → Bool)
+      (line : JournalLine T J) (client : Caller) (book : List LogEntry)
       (journal : J) : Type 0 where
     pub end : T
     pub first : Caller
     pub became : List Outcome
-    pub answers : HasAnsweredAll source sink may line.line end first client [] book [] became
+    pub answers : HasAnsweredAll source sink may behind line.line end first client [] book [] became
     pub given : took book became line.journal journal
     pub nodes : AreOnNodes book
     pub none : All (λ e. PassesNone e.act) book
 
   -- What was read of the stream, what was called by this feeder and these clients and why, and what the journals were given: just
   -- this.
-  pub record AreServed (lines : List (JournalLine T J)) (may : ℕ → Bool) (before after : SourceEnd) (was now : B)
+  pub record AreServed (lines : List (JournalLine T J)) (may : ℕ → Bool) (behind : SourceEnd → ℕ → Bool)
+      (before after : SourceEnd) (was now : B)
       (feeder : Caller)
       (clients : List Caller) (end : Handed J) : Type 0 where
     -- the bytes that were read, up to the end of the stream or the read that failed, and what is known of them
@@ -40,6 +42,8 @@ module _ {T J B : Type 0} (source : T → SourceEnd) (sink : T → SinkEnd) (too
     pub feeding : List Fed
     pub fed : HasFedAll every 64 may (cut Of188 taken).packets feeder feeding
     pub batches : told feeding was now
+    -- the clock was read for each behind the bytes of its packets
+    pub clock : All (IsTimed behind before) feeding
     -- there is a client for each line, and a journal, and the client has made just the calls of its log
     pub each : length clients ≡ length lines
     pub kept : length end.journals.items ≡ length lines
@@ -49,17 +53,18 @@ module _ {T J B : Type 0} (source : T → SourceEnd) (sink : T → SinkEnd) (too
     pub asked : (c : ℕ) (book : List LogEntry) → slice_get books c ≡ Some book
         → (line : JournalLine T J) × (slice_get (reverse lines) c ≡ Some line)
         × (client : Caller) × (slice_get clients c ≡ Some client)
-        × (journal : J) × (slice_get end.journals.items c ≡ Some journal) × IsHandedOver may line client book journal
+        × (journal : J) × (slice_get end.journals.items c ≡ Some journal) × IsHandedOver may behind line client book journal
     -- and behind them it owns no node
     pub left : (c : ℕ) (client : Caller) → slice_get clients c ≡ Some client → (node : ℕ) → node ≤ DEMUX_NODES
         → HasLeft node client
 
   -- All this, and each node has a legal history of just the calls of these clients and the feeder.
-  pub record HasServedLines (lines : List (JournalLine T J)) (may : ℕ → Bool) (before after : SourceEnd) (was now : B)
+  pub record HasServedLines (lines : List (JournalLine T J)) (may : ℕ → Bool) (behind : SourceEnd → ℕ → Bool)
+      (before after : SourceEnd) (was now : B)
       (end : Handed J) : Type 0 where
     pub feeder : Caller
     pub clients : List Caller
-    pub served : AreServed lines may before after was now feeder clients end
+    pub served : AreServed lines may behind before after was now feeder clients end
     pub histories : HaveHistories (clients ++ feeder ∷ [])
 
 -- ------ on the way

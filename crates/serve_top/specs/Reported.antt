@@ -1,7 +1,7 @@
 -- What a server has done where it has written its report.
-use Rattle.std.specs.Prelude.{◌≡◌, ◌≢◌, ◌≤◌, ◌++◌, ℕ, Bool, true, List, [], length, replicate, reverse, slice_get, Some, Option}
+use Rattle.std.specs.Prelude.{◌≡◌, ◌≢◌, ◌≤◌, ◌++◌, ℕ, Bool, true, List, [], length, replicate, reverse, slice_get, Some, Option, All}
 use Rattle.serve_top.specs.Imports.{Appends, Caller, Consumes, DEMUX_NODES, Dvr, Fed, Frontend, HasAnsweredAll, HasFedAll, HasLeft, HaveCalled, IsLoggedIn, IsWholeRun, LogEntry, NoMemory, Of188, Outcome, Scripted, SinkEnd, SourceEnd, Sources, TellWhatWasCalled, commands_by, commands_of, cut, head_of, no_writes, report_of, spelled}
-use Rattle.serve_top.specs.Read.{HasReadTo}
+use Rattle.serve_top.specs.Read.{HasReadTo, IsTimed}
 
 -- all nodes
 abbrev pub every : (node : ℕ) → Bool
@@ -14,11 +14,12 @@ fed_by stream who Dvr = []
 
 -- A seat has served its line: it has made just these calls, by which its client came to what it is now, and told these of its
 -- commands; and the commands of the script's client of this number are those that the requests of the line spell, in their order.
-pub record IsServed {T : Type 0} (source : T → SourceEnd) (sink : T → SinkEnd) (may : ℕ → Bool) (script : Scripted)
+pub record IsServed {T : Type 0} (source : T → SourceEnd) (sink : T → SinkEnd) (may : ℕ → Bool) (behind : SourceEnd → ℕ → Bool)
+    (script : Scripted)
     (number : ℕ) (client : Caller) (line : T) (book : List LogEntry) (told : List Outcome) : Type 0 where
   pub end : T
   pub first : Caller
-  pub answers : HasAnsweredAll source sink may line end first client [] book [] told
+  pub answers : HasAnsweredAll source sink may behind line end first client [] book [] told
   pub spells : commands_of number script ≡ commands_by 0 (spelled (answers.turns ++ answers.last) answers.leaving)
 
 -- no call has found memory wanting
@@ -36,7 +37,7 @@ pub record IsRunOf (script : Scripted) (may : ℕ → Bool) (stream : List (List
 
 -- What was read of the stream, what was called by whom and why, and the report that tells just this.
 pub record HasReported {T : Type 0} (source : T → SourceEnd) (sink : T → SinkEnd) (lines : List T) (may : ℕ → Bool)
-    (before after : SourceEnd) (was now : Option (List ℕ)) : Type 0 where
+    (behind : SourceEnd → ℕ → Bool) (before after : SourceEnd) (was now : Option (List ℕ)) : Type 0 where
   -- the bytes that were read, up to the end of the stream or the read that failed
   pub taken : List ℕ
   pub consumes : Consumes before.left after.left taken
@@ -46,6 +47,8 @@ pub record HasReported {T : Type 0} (source : T → SourceEnd) (sink : T → Sin
   pub feeder : Caller
   pub feeding : List Fed
   pub fed : HasFedAll every 64 may (cut Of188 taken).packets feeder feeding
+  -- the clock was read for each batch behind the bytes of its packets, and for each call (`asked`) behind its request
+  pub clock : All (IsTimed behind before) feeding
   -- there is a client for each line, and it has made just the calls of its log
   pub clients : List Caller
   pub each : length clients ≡ length lines
@@ -61,7 +64,7 @@ pub record HasReported {T : Type 0} (source : T → SourceEnd) (sink : T → Sin
   pub asked : (c : ℕ) (book : List LogEntry) → slice_get books c ≡ Some book
       → (line : T) × (slice_get (reverse lines) c ≡ Some line) × (client : Caller) × (slice_get clients c ≡ Some client)
       × (became : List Outcome) × (slice_get told c ≡ Some became)
-      × IsServed source sink may script c client line book became
+      × IsServed source sink may behind script c client line book became
   -- and behind them it owns no node
   pub left : (c : ℕ) (client : Caller) → slice_get clients c ≡ Some client → (node : ℕ) → node ≤ DEMUX_NODES
       → HasLeft node client

@@ -80,23 +80,28 @@ fn sit_and_pass<
     gate: &G,
 )
     requires feeder { MayPass 64 adapter.now feeder.old }
-    requires begun { HasPassed (is_in nodes.now) 64 (C.may_give clock.now) B.took (S.end source.old)
+    requires begun { HasPassed (is_in nodes.now) 64 (C.may_give clock.now) (C.may_give_behind clock.now) B.took (S.end source.old)
         (S.end source.old) feeder.old.puller batches.old batches.old feeder.old }
     requires desks { All (λ d. D.ready adapter.now d) desks.old.items }
-    ensures feeder { HasFedToEnd (is_in nodes.now) 64 (C.may_give clock.now) B.took (S.end source.old)
+    ensures feeder { HasFedToEnd (is_in nodes.now) 64 (C.may_give clock.now) (C.may_give_behind clock.now)
+        B.took (S.end source.old)
         (S.end source.new) batches.old batches.new feeder.old feeder.new }
-    ensures desks { HaveSat (D.sat (C.may_give clock.now) adapter.now) desks.old.items desks.new.items }
+    ensures desks { HaveSat (D.sat (C.may_give clock.now) (C.may_give_behind clock.now)
+        adapter.now) desks.old.items desks.new.items }
 {
     let mut first = ||
         requires may { MayPass 64 adapter.now feeder.now }
-        requires begun { HasPassed (is_in nodes.now) 64 (C.may_give clock.now) B.took (S.end source.now)
+        requires begun { HasPassed (is_in nodes.now) 64 (C.may_give clock.now) (C.may_give_behind clock.now)
+            B.took (S.end source.now)
             (S.end source.now) feeder.now.puller batches.now batches.now feeder.now }
-        ensures { HasFedToEnd (is_in nodes.entry.now) 64 (C.may_give clock.entry.now) B.took (S.end source.entry.now)
+        ensures { HasFedToEnd (is_in nodes.entry.now) 64 (C.may_give clock.entry.now) (C.may_give_behind clock.entry.now)
+            B.took (S.end source.entry.now)
             (S.end source.exit.now) batches.entry.now batches.exit.now feeder.entry.now feeder.exit.now }
     { feeder.work(rt, adapter, source, batches, BATCH, nodes, clock, gate) };
     let mut others = ||
         requires { IsSync R.row × IsSync C.row × IsSend D.row × All (λ d. D.ready adapter.now d) desks.now.items }
-        ensures { HaveSat (D.sat (C.may_give clock.entry.now) adapter.entry.now) desks.entry.now.items desks.exit.now.items }
+        ensures { HaveSat (D.sat (C.may_give clock.entry.now) (C.may_give_behind clock.entry.now)
+            adapter.entry.now) desks.entry.now.items desks.exit.now.items }
     { sit_all(rt, alloc, adapter, clock, desks) };
     join_mut(rt, &mut others, &mut first);
 }
@@ -160,7 +165,8 @@ pub fn served<
     gate: &G,
 ) -> Result<ReportParts<J>, NoReport>
     requires few { vec_len lines ≤ 8 }
-    ensures served { IfOk result (λ s. AreServed T.Source.end T.Sink.end J.took B.took lines.items (C.may_give clock.now)
+    ensures served { IfOk result (λ s. AreServed T.Source.end T.Sink.end
+        J.took B.took lines.items (C.may_give clock.now) (C.may_give_behind clock.now)
         (S.end source.old) (S.end source.new) batches.old batches.new s.feeder s.clients.items s.handed) }
     ensures all { IfOk result (λ s. AreAllCallers s.adapter (s.clients.items ++ s.feeder ∷ [])) }
     ensures reads { IsErrOf result NoReport.TooLong → HasReadTooOften (S.end source.old) (S.end source.new) }
@@ -215,7 +221,8 @@ pub fn serve_to<
 ) -> Result<Handed<J>, NoReport>
     requires few { vec_len lines ≤ 8 }
     // What was called is what the requests on the lines ask for, and the journals were given just that.
-    ensures served { IfOk result (HasServedLines T.Source.end T.Sink.end J.took B.took lines.items (C.may_give clock.now)
+    ensures served { IfOk result (HasServedLines T.Source.end T.Sink.end
+        J.took B.took lines.items (C.may_give clock.now) (C.may_give_behind clock.now)
         (S.end source.old) (S.end source.new) batches.old batches.new) }
     ensures reads { IsErrOf result NoReport.TooLong → HasReadTooOften (S.end source.old) (S.end source.new) }
     ensures failed { result ≢ Err NoReport.Failed }

@@ -11,7 +11,8 @@
 //! are the histories of the locks, which the report tells; at the end it owns no node. The calls are those that the requests on
 //! the line ask for (`HasAnsweredAll` of `seats`). There is a script whose commands are those that the requests spell, with a
 //! close behind them for each node that was closed; where no call found memory wanting, histories and outcomes are those of a run
-//! of it (`IsRunOf`). `HasServedLines` (`specs/Journaled.antt`) says the same of `serve_to`, but for merged histories and the
+//! of it (`IsRunOf`). The clock was read for each batch behind the bytes of its packets (`IsTimed`), and for a call behind its
+//! request. `HasServedLines` (`specs/Journaled.antt`) says the same of `serve_to`, but for merged histories and the
 //! script, and that the keepers were given just these calls and batches, as `WrittenLines` writes them (`specs/Lines.antt`).
 //! `TooLong` comes only where 4,294,967,296 bytes were read at least, `Failed` where the sink's count of faults rose; `NoMemory`
 //! has no cause. In the first and the last nothing is written.

@@ -126,7 +126,8 @@ pub fn serve<
 ) -> Result<(), NoReport>
     requires few { vec_len lines ≤ 8 }
     // The report is that of the stream's bytes and of what was called, which is what the requests on the lines ask for.
-    ensures reported { OnOk result (HasReported T.Source.end T.Sink.end lines.items (C.may_give clock.now) (S.end source.old)
+    ensures reported { OnOk result (HasReported T.Source.end T.Sink.end lines.items
+        (C.may_give clock.now) (C.may_give_behind clock.now) (S.end source.old)
         (S.end source.new) (K.end sink.old).written (K.end sink.new).written) }
     ensures memory { IsErrOf result NoReport.NoMemory → sink.new ≡ sink.old }
     ensures too_long { IsErrOf result NoReport.TooLong → sink.new ≡ sink.old }

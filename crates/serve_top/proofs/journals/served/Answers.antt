@@ -1,5 +1,5 @@
 -- Seats that have handed their calls over, and a feeder that has told its batches: what they have called.
-use Rattle.serve_top.proofs.Imports.{◌≡◌, ◌∙◌, Result, Err, Some, ap, sym, arith, refl, subst, plain, begun_feeder, begun_passed, [], Caller, IsSameCaller, Failed, TooLong, no_stop, ⊎_elim, ℕ, zero, suc, Bool, true, ◌+◌, ◌<◌, ◌≤◌, ◌^◌, List, ◌∷◌, ◌++◌, length, map, false, get_or-replicate, replicate, reverse, Option, None, length-append, slice_get, slice_index_or, option_map, All, length-map, length-reverse, slice_get-map, slice_get-get_or, get_or_from_slice_get, slice_get_within, TableId, SourceEnd, SinkEnd, cut, PacketSize, Of188, head_of, Pulls, has_failed, Fed, DEMUX_NODES, Outcome, LogEntry, Sources, AreFreshCallers, AreAllCallers, is_in, still_all, at_place, at_end, one_value, FeederWorker, HasPassedAll, HasFedToEnd, as_named, worked_feeder, HasFedAll, HasLogged, HaveCalled, called_none, mapped, JournalLine, Desk, Seat, MakesCalls, IsReadyToHand, HasServed, HaveServed, HasLeft, AreReady, AreOnNodes, HasAnsweredAll, ReportParts, AreServed, IsLeftBy, IsNewFeeder, every, fed_by}
+use Rattle.serve_top.proofs.Imports.{◌≡◌, ◌∙◌, Result, Err, Some, ap, sym, arith, refl, subst, plain, begun_feeder, begun_passed, [], Caller, IsSameCaller, Failed, TooLong, no_stop, ⊎_elim, ℕ, zero, suc, Bool, true, ◌+◌, ◌<◌, ◌≤◌, ◌^◌, List, ◌∷◌, ◌++◌, length, map, false, get_or-replicate, replicate, reverse, Option, None, length-append, slice_get, slice_index_or, option_map, All, length-map, length-reverse, slice_get-map, slice_get-get_or, get_or_from_slice_get, slice_get_within, TableId, SourceEnd, SinkEnd, cut, PacketSize, Of188, head_of, Pulls, has_failed, Fed, DEMUX_NODES, Outcome, LogEntry, Sources, AreFreshCallers, AreAllCallers, is_in, still_all, at_place, at_end, one_value, FeederWorker, HasPassedAll, HasFedToEnd, All-weaker, IsReadBehind, IsTimed, Pulls-front, as_named, worked_feeder, HasFedAll, HasLogged, HaveCalled, called_none, mapped, JournalLine, Desk, Seat, MakesCalls, IsReadyToHand, HasServed, HaveServed, HasLeft, AreReady, AreOnNodes, HasAnsweredAll, ReportParts, AreServed, IsLeftBy, IsNewFeeder, every, fed_by}
 use Rattle.serve_top.proofs.Streaming.{too_often, read_to}
 use Rattle.serve_top.proofs.journals.served.Goals as goal
 use Rattle.serve_top.proofs.Logged.{same_calls, logged_calls, brings_calls, passes_none}
@@ -41,17 +41,17 @@ desks_ready {T} {J} locks clients desks ready k d low =
     let x = slice_index_or desks k d in
     ready.each k x.seat (slice_get-map (λ (z : Desk (JournalLine T J)). z.seat) desks k ∙ ap (option_map (λ (z : Desk (JournalLine T J)). z.seat)) (slice_get-get_or desks k d low))
 
-module _ {T J : Type 0} (source : T → SourceEnd) (sink : T → SinkEnd) (may : ℕ → Bool) (took : List LogEntry → List Outcome → J → J → Type 0) (locks : List TableId) (n : ℕ) (feeder : Caller) (clients : List Caller) (fresh : AreFreshCallers locks n feeder clients) (all : AreAllCallers locks (clients ++ feeder ∷ []))
-    (old new : List (Desk (JournalLine T J))) (ready : AreReady locks clients (map (λ (d : Desk (JournalLine T J)). d.seat) old)) (h : HaveServed source sink may took locks old new) where
+module _ {T J : Type 0} (source : T → SourceEnd) (sink : T → SinkEnd) (may : ℕ → Bool) (behind : SourceEnd → ℕ → Bool) (took : List LogEntry → List Outcome → J → J → Type 0) (locks : List TableId) (n : ℕ) (feeder : Caller) (clients : List Caller) (fresh : AreFreshCallers locks n feeder clients) (all : AreAllCallers locks (clients ++ feeder ∷ []))
+    (old new : List (Desk (JournalLine T J))) (ready : AreReady locks clients (map (λ (d : Desk (JournalLine T J)). d.seat) old)) (h : HaveServed source sink may behind took locks old new) where
   -- its seat before
-  served_at : (k : ℕ) (d : Desk (JournalLine T J)) → slice_get new k ≡ Some d → (b : Desk (JournalLine T J)) × (slice_get old k ≡ Some b) × HasServed source sink may took locks b.line d.line b.seat d.seat
+  served_at : (k : ℕ) (d : Desk (JournalLine T J)) → slice_get new k ≡ Some d → (b : Desk (JournalLine T J)) × (slice_get old k ≡ Some b) × HasServed source sink may behind took locks b.line d.line b.seat d.seat
   served_at k d at =
       let low = slice_get_within new k d at in let long = h.long in let b = at_place old k (omega arith) in
       let s = h.each k d (omega arith) in (
         b.0,
         b.1,
-        subst (λ (z : Desk (JournalLine T J)). HasServed source sink may took locks z.line d.line z.seat d.seat) (get_or_from_slice_get old k b.0 d b.1)
-            (subst (λ (z : Desk (JournalLine T J)). HasServed source sink may took locks (slice_index_or old k d).line z.line (slice_index_or old k d).seat z.seat) (get_or_from_slice_get new k d d at) s),
+        subst (λ (z : Desk (JournalLine T J)). HasServed source sink may behind took locks z.line d.line z.seat d.seat) (get_or_from_slice_get old k b.0 d b.1)
+            (subst (λ (z : Desk (JournalLine T J)). HasServed source sink may behind took locks (slice_index_or old k d).line z.line (slice_index_or old k d).seat z.seat) (get_or_from_slice_get new k d d at) s),
       )
 
   client_at : (k : ℕ) (b : Desk (JournalLine T J)) → slice_get old k ≡ Some b → slice_get clients k ≡ Some b.seat.client
@@ -68,7 +68,7 @@ module _ {T J : Type 0} (source : T → SourceEnd) (sink : T → SinkEnd) (may :
     there : slice_get old k ≡ Some before
     made : MakesCalls 0 before.seat.client book d.seat.client
     became : List Outcome
-    answers : HasAnsweredAll source sink may before.line.line d.line.line before.seat.client d.seat.client [] book [] became
+    answers : HasAnsweredAll source sink may behind before.line.line d.line.line before.seat.client d.seat.client [] book [] became
     given : took book became before.line.journal d.line.journal
     nodes : AreOnNodes book
     left : (node : ℕ) → node ≤ DEMUX_NODES → HasLeft node d.seat.client
@@ -155,13 +155,13 @@ module _ {T J : Type 0} (source : T → SourceEnd) (sink : T → SinkEnd) (may :
   -- ------ the whole
 
   module _ {B : Type 0} (told : List Fed → B → B → Type 0) (lines : List (JournalLine T J)) (are : map (λ (d : Desk (JournalLine T J)). d.line) old ≡ reverse lines) (x y : SourceEnd) (was now : B) (p q : FeederWorker) (is : IsNewFeeder feeder p)
-      (row : List Bool) (whole : row ≡ replicate (DEMUX_NODES + 1) true) (w : HasFedToEnd (is_in row) 64 may told x y was now p q) (stop : q.stop ≡ None) (passed : HasPassedAll (is_in row) 64 may told x y p.puller was now q) (end : ReportParts J) (left : IsLeftBy locks q new end) where
+      (row : List Bool) (whole : row ≡ replicate (DEMUX_NODES + 1) true) (w : HasFedToEnd (is_in row) 64 may behind told x y was now p q) (stop : q.stop ≡ None) (passed : HasPassedAll (is_in row) 64 may behind told x y p.puller was now q) (end : ReportParts J) (left : IsLeftBy locks q new end) where
     same_nodes : (node : ℕ) → node ≤ DEMUX_NODES → is_in row node ≡ every node
     same_nodes node low = ap (λ (r : List Bool). is_in r node) whole ∙ all_in node low
 
     -- all packets have passed all nodes
-    through : HasPassedAll every 64 may told x y p.puller was now q
-    through = as_named (is_in row) every 64 may told x y p.puller was now q same_nodes w.nodes passed
+    through : HasPassedAll every 64 may behind told x y p.puller was now q
+    through = as_named (is_in row) every 64 may behind told x y p.puller was now q same_nodes w.nodes passed
 
     taken : List ℕ
     taken = through.draws.carries.more
@@ -173,12 +173,26 @@ module _ {T J : Type 0} (source : T → SourceEnd) (sink : T → SinkEnd) (may :
     fed : HasFedAll every 64 may (cut Of188 taken).packets q.feeder through.feeding
     unfolding taken
     fed = subst (λ (s : PacketSize). HasFedAll every 64 may (cut s taken).packets q.feeder through.feeding) is.size
-        (worked_feeder every 64 may told x y p.puller was now q through [] is.pulls)
+        (worked_feeder every 64 may behind told x y p.puller was now q through [] is.pulls)
+
+    -- the clock was read behind the bytes of each batch
+    timed : (f : Fed) → IsReadBehind behind x p.puller f → IsTimed behind x f
+    timed f r =
+        let more = r.draws.carries.more in
+        let front = Pulls-front [] more r.packets r.puller (r.draws.carries.pulls [] [] [] is.pulls) in
+        let cut_is = ap (λ (s : PacketSize). length (cut s more).packets) (sym (r.draws.carries.size ∙ is.size)) ∙ ap length front.1 in
+        record {
+          at = r.at;
+          read = more;
+          consumes = r.draws.carries.consumes;
+          packets = let count = r.count in let n = length-append r.packets front.0 in omega (arith, cut_is, count, n);
+          moment = r.moment;
+        }
 
     as_lines : length new ≡ length lines
     as_lines = h.long ∙ (sym (length-map old (λ (d : Desk (JournalLine T J)). d.line)) ∙ (ap length are ∙ length-reverse lines))
 
-    own : AreServed source sink took told lines may x y was now q.feeder its_clients end.handed
+    own : AreServed source sink took told lines may behind x y was now q.feeder its_clients end.handed
     unfolding taken
     own = record {
       taken = taken;
@@ -190,6 +204,7 @@ module _ {T J : Type 0} (source : T → SourceEnd) (sink : T → SinkEnd) (may :
       feeding = through.feeding;
       fed = fed;
       batches = through.told;
+      clock = All-weaker (IsReadBehind behind x p.puller) (IsTimed behind x) timed through.feeding through.clock;
       each = length-map new (λ (d : Desk (JournalLine T J)). d.seat.client) ∙ as_lines;
       kept = ap length left.journals ∙ (length-map new (λ (d : Desk (JournalLine T J)). d.line.journal) ∙ as_lines);
       books = its_books;
@@ -209,7 +224,7 @@ module _ {T J : Type 0} (source : T → SourceEnd) (sink : T → SinkEnd) (may :
           subst (HasLeft node) v.2 ((seat_is c v.0 v.1).left node low);
     }
 
-    pub has_served : AreServed source sink took told lines may x y was now end.feeder end.clients.items end.handed
+    pub has_served : AreServed source sink took told lines may behind x y was now end.feeder end.clients.items end.handed
     has_served = rw (left.feeder, left.clients) own
 
 -- two errors of one result
@@ -234,7 +249,7 @@ sit_and_pass-requires-clause-feeder g c κs within =
 pub sit_and_pass-requires-clause-begun : goal.sit_and_pass-requires-clause-begun
 sit_and_pass-requires-clause-begun g c κs within =
     let a = c.in_ok-adapter in let f = c.in_ok-feeder in let is = f.ensures in
-    begun_passed (plain []) a.adapter _ a.feeder a.clients.items a.ensures.fresh a.ensures.all f.feeder is.caller is.count is.given _ 64 _ g.B.Batches.took _ _ ((g.met.B.Batches g.world.𝓛 g.world.𝓜 g.world.𝓡 ((λ s x. x), (λ x. x), (λ x. x), λ x. x)).took_none _)
+    begun_passed (plain []) a.adapter _ a.feeder a.clients.items a.ensures.fresh a.ensures.all f.feeder is.caller is.count is.given _ 64 _ _ g.B.Batches.took _ _ ((g.met.B.Batches g.world.𝓛 g.world.𝓜 g.world.𝓡 ((λ s x. x), (λ x. x), (λ x. x), λ x. x)).took_none _)
 
 pub sit_and_pass-requires-clause-desks : goal.sit_and_pass-requires-clause-desks
 sit_and_pass-requires-clause-desks g c κs within =
@@ -256,14 +271,14 @@ returns-in-Some-clause-failed g c h = let same : c.no_report.result ≡ Failed =
 pub returns-clause-all : goal.returns-clause-all
 returns-clause-all g c =
     let a = c.in_ok-adapter in let e = c.sit_and_pass.ensures in let left = c.in_ok-left_by.ensures in
-    rw (left.locks, left.feeder, left.clients) (still_callers g.T.Source.end g.T.Sink.end (g.C.Clock.may_give c.args.clock.now) g.J.Journal.took a.adapter _ a.feeder a.clients.items a.ensures.fresh a.ensures.all c.in_ok-desks.desks.items c.sit_and_pass.new.desks.items
+    rw (left.locks, left.feeder, left.clients) (still_callers g.T.Source.end g.T.Sink.end (g.C.Clock.may_give c.args.clock.now) (g.C.Clock.may_give_behind c.args.clock.now) g.J.Journal.took a.adapter _ a.feeder a.clients.items a.ensures.fresh a.ensures.all c.in_ok-desks.desks.items c.sit_and_pass.new.desks.items
     (c.in_ok-desks.ensures.ready a.adapter a.feeder (counted a.adapter _ a.feeder a.clients.items a.ensures.fresh)) e.desks
     c.sit_and_pass.new.feeder.feeder (subst (λ (f : Caller). IsSameCaller f c.sit_and_pass.new.feeder.feeder) c.in_ok-feeder.ensures.caller e.feeder.same))
 
 pub returns-clause-served : goal.returns-clause-served
 returns-clause-served g c =
     let a = c.in_ok-adapter in let e = c.sit_and_pass.ensures in
-    has_served g.T.Source.end g.T.Sink.end (g.C.Clock.may_give c.args.clock.now) g.J.Journal.took a.adapter _ a.feeder a.clients.items a.ensures.fresh a.ensures.all c.in_ok-desks.desks.items c.sit_and_pass.new.desks.items
+    has_served g.T.Source.end g.T.Sink.end (g.C.Clock.may_give c.args.clock.now) (g.C.Clock.may_give_behind c.args.clock.now) g.J.Journal.took a.adapter _ a.feeder a.clients.items a.ensures.fresh a.ensures.all c.in_ok-desks.desks.items c.sit_and_pass.new.desks.items
     (c.in_ok-desks.ensures.ready a.adapter a.feeder (counted a.adapter _ a.feeder a.clients.items a.ensures.fresh)) e.desks
     g.B.Batches.took c.args.lines.items c.in_ok-desks.ensures.lines _ _ c.args.batches.now c.sit_and_pass.new.batches c.in_ok-feeder.feeder c.sit_and_pass.new.feeder c.in_ok-feeder.ensures
     _ refl e.feeder c.in_default.is (e.feeder.all (no_stop _ c.in_default.is)) c.in_ok-left_by.field-0 c.in_ok-left_by.ensures

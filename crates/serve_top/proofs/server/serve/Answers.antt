@@ -30,9 +30,9 @@ unmapped f P (x ∷ xs) h = All-cons (λ z. P (f z)) x xs (All-head P (f x) (map
 
 -- ------ what is kept
 
-module _ {T E : Type 0} (source : T → SourceEnd) (sink : T → SinkEnd) (may : ℕ → Bool) (lines : List T) (kept : List (JournalLine T (Rung E KeptJournal))) (are : AreKeptLines lines kept) (x y : SourceEnd) (was now : Rung E (Vec Fed Global)) (empty : was.kept.items ≡ [])
+module _ {T E : Type 0} (source : T → SourceEnd) (sink : T → SinkEnd) (may : ℕ → Bool) (behind : SourceEnd → ℕ → Bool) (lines : List T) (kept : List (JournalLine T (Rung E KeptJournal))) (are : AreKeptLines lines kept) (x y : SourceEnd) (was now : Rung E (Vec Fed Global)) (empty : was.kept.items ≡ [])
     (feeder : Caller) (clients : List Caller) (end : Handed (Rung E KeptJournal))
-    (s : AreServed source sink (λ calls told (a b : Rung E KeptJournal). HasKept calls told a.kept b.kept) (λ feeding (a b : Rung E (Vec Fed Global)). b.kept.items ≡ a.kept.items ++ feeding) kept may x y was now feeder clients end)
+    (s : AreServed source sink (λ calls told (a b : Rung E KeptJournal). HasKept calls told a.kept b.kept) (λ feeding (a b : Rung E (Vec Fed Global)). b.kept.items ≡ a.kept.items ++ feeding) kept may behind x y was now feeder clients end)
     (whole : All (λ (k : Rung E KeptJournal). k.kept.whole ≡ true) end.journals.items) where
   abbrev journals : List (Rung E KeptJournal)
   journals = end.journals.items
@@ -57,7 +57,7 @@ module _ {T E : Type 0} (source : T → SourceEnd) (sink : T → SinkEnd) (may :
     log : map told_entry journal.kept.log.items ≡ book
     last : T
     first : Caller
-    answers : HasAnsweredAll source sink may line last first client [] book [] journal.kept.outcomes.items
+    answers : HasAnsweredAll source sink may behind line last first client [] book [] journal.kept.outcomes.items
     nodes : AreOnNodes book
     spells : commands ≡ commands_by 0 (spelled (answers.turns ++ answers.last) answers.leaving)
 
@@ -67,7 +67,7 @@ module _ {T E : Type 0} (source : T → SourceEnd) (sink : T → SinkEnd) (may :
       let nothing = at_all (λ (l : JournalLine T (Rung E KeptJournal)). HasNothing l.journal.kept) (reverse kept) (all_reversed (λ (l : JournalLine T (Rung E KeptJournal)). HasNothing l.journal.kept) kept are.each) c q.0 q.1 in
       let given = h.given (at_all (λ (k : Rung E KeptJournal). k.kept.whole ≡ true) journals whole c q.4 q.5) in
       let became : q.4.kept.outcomes.items ≡ h.became = given.2 ∙ ap (λ (l : List Outcome). l ++ h.became) nothing.1 in
-      let a : HasAnsweredAll source sink may q.0.line h.end h.first q.2 [] book [] q.4.kept.outcomes.items = subst (λ (os : List Outcome). HasAnsweredAll source sink may q.0.line h.end h.first q.2 [] book [] os) (sym became) h.answers in (
+      let a : HasAnsweredAll source sink may behind q.0.line h.end h.first q.2 [] book [] q.4.kept.outcomes.items = subst (λ (os : List Outcome). HasAnsweredAll source sink may behind q.0.line h.end h.first q.2 [] book [] os) (sym became) h.answers in (
         commands_by 0 (spelled (a.turns ++ a.last) a.leaving),
         spelled_calls 0 (spelled (a.turns ++ a.last) a.leaving),
         record {
@@ -149,7 +149,7 @@ module _ {T E : Type 0} (source : T → SourceEnd) (sink : T → SinkEnd) (may :
 
   asked : (c : ℕ) (book : List LogEntry) → slice_get s.books c ≡ Some book
       → (line : T) × (slice_get (reverse lines) c ≡ Some line) × (client : Caller) × (slice_get clients c ≡ Some client)
-      × (became : List Outcome) × (slice_get told c ≡ Some became) × IsServed source sink may script c client line book became
+      × (became : List Outcome) × (slice_get told c ≡ Some became) × IsServed source sink may behind script c client line book became
   unfolding script
   asked c book at =
       let a = client_is c book at in (
@@ -166,18 +166,18 @@ module _ {T E : Type 0} (source : T → SourceEnd) (sink : T → SinkEnd) (may :
   played c book out at there script same =
       let a = client_is c book at in
       subst (IsPlayed may c script book) (one_value told c a.journal.kept.outcomes.items out (told_at c book (commands_at c) a) there)
-      (answers_played source sink may a.line a.last a.first a.client book a.journal.kept.outcomes.items a.answers c script (same ∙ a.spells))
+      (answers_played source sink may behind a.line a.last a.first a.client book a.journal.kept.outcomes.items a.answers c script (same ∙ a.spells))
 
   idle : (c : ℕ) (book : List LogEntry) (out : List Outcome) → slice_get s.books c ≡ Some book → slice_get told c ≡ Some out → commands_at c ≡ [] → (book ≡ []) × (out ≡ [])
   idle c book out at there none =
       let a = client_is c book at in
-      let i = answers_idle source sink may a.line a.last a.first a.client book a.journal.kept.outcomes.items a.answers (sym a.spells ∙ none) in
+      let i = answers_idle source sink may behind a.line a.last a.first a.client book a.journal.kept.outcomes.items a.answers (sym a.spells ∙ none) in
       (i.0, sym (one_value told c a.journal.kept.outcomes.items out (told_at c book (commands_at c) a) there) ∙ i.1)
 
   -- what is merged tells this, and it is a run of the script
   module _ (hs : List (List LogEntry)) (tells : TellWhatWasCalled every (fed_by (cut Of188 s.taken).packets) feeder s.feeding clients s.books hs)
       (runs : (script : Scripted) (outs : List (List Outcome)) → AreWorked script every 64 may (cut Of188 s.taken).packets feeder s.feeding clients s.books outs → IsWholeRun script 64 may (cut Of188 s.taken).packets outs hs) where
-    has_reported : (before after : Option (List ℕ)) → Appends before after (report_of (told_head end.head) told hs) → HasReported source sink lines may x y before after
+    has_reported : (before after : Option (List ℕ)) → Appends before after (report_of (told_head end.head) told hs) → HasReported source sink lines may behind x y before after
     unfolding script
     has_reported before after written = record {
       taken = s.taken;
@@ -187,6 +187,7 @@ module _ {T E : Type 0} (source : T → SourceEnd) (sink : T → SinkEnd) (may :
       feeder = feeder;
       feeding = s.feeding;
       fed = s.fed;
+      clock = s.clock;
       clients = clients;
       each = s.each ∙ (sym (length-map kept (λ (l : JournalLine T (Rung E KeptJournal)). l.line)) ∙ ap length are.are);
       books = s.books;
@@ -223,7 +224,7 @@ module _ {T E : Type 0} (source : T → SourceEnd) (sink : T → SinkEnd) (may :
         (subst (λ (bs : List (List LogEntry)). AreWorked script every 64 may (cut Of188 s.taken).packets feeder now.kept.items clients bs outs → IsWholeRun script 64 may (cut Of188 s.taken).packets outs hs) (logs_are logs same)
         (runs script every 64 may (cut Of188 s.taken).packets outs))
 
-    pub is_reported : (before after : Option (List ℕ)) (those : List (Vec Outcome Global)) → those ≡ outs → Appends before after (report_of (told_head end.head) (map (λ (o : Vec Outcome Global). o.items) those) hs) → HasReported source sink lines may x y before after
+    pub is_reported : (before after : Option (List ℕ)) (those : List (Vec Outcome Global)) → those ≡ outs → Appends before after (report_of (told_head end.head) (map (λ (o : Vec Outcome Global). o.items) those) hs) → HasReported source sink lines may behind x y before after
     is_reported before after those are written = has_reported hs tells_books runs_books before after
         (subst (λ (os : List (List Outcome)). Appends before after (report_of (told_head end.head) os hs)) (ap (map (λ (o : Vec Outcome Global). o.items)) are ∙ became) written)
 
@@ -238,11 +239,11 @@ histories_of_run-requires-clause-all g c = c.in_ok-adapter.ensures.all
 pub histories_of_run-requires-clause-nodes : goal.histories_of_run-requires-clause-nodes
 histories_of_run-requires-clause-nodes g c =
     let a = c.in_ok-adapter in let k = c.in_ok-logs in
-    logs_on_nodes g.T.Source.end g.T.Sink.end (g.C.Clock.may_give c.args.clock.now) c.args.lines.items c.in_ok-lines.lines.items c.in_ok-lines.ensures _ _ _ _ c.new.ensures.items a.field-0.feeder a.field-0.clients.items a.field-0.handed a.ensures.served k.ensures.whole k.logs.items k.ensures.logs
+    logs_on_nodes g.T.Source.end g.T.Sink.end (g.C.Clock.may_give c.args.clock.now) (g.C.Clock.may_give_behind c.args.clock.now) c.args.lines.items c.in_ok-lines.lines.items c.in_ok-lines.ensures _ _ _ _ c.new.ensures.items a.field-0.feeder a.field-0.clients.items a.field-0.handed a.ensures.served k.ensures.whole k.logs.items k.ensures.logs
 
 pub returns-in-Ok-clause-reported : goal.returns-in-Ok-clause-reported
 returns-in-Ok-clause-reported g c =
     let a = c.in_ok-adapter in let k = c.in_ok-logs in let h = c.in_ok-histories.ensures in
     let same : c.deref.result.now ≡ k.outcomes.items = search rules in
-    is_reported g.T.Source.end g.T.Sink.end (g.C.Clock.may_give c.args.clock.now) c.args.lines.items c.in_ok-lines.lines.items c.in_ok-lines.ensures _ _ _ _ c.new.ensures.items a.field-0.feeder a.field-0.clients.items a.field-0.handed a.ensures.served k.ensures.whole
+    is_reported g.T.Source.end g.T.Sink.end (g.C.Clock.may_give c.args.clock.now) (g.C.Clock.may_give_behind c.args.clock.now) c.args.lines.items c.in_ok-lines.lines.items c.in_ok-lines.ensures _ _ _ _ c.new.ensures.items a.field-0.feeder a.field-0.clients.items a.field-0.handed a.ensures.served k.ensures.whole
     k.logs.items k.ensures.logs k.outcomes.items k.ensures.outcomes c.in_ok-histories.histories h.tells h.run _ _ c.deref.result.now same c.in-Ok.ensures.whole
