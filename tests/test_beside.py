@@ -306,7 +306,7 @@ def test_the_module(monkeypatch):
     assert dvbemu.Report.parse(SERVED.read_bytes()).same_on_linux(STREAM)
     with pytest.raises(ValueError, match="has to be named"):
         loaded.same_on_linux()
-    with pytest.raises(dvbemu.Failed, match="it isn't the report"):
+    with pytest.raises(dvbemu.ProgramError, match="it isn't the report"):
         loaded.same_on_linux(UNDEFINED)
 
 

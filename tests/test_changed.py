@@ -135,7 +135,7 @@ def by_changes(rng, text):
     change = rng.choices(list(changes.CHANGES), list(changes.CHANGES.values()))[0]
     try:
         return (change(rng, text) or (text, None))[0]
-    except (reports.NotAReport, LookupError, ValueError):
+    except (reports.ReportError, LookupError, ValueError):
         # (they are made for lawful reports, and this one may be changed already)
         return text
 
@@ -183,7 +183,7 @@ def fault_of(make, *given):
     """What a tool makes, and None; or nothing, and what it tells of the text."""
     try:
         return make(*given), None
-    except (reports.NotAReport, objects.NoObjects, played.NotPlayed) as fault:
+    except (reports.ReportError, objects.JsonError, played.NotPlayed) as fault:
         return None, str(fault)
 
 

@@ -170,7 +170,7 @@ class Shortened(inputs.Input):
 def test_broken(room, fails, line):
     room.write({"script": SCRIPT, "stream": 10 * PACKET})
     path, taken = str(room.folder / "stream"), io.BytesIO()
-    with pytest.raises(inputs.Broken) as fault:
+    with pytest.raises(inputs.InputError) as fault:
         for piece in inputs.session_pieces([inputs.Input(str(room.folder / "script")), Shortened(path, 500, fails)]):
             taken.write(piece)
     assert (str(fault.value), taken.getvalue()) == (f"{path}: {line}", SCRIPT + b"stream\n" + (10 * PACKET)[:500])

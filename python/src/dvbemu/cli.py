@@ -144,7 +144,7 @@ def over_files(words: tool.Command, given: Namespace, word: str) -> int:
         run, work = started(plain(word, given)), progress.Work(files, "")
         progress.show_beside(words.teller, work.text)
         status = run.feed(kept_head(inputs.session_pieces(files), kept, work))
-    except inputs.Broken as fault:
+    except inputs.InputError as fault:
         return words.fail(fault)
     progress.end()
     if status == standard.WRITE_FAULT and standard.reader_is_gone():
@@ -191,7 +191,7 @@ def check_files(words: tool.Command, given: Namespace) -> int:
         work.begin("checking")
         progress.show(words.teller, work.text)
         status = run.feed([b"report %d\n" % len(text), text, behind])
-    except inputs.Broken as fault:
+    except inputs.InputError as fault:
         return words.fail(fault)
     progress.end()
     sys.stdout.buffer.write(run.output)

@@ -79,7 +79,7 @@ def of_line(kind: str, line: bytes, number: int, names: Sequence[str]) -> str:
     words = text.split(" ")
     try:
         plain = naming.plain_line(text.removeprefix("" if number > 1 else naming.MARK))
-    except naming.Fault:
+    except naming.WordError:
         plain = text
     if plain != text and is_plain(plain):
         return words_of(names, plain)

@@ -81,7 +81,7 @@ def served(words: tool.Command, files: Sequence[inputs.Input], texts: Sequence[b
         report = reports.read(reports.text_of(io.BytesIO(texts[0])))
         script, _ = sessions.script_in(words, files[0].name, report)
         return b"".join(["\n".join([*script, ""]).encode(), LINE, *played.packets_of(texts[1], report)])
-    except reports.NotAReport as wrong:
+    except reports.ReportError as wrong:
         words.fail_on(files[0].name, wrong)
     except played.NotPlayed as wrong:
         words.fail_on(files[1].name, wrong)
@@ -210,7 +210,7 @@ def main() -> int:
             words.tell_waiting()
         progress.show(words.teller, progress.Work(files, "comparing").text)
         both = compared(words, given, files)
-    except inputs.Broken as fault:
+    except inputs.InputError as fault:
         words.fail(fault)
     if isinstance(both, int):
         return both

@@ -116,7 +116,7 @@ def main() -> None:
     given = words.parse_args()
     try:
         report = reports.read(reports.text_of(words.opened(given.report)))
-    except (reports.NotAReport, OSError) as wrong:
+    except (reports.ReportError, OSError) as wrong:
         words.fail_on(given.report, wrong)
     node = chosen(words, given, report)
     tell_refused(words, report, node)

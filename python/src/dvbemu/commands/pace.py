@@ -14,7 +14,7 @@ import time
 from typing import TYPE_CHECKING
 
 from .. import tool
-from ..stream.pace import NoClock, timed
+from ..stream.pace import ClockError, timed
 
 if TYPE_CHECKING:
     from typing import BinaryIO, Iterable, Iterator
@@ -74,7 +74,7 @@ def main() -> None:
     try:
         with words.opened(given.stream) as file:
             write(timed(chunks_of(file), given.pid), given.rate, sys.stdout.buffer)
-    except NoClock:
+    except ClockError:
         of = "" if given.pid is None else f" on PID {given.pid}"
         words.fail_on(given.stream, f"fewer than two PCRs{of}, so it has no usable clock")
     except OSError as wrong:

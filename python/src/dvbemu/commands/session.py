@@ -225,7 +225,7 @@ def report_in(words: tool.Command, name: str) -> Report:
     try:
         with words.opened(name) as file:
             report = reports.read(reports.text_of(file))
-    except reports.NotAReport as wrong:
+    except reports.ReportError as wrong:
         words.fail_on(name, f"not a report: {wrong}")
     except OSError as fault:
         words.fail_on(name, fault)

@@ -14,6 +14,7 @@ from .. import child
 from .. import inputs
 from .. import standard
 from .. import tool
+from ..errors import Error
 from ..linux.beside import Beside, events_here
 from ..linux.session import Session
 
@@ -24,7 +25,7 @@ if TYPE_CHECKING:
 SHOWN = 100
 
 
-class Failed(Exception):
+class TestError(Error):
     """Why a test has failed."""
 
 
@@ -42,8 +43,8 @@ class Test(NamedTuple):
             names = [path for path in (self.path + ".script", self.path + ".ts") if os.path.exists(path)]
         try:
             return b"".join(inputs.session_pieces(inputs.opened(names)))
-        except inputs.Broken as fault:
-            raise Failed(str(fault)) from None
+        except inputs.InputError as fault:
+            raise TestError(str(fault)) from None
 
     def kept(self) -> bytes | None:
         """The report that was kept; None where there is none."""
@@ -53,7 +54,7 @@ class Test(NamedTuple):
         except FileNotFoundError:
             return None
         except OSError as fault:
-            raise Failed(f"{fault.filename}: {fault.strerror}") from None
+            raise TestError(f"{fault.filename}: {fault.strerror}") from None
 
     def packet(self) -> int:
         """What a packet takes up in the stream."""
@@ -72,7 +73,7 @@ class Test(NamedTuple):
         except FileNotFoundError:
             return set()
         except OSError as fault:
-            raise Failed(f"{fault.filename}: {fault.strerror}") from None
+            raise TestError(f"{fault.filename}: {fault.strerror}") from None
 
 
 def command() -> tool.Command:
@@ -134,10 +135,10 @@ def ended(word: str, status: int, told: bytes) -> str:
 def written_by(program: str, test: Test, session: bytes) -> bytes:
     """The report that a test's session gives."""
     if test.words[0] not in ("steps", "run"):
-        raise Failed(f"{test.path}.words: expected steps or run, found {test.words[0]}")
+        raise TestError(f"{test.path}.words: expected steps or run, found {test.words[0]}")
     ran = child.ran([program, *test.words], [session])
     if ran.returncode:
-        raise Failed(ended(" ".join(test.words), ran.returncode, ran.stderr))
+        raise TestError(ended(" ".join(test.words), ran.returncode, ran.stderr))
     return ran.stdout
 
 
@@ -147,7 +148,7 @@ def checked(program: str, test: Test, session: bytes, report: bytes) -> tuple[bo
     asked = b"report %d\n" % len(report), report, session
     ran = child.ran([program, *words], asked)
     if ran.returncode or ran.stdout not in (b"yes\n", b"no\n"):
-        raise Failed(ended("check", ran.returncode, ran.stderr))
+        raise TestError(ended("check", ran.returncode, ran.stderr))
     return ran.stdout == b"yes\n", ran.stderr
 
 
@@ -180,7 +181,7 @@ def keep(path: str, report: bytes) -> None:
         with open(path, "wb") as file:
             file.write(report)
     except OSError as fault:
-        raise Failed(f"{path}: {fault.strerror}") from None
+        raise TestError(f"{path}: {fault.strerror}") from None
 
 
 def on_linux(program: str, test: Test, session: bytes, report: bytes) -> str:
@@ -211,7 +212,7 @@ def tried(program: str, test: Test, is_updated: bool, asks_linux: bool) -> str:
             keep(test.path + ".report", report)
             return f"+updated: {told}"
         return f"-{told}" if kept is not None else f"-{told}: --update writes {test.path}.report"
-    except Failed as why:
+    except TestError as why:
         return f"-{why}"
     except OSError as fault:
         return f"-{standard.told_of(fault)[0]}"
@@ -224,7 +225,7 @@ def tell_jobs(words: tool.Command, given: Namespace) -> int:
     from .. import joblog  # pylint: disable=import-outside-toplevel
     try:
         jobs = joblog.read(words.bytes_of(given.jobs).decode(errors="replace"))
-    except joblog.NotALog as wrong:
+    except joblog.JobLogError as wrong:
         words.fail_on(given.jobs, wrong)
     print(f"1..{len(jobs)}")
     for number, job in enumerate(jobs, 1):

@@ -45,7 +45,7 @@ def main() -> None:
     script, behind = cut(words.bytes_of(given.script))
     try:
         plain = naming.plain_script(script)
-    except naming.Fault as fault:
+    except naming.WordError as fault:
         words.exit(3, f"{words.prog}: {fault.text()}\n")
     sys.stdout.buffer.write(plain + behind)
     sys.stdout.flush()

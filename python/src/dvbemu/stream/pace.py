@@ -9,6 +9,7 @@ from __future__ import annotations
 
 from typing import TYPE_CHECKING
 
+from ..errors import Error
 from .packets import PACKET, SYNC, discontinuity, pcr_of, pid_of
 
 if TYPE_CHECKING:
@@ -19,7 +20,7 @@ WRAP = 2**33 * 300
 LONGEST, SILENT = 10 * TICKS, 100_000 * PACKET
 
 
-class NoClock(Exception):
+class ClockError(Error):
     """A stream that has fewer than two PCRs of one PID."""
 
 
@@ -62,12 +63,12 @@ def pieces(chunks: Iterable[bytes]) -> Iterator[bytes]:
 
 def timed(stream: Iterable[bytes], pid: int | None = None) -> Iterator[tuple[float, bytes]]:
     """The pieces of a stream, which comes in chunks, each with the second from the first PCR at which it is due, which is below 0 in front of
-    that. Raises NoClock, before the first piece, where the stream has fewer than two PCRs of one PID, or of the one that is named."""
+    that. Raises ClockError, before the first piece, where the stream has fewer than two PCRs of one PID, or of the one that is named."""
     timer = Timer(pid)
     for piece in pieces(stream):
         yield from timer.take(piece)
     if timer.pace.seconds is None:
-        raise NoClock
+        raise ClockError
     yield from timer.given(timer.pace.seconds)
 
 
