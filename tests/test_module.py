@@ -81,7 +81,7 @@ MISTYPED = [
     (lambda demux: demux.client.script.feed(1.0), "packets: a whole number is expected, got 1.0"),
     (lambda demux: demux.set_filter(0, version_number=b"3"), "version_number: a whole number, or a string such as '!=3' or '0x40/0xf0', is expected, got b'3'"),
     (lambda demux: dvbemu.steps(5, STREAM), "script: a Script, a file name or a bytes object is expected, got 5"),
-    (lambda demux: dvbemu.steps(demux.client.script, [STREAM]), f"stream: a file name or a bytes object is expected, got [{STREAM!r}]"),
+    (lambda demux: dvbemu.steps(demux.client.script, ["my.ts"]), "stream: a file name or a bytes object is expected, got ['my.ts']"),
     (lambda demux: dvbemu.run(demux.client.script, STREAM, batch="64"), "batch: a whole number is expected, got '64'"),
     (lambda demux: dvbemu.steps(demux.client.script, STREAM, packet=None), "packet: a whole number is expected, got None"),
     (lambda demux: dvbemu.check("dvbemu 1", demux.client.script), "report: a Report or a bytes object is expected, got 'dvbemu 1'"),
@@ -314,7 +314,7 @@ def test_fault_of_a_script():
     with pytest.raises(dvbemu.ScriptError, match="script line 2: command") as error:
         dvbemu.steps(b"c0 open n0\nc0 foo n0\n", STREAM)
     assert error.value.status == 3
-    assert str(error.value) == error.value.stderr.strip()
+    assert error.value.stderr == f"dvbemu: {error.value}\n"
 
 
 def test_text_that_is_no_report():

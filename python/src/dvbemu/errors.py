@@ -11,7 +11,7 @@ class ProgramError(Error):
     """A program of dvbemu failed: its exit status, and what it wrote on standard error."""
 
     def __init__(self, status: int, stderr: str) -> None:
-        super().__init__(stderr.strip() or f"the program ended with status {status}")
+        super().__init__(stderr.strip().removeprefix("dvbemu: ") or f"the program ended with status {status}")
         self.status, self.stderr = status, stderr
 
 
