@@ -250,7 +250,7 @@ def test_a_report_and_its_session(room, number):
 
 def test_a_report_of_another_session(room):
     room.write({"my.session": bytes(TWO.input), "my.report": second.report(UNDEFINED, 64).encode()})
-    wrong = "dvbemu beside: my.report: it isn't the report of `steps` over this session; without it the session alone is compared\n"
+    wrong = "dvbemu beside: my.report: not the report of `steps` over this session; leave it out to compare the session alone\n"
     assert room.run("beside my.report my.session") == (1, b"", wrong)
 
 

@@ -114,12 +114,12 @@ class Counted(io.FileIO):
         return count
 
 
-def reading(words: Command, name: str | None, what: str) -> BinaryIO:
-    """The file of this name, or standard input, as `words.opened` gives it, with a line that tells how far its reading is, and that `what` is
+def reading(parser: Command, name: str | None, what: str) -> BinaryIO:
+    """The file of this name, or standard input, as `parser.opened` gives it, with a line that tells how far its reading is, and that `what` is
     done behind it."""
-    file = words.opened(name)
+    file = parser.opened(name)
     if not is_terminal(sys.stderr):
         return file
     counted = Counted(file, what)
-    show(words.teller, counted.work.text)
+    show(parser.teller, counted.work.text)
     return io.BufferedReader(counted, 1 << 20)

@@ -3,10 +3,10 @@
 The folder has a file N.calls for each seat, with a line for each call: its node, and then the line that the report has of it. The file
 `batches` has a line for each batch that passed all nodes: the number of its first packet, how many packets it has, and the moment. `head`
 is a report of the stream alone. A client's commands aren't there, since its calls tell them: a search for a free node is a command, what
-the dvr node is told of a tap belongs to the call before it, and each other call is a command of its own.
+the dvr node gets a tap belongs to the call before it, and each other call is a command of its own.
 
 The report is written as it comes, and no file is held in memory; each is read once for the commands, and once more for each node that was
-called. Where the server hasn't ended, or a line is missing, torn or wrong, that is told on standard error, and the status is 1; what was
+called. Where the server hasn't ended, or a line is missing, incomplete or wrong, that is reported on standard error, and the status is 1; what was
 written until then is no report.
 """
 from __future__ import annotations
@@ -184,8 +184,8 @@ class Folder:
 
 
 def command() -> tool.Command:
-    """The command and its words."""
-    words = tool.Command(
+    """The command line."""
+    parser = tool.Command(
         "merge",
         "FOLDER",
         "Makes a report from the calls that `serve --keep FOLDER` has written.",
@@ -194,17 +194,17 @@ def command() -> tool.Command:
         status="0; 1 if a file can't be read, a line is missing, torn or wrong, or the server is still running; 2 for a usage error",
         example="dvbemu merge calls > my.report",
     )
-    words.add_argument("folder", metavar="FOLDER", help="the folder")
-    return words
+    parser.add_argument("folder", metavar="FOLDER", help="the folder")
+    return parser
 
 
 def main() -> None:
     """Writes the report."""
-    words = command()
-    given = words.parse_args()
+    parser = command()
+    args = parser.parse_args()
     try:
-        sys.stdout.writelines(Folder(given.folder).report())
+        sys.stdout.writelines(Folder(args.folder).report())
     except OSError as fault:
-        words.fail_on(fault.filename or given.folder, fault)
+        parser.fail_on(fault.filename or args.folder, fault)
     except (MergeError, UnicodeDecodeError, ValueError) as fault:
-        words.fail(str(fault))
+        parser.fail(str(fault))
