@@ -23,7 +23,7 @@ if TYPE_CHECKING:
     from . import inputs
     from . import progress
 
-ABOUT = "/dev/dvb/adapter0 without a card: DVB programs, or their calls as lines, on a recording."
+ABOUT = "/dev/dvb/adapter0 without a card: runs DVB programs, or scripts of their calls, on a recording."
 ABOVE = "Proved, by the toolchain that --version names (docs/PROVED.md):"
 BELOW = "`dvbemu WORD --help` has files, options, exit statuses and an example. `dvbemu --version` prints the version."
 BATCH, PACKET = "[--batch B]", "[--packet P]"
@@ -61,10 +61,10 @@ MOVED = {
 }
 STATUSES = "0; 1 if {}a file can't be read; 2 for a usage error; 3 if the script has an error; 5 to 7 if reading, writing or " \
     "memory failed (docs/BEHAVIOUR.md, 'Statuses'); 128 plus the number of a signal that ended the program"
-READS = "{}a script, or a session with its stream, then more streams; a script without its line `stream` gets it " \
-    "before the first stream. A file may be `-`, standard input. "
-ALONE = "Without files the session is read from standard input"
-ASKED = "Without files standard input has the line `report N`, a report of N bytes, and its session; the status is then 0 for `no` too"
+READS = "{}a script and its streams, or a session, which holds its stream; the line `stream` is added to a script that has none. " \
+    "A file may be `-`, standard input. "
+ALONE = "Without files, the session is read from standard input"
+ASKED = "Without files, standard input is the line `report N`, a report of N bytes, and its session; the status is then 0 for `no`, too"
 
 
 def whole_help() -> str:

@@ -94,7 +94,7 @@ def overview() -> str:
     """The page of all words."""
     words = [f".PP\n{plain(cli.ABOVE)}", *map(item, cli.PROVED), ".PP\nTested:", *map(item, cli.TOOLS)]
     return "".join([
-        head("dvbemu", "/dev/dvb/adapter0 without a card, for tests"), section("SYNOPSIS", ".B dvbemu", "WORD .."),
+        head("dvbemu", "emulates /dev/dvb/adapter0, without a card"), section("SYNOPSIS", ".B dvbemu", "WORD .."),
         section("DESCRIPTION", plain(cli.ABOUT)), section("COMMANDS", *words),
         section("OPTIONS", ".TP\n.B \\-\\-help\nshow the commands; after a command, its help", ".TP\n.B \\-\\-version\nthe version, and what proved it"),
         section("EXIT STATUS", *statuses(cli.STATUSES.format(""))),

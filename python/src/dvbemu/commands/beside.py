@@ -45,7 +45,7 @@ def command() -> tool.Command:
     parser = tool.Command(
         "beside",
         "[--batch B] [--packet P] [--hz HZ] [--json] [SESSION | SCRIPT STREAM .. | REPORT SESSION]",
-        "Plays a session by the rules of Linux 6.1 too, and shows line by line which replies would differ, with the rows of docs/KERNEL.md.",
+        "Runs a session also by the rules of Linux 6.1, and shows line by line which replies differ, and by which row of docs/KERNEL.md.",
         reads="a session, or a script and its streams, like `steps`; or a report of `steps` and its session, with the report's batch size; "
         "or a report of `serve` and what was played, with the lines of `dvbemu session`. A file may be `-`; without files the session is "
         "read from standard input",

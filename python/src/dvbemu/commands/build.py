@@ -12,7 +12,7 @@ def command() -> tool.Command:
         "PROGRAM ..",
         "Proves and builds a program in advance: dvbemu, or dvb_serve, the server of `serve`.",
         reads="the crates of this repository; the toolchain's command rt has to be in the PATH",
-        writes="the path of each program; on standard error how far it is",
+        writes="the path of each program; on standard error its progress",
         status="0 if the programs are built; 1 if they can't be; 2 for a usage error",
         example="dvbemu build dvbemu dvb_serve",
     )

@@ -210,7 +210,7 @@ def command() -> tool.Command:
     parser = tool.Command(
         "calls",
         "[--plain] [--to FILE] [--demux PATH] [--dvr PATH] PROGRAM ARGUMENT ..",
-        "Runs a program on an adapter and writes its calls on demux and dvr devices as a script (x86-64 Linux).",
+        "Runs a program on a real adapter and writes its calls on demux and dvr devices as a script (x86-64 Linux).",
         reads="the program's calls; its standard input is the program's",
         writes="the script, which ends with the line `stream`, into FILE or on standard output",
         status="that of the program, 128 plus the signal's number if one ended it; 127 if it doesn't exist; 1 if FILE "

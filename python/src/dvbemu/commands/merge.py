@@ -190,8 +190,8 @@ def command() -> tool.Command:
         "FOLDER",
         "Makes a report from the calls that `serve --keep FOLDER` has written.",
         reads="FOLDER, whose server has ended",
-        writes="the report, as it comes; what was written before an error is no report",
-        status="0; 1 if a file can't be read, a line is missing, torn or wrong, or the server is still running; 2 for a usage error",
+        writes="the report; after an error, what was written is incomplete",
+        status="0; 1 if a file can't be read, a line is missing, incomplete or wrong, or the server is still running; 2 for a usage error",
         example="dvbemu merge calls > my.report",
     )
     parser.add_argument("folder", metavar="FOLDER", help="the folder")

@@ -35,7 +35,7 @@ def command() -> tool.Command:
     parser = tool.Command(
         "pace",
         "[--rate R] [--pid P] [STREAM]",
-        "Writes a stream at the pace of its program clock (PCR), so that `run` meets it as a receiver would.",
+        "Writes a stream at the pace of its program clock (PCR), so that `run` gets it as from a broadcast.",
         reads="a transport stream, from the file STREAM; without it, or with `-`, from standard input",
         writes="the same bytes, each when it is due",
         status="0; 1 if STREAM can't be read or has fewer than two PCRs; 2 for a usage error",

@@ -32,10 +32,10 @@ def command() -> tool.Command:
         status="0; 1 if no packets can hold these bytes; 2 for a usage error",
         example="dvbemu packet --raw 0 0 section 00b000 0001 c10000 0001e100 > pat.ts",
     )
-    parser.add_argument("--raw", action="store_true", help="writes the packets themselves")
-    parser.add_argument("--start", action="store_true", help="a section or a PES packet begins in the payload")
+    parser.add_argument("--raw", action="store_true", help="write the packets themselves")
+    parser.add_argument("--start", action="store_true", help="set payload_unit_start_indicator, since a section or a PES packet begins here")
     parser.add_argument("pid", metavar="PID", type=tool.number(0, LAST_PID), help=f"the PID, 0 to {LAST_PID}, or 0x..")
-    parser.add_argument("counter", metavar="COUNTER", type=tool.number(0, 15), help="continuity_counter of the first, 0 to 15; it rises")
+    parser.add_argument("counter", metavar="COUNTER", type=tool.number(0, 15), help="continuity_counter of the first packet, 0 to 15; each next one has 1 more")
     parser.add_argument("kind", metavar="KIND", choices=["payload", "section"], help="payload: 1 to 184 bytes, one packet; section: from its "
                        "table_id on and without its CRC_32")  # fmt: skip
     parser.add_argument("bytes", metavar="BYTES", nargs="+", help="hexadecimal digits, with or without blanks between bytes")

@@ -209,7 +209,7 @@ def command() -> tool.Command:
         "session",
         "[--report] REPORT STREAM",
         "Turns a `serve` report into a session that replays it without the programs.",
-        reads="REPORT, as `serve` wrote it, and STREAM, what was played; one of them may be `-`, standard input",
+        reads="REPORT, as `serve` wrote it, and STREAM, the recording that was played; one of them may be `-`, standard input",
         writes="the session: the script of the programs' calls, and then the packets",
         status="0; 1 if a file can't be read, REPORT isn't from `serve`, or STREAM isn't what was played; 2 for a usage error",
         example="dvbemu session my.report my.ts > my.session; dvbemu steps my.session > again.report",
