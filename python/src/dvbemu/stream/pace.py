@@ -69,7 +69,7 @@ def timed(stream: Iterable[bytes], pid: int | None = None) -> Iterator[tuple[flo
         yield from timer.take(piece)
     if timer.pace.seconds is None:
         raise ClockError
-    yield from timer.given(timer.pace.seconds)
+    yield from timer.due(timer.pace.seconds)
 
 
 class Timer:
@@ -87,12 +87,12 @@ class Timer:
         if pcr is not None and self.pace.takes(piece, pcr, self.behind):
             self.ahead, self.behind = self.behind if is_first else self.ahead, 0
             if self.pace.seconds is not None:
-                yield from self.given(self.pace.seconds)
+                yield from self.due(self.pace.seconds)
         self.waiting.append(piece)
         self.behind += len(piece)
 
-    def given(self, seconds: float) -> Iterator[tuple[float, bytes]]:
-        """The pieces that wait, where a byte takes so many seconds."""
+    def due(self, seconds: float) -> Iterator[tuple[float, bytes]]:
+        """The waiting pieces, each with the time at which it is due, if a byte takes this many seconds."""
         for piece in self.waiting:
             yield -self.ahead * seconds if self.ahead else self.at, piece
             if self.ahead:
