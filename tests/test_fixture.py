@@ -187,7 +187,7 @@ def test_replay(tmp_path):
     assert status == 1 and "1 passed" in told and "1 failed" in told, told
     (report,) = kept(tmp_path)
     assert report.text == (EXAMPLES / "rules" / "overflow.report").read_bytes()
-    assert re.search("- dvb_replay -+\n  Client 0, line .*n0: reads got.*\n(?s:.*)\nReport: .*\n\nThe stream\n", told), told
+    assert re.search("- dvb_replay -+\n  Client 0, line .*n0: an Overflow: .*\n(?s:.*)\nReport: .*\n\nThe stream\n", told), told
 
 
 def by_pytest(folder, *words, **variables):
