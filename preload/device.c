@@ -208,8 +208,8 @@ static void close_node(struct at at)
 }
 
 /*
- * No descriptor of the device is left, in any process: its node is closed, by the first one that sees it. Where this process has
- * lost its own end, past the preload, it knows nothing of others.
+ * No process has a descriptor of the device any more: the first process that notices closes its node. If this process lost its own
+ * descriptors past the preload, it can't know about other processes.
  */
 static void end(struct at at, int is_over)
 {
@@ -226,7 +226,7 @@ static void end(struct at at, int is_over)
 	*mine = nothing;
 }
 
-/* whether a device is open that this process hasn't */
+/* whether the device at this place is open, but not in this process */
 int is_others(struct line *line, int place)
 {
 	struct device *device = &line->table->devices[place];

@@ -269,7 +269,7 @@ static int begin(void)
 	return runs;
 }
 
-/* sees that somebody watches, and that what has changed is seen */
+/* makes sure that the watching thread runs, and that it notices what has changed */
 void watch(void)
 {
 	HOLD_OWN();

@@ -84,7 +84,7 @@ def run_here(*argv: str, stdin: bytes | str = b"") -> Result:
         sys, argv=[], stdin=io.TextIOWrapper(given, "utf-8"), stdout=io.TextIOWrapper(out, "utf-8", "surrogateescape"),
         stderr=io.TextIOWrapper(err, "utf-8", "backslashreplace", write_through=True),
     ):
-        status = standard.status_of(command_line.teller_of(argv), command_line.main, *argv)
+        status = standard.status_of(command_line.prog_of(argv), command_line.main, *argv)
     # (some commands leave what they have made to the end of their process)
     gc.enable()
     return Result(status or 0, *(end.getvalue().decode(errors="surrogateescape") for end in (out, err)))

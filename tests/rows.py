@@ -226,7 +226,7 @@ def run_wrong(program, session, words):
         if words.startswith("steps") and session.rows:
             try:
                 yield from replies_wrong(session, reports.read(io.StringIO(ran.output.decode())))
-            except reports.NotAReport as fault:
+            except reports.ReportError as fault:
                 yield first, "a report", fault
         if ran.status == "ok" and (said := ask(program, words, ran.output, given).status) != "ok":
             yield first, "check: ok", said

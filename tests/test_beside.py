@@ -250,7 +250,7 @@ def test_a_report_and_its_session(room, number):
 
 def test_a_report_of_another_session(room):
     room.write({"my.session": bytes(TWO.input), "my.report": second.report(UNDEFINED, 64).encode()})
-    wrong = "dvbemu beside: my.report: it isn't the report of `steps` over this session; without it the session alone is compared\n"
+    wrong = "dvbemu beside: my.report: not the report of `steps` over this session; leave it out to compare the session alone\n"
     assert room.run("beside my.report my.session") == (1, b"", wrong)
 
 
@@ -259,7 +259,7 @@ def test_a_served_report(files_room):
 
 
 @pytest.mark.parametrize("line, wrong", [
-    ("beside report recording", "dvbemu beside: report: not a report of `serve`"), ("beside served big", "dvbemu beside: served: it isn't the report"),
+    ("beside report recording", "dvbemu beside: report: not a report of `serve`"), ("beside served big", "dvbemu beside: served: not the report"),
     ("beside --hz 999 session", "dvbemu beside: error: argument --hz: invalid choice"), ("beside --batch 65 session", "dvbemu beside: error: argument --batch"),
 ])  # fmt: skip
 def test_what_is_refused(files_room, line, wrong):
@@ -304,9 +304,9 @@ def test_the_module(monkeypatch):
     loaded = dvbemu.Report.parse(report.text)
     assert not loaded.same_on_linux(bytes(TWO.input))
     assert dvbemu.Report.parse(SERVED.read_bytes()).same_on_linux(STREAM)
-    with pytest.raises(ValueError, match="has to be named"):
+    with pytest.raises(ValueError, match="name the report.s session"):
         loaded.same_on_linux()
-    with pytest.raises(dvbemu.Failed, match="it isn't the report"):
+    with pytest.raises(dvbemu.ProgramError, match="not the report"):
         loaded.same_on_linux(UNDEFINED)
 
 
@@ -339,4 +339,4 @@ def test_an_adapter():
     with dvbemu.serve(STREAM, packets=3000) as adapter:
         adapter.run(["head", "-c", "1", "/dev/dvb/adapter0/demux0"], stdin=subprocess.DEVNULL, timeout=60, check=False)
     assert adapter.report.node("n0").calls() and adapter.report.same_on_linux()
-    assert dvbemu.serve(tune={"474000000": STREAM}).played is None
+    assert dvbemu.serve(tune={"474000000": STREAM}).recording is None

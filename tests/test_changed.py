@@ -1,8 +1,8 @@
-"""What reads a report, over lawful and changed reports: explain, with the stream too, picture, page, and json there and back.
+"""What reads a report, over valid and changed reports: explain, with the stream too, picture, page, and json there and back.
 
 The reports are those of sessions of oracle/fuzz.py, by the plain second program, and changed ones, each with one to three changes of
 oracle/changes.py, or with another number, line or word; CHANGED_COUNT and CHANGED_FIRST in the environment name how many and the first of
-their seeds, 200 and 1 without. Over a lawful report each tool gives its answer. Over a changed one it does, or it names the line that is
+their seeds, 200 and 1 without. Over a valid report each tool gives its answer. Over a changed one it does, or it names the line that is
 wrong; nothing else may come of it. What the reader takes is a report for the program's `check` too, and what it refuses is none there
 either, but for what docs/BEHAVIOUR.md rules out and `check` tells as another fault; of more than 200 it is asked about each twentieth.
 """
@@ -94,7 +94,7 @@ end
 
 
 @lru_cache(32)
-def lawful(seed):
+def valid(seed):
     """A session with a script without a fault, and its report."""
     while True:
         made, batch, packet = fuzz.session(seed)
@@ -135,8 +135,8 @@ def by_changes(rng, text):
     change = rng.choices(list(changes.CHANGES), list(changes.CHANGES.values()))[0]
     try:
         return (change(rng, text) or (text, None))[0]
-    except (reports.NotAReport, LookupError, ValueError):
-        # (they are made for lawful reports, and this one may be changed already)
+    except (reports.ReportError, LookupError, ValueError):
+        # (they are made for valid reports, and this one may be changed already)
         return text
 
 
@@ -151,7 +151,7 @@ def changed(seed, text):
 @lru_cache(32)
 def made_of(seed):
     """A session, its report, and that one changed."""
-    session, report = lawful(1 + seed // EACH)
+    session, report = valid(1 + seed // EACH)
     return session, report, changed(seed, report)
 
 
@@ -183,13 +183,13 @@ def fault_of(make, *given):
     """What a tool makes, and None; or nothing, and what it tells of the text."""
     try:
         return make(*given), None
-    except (reports.NotAReport, objects.NoObjects, played.NotPlayed) as fault:
+    except (reports.ReportError, objects.JsonError, played.NotPlayed) as fault:
         return None, str(fault)
 
 
 @pytest.mark.parametrize("tool", TOOLS)
 @pytest.mark.parametrize("seed", [seed for seed in SEEDS if seed % EACH == 0])
-def test_lawful(seed, tool):
+def test_valid(seed, tool):
     session, report, _ = made_of(seed)
     made, fault = fault_of(TOOLS[tool], report, session)
     assert fault is None and made is not None

@@ -209,7 +209,7 @@ def test_full_file(shell, line):
 
 
 def test_report_that_cannot_be_kept():
-    with pytest.raises(tests_word.Failed, match=f"^/dev/full: {FULL}$"):
+    with pytest.raises(tests_word.TestError, match=f"^/dev/full: {FULL}$"):
         tests_word.keep("/dev/full", b"x")
 
 

@@ -1,7 +1,7 @@
 """The words of `dvbemu` that take files: steps, run, check, bytes and test.
 
 Over the sessions of examples/, cut into a script and a stream in each way, what comes of the files is what comes of the session. A file that
-is broken is told by its name, and nothing is written; a script's fault that `words` knows is told so. `bytes` writes what a script of one
+is broken is named, and nothing is written; a script's fault that `words` knows is told so. `bytes` writes what a script of one
 read gives, and `test` tells what differs."""
 import io
 import os
@@ -146,7 +146,7 @@ def test_likely(room, files, likely):
     assert room.run(f"check report {files}") == (0, b"yes\n", likely)
 
 
-# ------ a file that ends in the middle of a read, or can't be read, is told by its name; then nothing is written
+# ------ a file that ends in the middle of a read, or can't be read, is named; then nothing is written
 
 
 class Shortened(inputs.Input):
@@ -170,7 +170,7 @@ class Shortened(inputs.Input):
 def test_broken(room, fails, line):
     room.write({"script": SCRIPT, "stream": 10 * PACKET})
     path, taken = str(room.folder / "stream"), io.BytesIO()
-    with pytest.raises(inputs.Broken) as fault:
+    with pytest.raises(inputs.InputError) as fault:
         for piece in inputs.session_pieces([inputs.Input(str(room.folder / "script")), Shortened(path, 500, fails)]):
             taken.write(piece)
     assert (str(fault.value), taken.getvalue()) == (f"{path}: {line}", SCRIPT + b"stream\n" + (10 * PACKET)[:500])
@@ -281,7 +281,7 @@ def test_test_update(room, tests):
     lines = f"1..3\nok 1 - right\nok 2 - threads\n# updated: there is no report\nok 3 - wrong\n# updated: {WRONG}\n"
     assert room.run("test --update t") == (0, lines.encode(), "")
     assert room.read("t/wrong.report") == tests
-    # (a lawful report of threads that isn't the one of this run is right)
+    # (another valid report of threads passes too)
     room.write({"t/threads.report": room.run("steps --batch 2 t/threads.script t/threads.ts").out})
     assert room.run("test t")[:2] == (0, b"1..3\nok 1 - right\nok 2 - threads\nok 3 - wrong\n")
 

@@ -1,11 +1,12 @@
-"""The tests of examples/tests, which are those of a real program, dvbv5-scan: by pytest, with the fixture of the module, and in C and as a
-shell script, by ctest and by meson, two at a time; where pytest knows no workers two of it run side by side. They pass over the recording
-that is there; where a service is wanted that it hasn't, each fails, says which, tells its report in sentences, with all of its hints, and
-keeps it. Then tests are killed, each alone and with all that it has started, and by ctest and meson at the end of their time: no process,
-pipe or folder is left.
+"""The fixtures for pytest, and the tests of examples/tests, which are those of a real program, dvbv5-scan: by pytest, and in C and as a
+shell script by ctest and meson, two at a time. They pass over the recording that is there. If a service is expected that the recording
+doesn't have, each fails, names it, shows its report in sentences, with all hints, and saves it. Then tests are killed, each alone and
+with all that it has started, and by ctest and meson at their timeout: no process, pipe or folder is left.
 """
 import concurrent.futures
 import os
+import re
+import shutil
 import signal
 import subprocess
 import sys
@@ -29,33 +30,54 @@ import pytest
 def test_ends_never(dvb_adapter):
     dvb_adapter.run(["sh", "-c", {ENDLESS!r}])
 """
-# A report of more sentences than a failing test shows, by pytest: what is cut, and that the hints aren't.
-HINTED = f"""\
+# What a failing test shows of a report: hints first and whole, then the file, then at most 80 lines of sentences.
+SHOWN = f"""\
 import dvbemu
 from dvbemu import pytest_plugin
 
-class Told:
-    def __init__(self, count):
-        self.count = count
-    def save(self, path):
-        pass
-    def explain(self):
-        return "".join(f"line {{number}}\\n" for number in range(self.count)) + "\\nHints\\n\\n  One.\\n\\n  The last.\\n"
-
 def shown(count, left):
-    told = pytest_plugin.kept_one(Told(count), "kept").split("\\n")
-    lines = ["The report is kept: kept", *(f"line {{number}}" for number in range(min(count, 80))), *left]
-    assert told == [*lines, "", "Hints", "", "  One.", "", "  The last."]
+    text = "".join(f"line {{number}}\\n" for number in range(count)) + "\\nHints\\n\\n  One.\\n\\n  The last.\\n"
+    lines = ["  One.", "", "  The last.", "", "Report: saved", "", *(f"line {{number}}" for number in range(min(count, 80))), *left]
+    assert pytest_plugin.shown(text, "saved").split("\\n") == lines
 
 def test_cut():
     shown(80, [])
-    shown(81, [".. 1 line more: dvbemu explain kept"])
-    shown(85, [".. 5 lines more: dvbemu explain kept"])
+    shown(81, [".. 1 line more: dvbemu explain saved"])
+    shown(85, [".. 5 lines more: dvbemu explain saved"])
 
 def test_report(tmp_path):
     report = dvbemu.Report.load({str(EXAMPLES / "rules" / "full-set.report")!r})
-    told = pytest_plugin.kept_one(report, str(tmp_path / "kept"))
-    assert " lines more: dvbemu explain " in told and "of which the stream has no packet." in told
+    text = pytest_plugin.saved_one(report, str(tmp_path / "saved"))
+    assert text.startswith("  Client 0, line 3, n0: the filter asks for PIDs") and " lines more: dvbemu explain " in text
+    assert text.index("of which the stream has no packet.") < text.index("Report: ") < text.index("The stream")
+"""
+# Tests of a file that share an adapter: both find it, and one fails when the file's tests are done; in a subfolder, with settings.
+SHARED = """\
+import pytest
+
+folders = []
+
+@pytest.mark.parametrize("number", [1, 2])
+def test_shared(dvb_module_adapter, number):
+    folders.append(dvb_module_adapter.env["DVBEMU_DIR"])
+    dvb_module_adapter.run(["sh", "-c", "exec 3< /dev/dvb/adapter0/demux0"], check=True, timeout=60)
+    assert len(set(folders)) == 1
+    assert number == 1
+
+def test_own(dvb_adapter):
+    assert dvb_adapter.env["DVBEMU_DIR"] not in folders
+"""
+# Tests of a session file, of which one fails: its third packet doesn't fit (examples/rules/overflow.txt).
+REPLAYED = """\
+import dvbemu, pytest
+
+pytestmark = pytest.mark.dvb_session("copy.session", batch=1)
+
+def test_loss(dvb_replay):
+    assert dvb_replay.node("n0").losses() == [dvbemu.Overflow((0, 564), 2, 188, 0)]
+
+def test_that_fails(dvb_replay):
+    assert dvb_replay.node("n0").losses() == []
 """
 # So many channels, 8 MHz each, are scanned by a test whose time ends.
 CHANNELS = 40
@@ -85,7 +107,8 @@ def fails_well(status, told, folder, count):
     assert status != 0
     assert LACKS in told, told
     assert "257" in told.split(LACKS, 1)[1].split("\n", 1)[0]
-    assert "The report is kept: " in told and "sets a section filter on n0" in told
+    assert "Report: " in told or "The report is kept: " in told
+    assert "sets a section filter on n0" in told
     reports = kept(folder)
     assert len(reports) == count
     assert all(report.nodes for report in reports)
@@ -130,11 +153,41 @@ def test_command():
     assert os.access(SERVED, os.X_OK)
 
 
-def test_hints(tmp_path):
-    """What a failing test shows has all hints of its report."""
-    (tmp_path / "test_hints.py").write_text(HINTED)
-    status, told = ran([*PYTEST_WORDS, "test_hints.py"], tmp_path)
+def test_shown(tmp_path):
+    """What a failing test shows begins with all hints of its report."""
+    (tmp_path / "test_shown.py").write_text(SHOWN)
+    status, told = ran([*PYTEST_WORDS, "test_shown.py"], tmp_path)
     assert status == 0 and "2 passed" in told, told
+
+
+def test_module_adapter(server, tmp_path):
+    """One adapter for the tests of a file, by the settings; its report is saved and explained at the end, since a test failed."""
+    (tmp_path / "pytest.ini").write_text(f"[pytest]\ndvb_stream = {os.path.relpath(STREAM, tmp_path)}\ndvb_packets = 3000\n")
+    (tmp_path / "below").mkdir()
+    (tmp_path / "below" / "test_shared.py").write_text(SHARED)
+    status, told = ran([*PYTEST_WORDS, "below"], tmp_path)
+    assert status == 1 and "2 passed" in told and "1 failed" in told, told
+    (report,) = kept(tmp_path)
+    assert [entry.call.name for node in report.nodes for entry in node.calls()] == ["open", "close"] * 2
+    assert "dvb_module_adapter of below/test_shared.py" in told and "opens n0: Done" in told
+    assert os.listdir(tmp_path / "dvb-reports") == ["below-test_shared.py.report"]
+
+
+def test_adapter_of_no_recording(tmp_path):
+    (tmp_path / "test_shared.py").write_text(SHARED)
+    status, told = ran([*PYTEST_WORDS, "test_shared.py"], tmp_path)
+    assert status == 1 and "dvb_adapter needs a marker, such as @pytest.mark.dvb('my.ts'), or the setting dvb_stream" in told, told
+
+
+def test_replay(tmp_path):
+    """The report of a session file; that of a test that fails is saved, with its hints first."""
+    shutil.copy(EXAMPLES / "rules" / "overflow.session", tmp_path / "copy.session")
+    (tmp_path / "test_replayed.py").write_text(REPLAYED)
+    status, told = ran([*PYTEST_WORDS, "test_replayed.py"], tmp_path)
+    assert status == 1 and "1 passed" in told and "1 failed" in told, told
+    (report,) = kept(tmp_path)
+    assert report.text == (EXAMPLES / "rules" / "overflow.report").read_bytes()
+    assert re.search("- dvb_replay -+\n  Client 0, line .*n0: an Overflow: .*\n(?s:.*)\nReport: .*\n\nThe stream\n", told), told
 
 
 def by_pytest(folder, *words, **variables):

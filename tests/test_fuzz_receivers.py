@@ -351,7 +351,7 @@ def test_ctrl_c(tmp_path, planted):
 
 
 def test_full_disk(tmp_path, planted):
-    """What can't be written is told by its name."""
+    """A file that can't be written is named."""
     (tmp_path / "found").mkdir()
     os.symlink("/dev/full", tmp_path / "found" / "state.part")
     status, lines, told = fuzz(tmp_path, "--runs", "0", "--out", "found", RECORDING, command=[planted])

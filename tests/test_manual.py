@@ -37,7 +37,7 @@ def test_page(tmp_path, word):
     options = {name for action in command._actions for name in action.option_strings} - {"--version"}
     assert options <= set(re.findall(r"(?<!\w)--?\w[\w-]*", page.partition("OPTIONS")[2].partition("INPUT")[0]))
     words = re.sub(r"\s+", " ", page)
-    assert re.sub(r"\s+", " ", command.told["example"]) in words and f"dvbemu-{word} - " in words
+    assert re.sub(r"\s+", " ", command.sections["example"]) in words and f"dvbemu-{word} - " in words
     statuses = page.partition("EXIT STATUS")[2].partition("EXAMPLES")[0]
     assert set(re.findall(r"(?:^|; )(\d+)", command.statuses())) <= set(re.findall(r"^ {7}(\d+)", statuses, re.M))
 

@@ -1,10 +1,12 @@
-"""The module of python/: the lines that Script builds, reports as objects, what `steps`, `run` and `check` say, what `serve` gives, also
-with recordings at their frequencies and with two adapters, and its end where the process that asked for it is killed. All runs as by
-`python3 -W error`. The lines and the values that are wanted stand here, by docs/BEHAVIOUR.md. Each function has type hints, and mypy finds
-no fault.
+"""The module `dvbemu`: the lines that Script builds, reports as objects, `steps`, `run` and `check`, adapters, also with a recording per
+frequency and with two adapters, and their end when their process is killed. Wrong types are refused, and each exception is an Error.
+Warnings are errors. The expected lines and values stand here, by docs/BEHAVIOUR.md. mypy finds no error.
 """
 import glob
+import importlib
 import os
+import pkgutil
+import re
 import shutil
 import signal
 import subprocess
@@ -57,23 +59,41 @@ WRONG = [
     lambda script: script.client(0).open("demux0").set_filter(0, table_id=256), lambda script: script.client(0).open("demux0").set_filter(0, tid=1),
     lambda script: script.client(0).open("demux0").read(65537), lambda script: script.client(0).open("demux0").write(b"G"),
     lambda script: script.client(0).open("demux0").set_filter(0, b"\2", b"\xff", table_id=2), lambda script: script.lines("stream"),
+    lambda script: script.client(0).open("demux0").set_filter(0, version_number="!=32"), lambda script: dvbemu.serve(), lambda script: dvbemu.serve("a.ts", seats=9),
+    lambda script: script.client(0).open("demux0").set_filter(0, version_number="!=3", table_id="!=2"), lambda script: dvbemu.steps(script, STREAM, packet=190),
+    lambda script: dvbemu.steps(script, STREAM, batch=65), lambda script: script.client(0).open("demux0").set_filter(0, table_id="2 0=40/ff/00"),
 ]  # fmt: skip
 # Arguments of another type than a call takes: it raises a TypeError, which says what it takes and what was given.
 MISTYPED = [
-    (lambda demux: demux.set_filter(0, [0], [255]), "filter: bytes are expected, got [0]"),
-    (lambda demux: demux.set_filter(0, b"\0", "\xff"), "mask: bytes are expected, got '\xff'"),
-    (lambda demux: demux.set_filter(0, b"\0", b"\xff", 0), "mode: bytes are expected, got 0"),
+    (lambda demux: demux.set_filter(0, [0], [255]), "filter: a bytes object is expected, got [0]"),
+    (lambda demux: demux.set_filter(0, b"\0", "\xff"), "mask: a bytes object is expected, got '\xff'"),
+    (lambda demux: demux.set_filter(0, b"\0", b"\xff", 0), "mode: a bytes object is expected, got 0"),
     (lambda demux: demux.set_filter("0"), "a PID: a whole number is expected, got '0'"),
     (lambda demux: demux.set_filter(0, timeout=0.5), "timeout: a whole number is expected, got 0.5"),
     (lambda demux: demux.set_filter(0, flags="CHECK_CRC"), "flags: a whole number is expected, got 'CHECK_CRC'"),
-    (lambda demux: demux.set_pes_filter(256, "tsdemux_tap"), "output: an Output is expected, as DMX_OUT_TSDEMUX_TAP, got 'tsdemux_tap'"),
-    (lambda demux: demux.set_pes_filter(256, input="dvr"), "input: an Input is expected, as DMX_IN_FRONTEND, got 'dvr'"),
+    (lambda demux: demux.set_pes_filter(256, "tsdemux_tap"), "output: an Output such as DMX_OUT_TSDEMUX_TAP is expected, got 'tsdemux_tap'"),
+    (lambda demux: demux.set_pes_filter(256, input="dvr"), "input: an Input such as DMX_IN_FRONTEND is expected, got 'dvr'"),
     (lambda demux: demux.set_pes_filter(256, pes_type=None), "pes_type: a whole number is expected, got None"),
     (lambda demux: demux.read("188"), "count: a whole number is expected, got '188'"),
-    (lambda demux: demux.client.open("dvr0").write("G"), "data: bytes are expected, got 'G'"),
+    (lambda demux: demux.client.open("dvr0").write("G"), "data: a bytes object is expected, got 'G'"),
     (lambda demux: demux.client.open(0), "device: a string is expected, got 0"),
     (lambda demux: demux.client.script.lines(b"c0 open n0"), "text: a string is expected, got b'c0 open n0'"),
     (lambda demux: demux.client.script.feed(1.0), "packets: a whole number is expected, got 1.0"),
+    (lambda demux: demux.set_filter(0, version_number=b"3"), "version_number: a whole number, or a string such as '!=3' or '0x40/0xf0', is expected, got b'3'"),
+    (lambda demux: dvbemu.steps(5, STREAM), "script: a Script, a file name or a bytes object is expected, got 5"),
+    (lambda demux: dvbemu.steps(demux.client.script, ["my.ts"]), "stream: a file name or a bytes object is expected, got ['my.ts']"),
+    (lambda demux: dvbemu.run(demux.client.script, STREAM, batch="64"), "batch: a whole number is expected, got '64'"),
+    (lambda demux: dvbemu.steps(demux.client.script, STREAM, packet=None), "packet: a whole number is expected, got None"),
+    (lambda demux: dvbemu.check("dvbemu 1", demux.client.script), "report: a Report or a bytes object is expected, got 'dvbemu 1'"),
+    (lambda demux: dvbemu.Report.parse("dvbemu 1"), "text: a bytes object is expected, got 'dvbemu 1'"),
+    (lambda demux: loaded("programs/scan").node(0), "name: a string is expected, got 0"),
+    (lambda demux: loaded("programs/scan").outcome("3"), "line: a whole number is expected, got '3'"),
+    (lambda demux: dvbemu.serve(7), "stream: a file name is expected, got 7"),
+    (lambda demux: dvbemu.serve(tune=["474=a.ts"]), "tune: a mapping of frequencies to file names is expected, got ['474=a.ts']"),
+    (lambda demux: dvbemu.serve("a.ts", adapters="b.ts"), "adapters: a list is expected, got 'b.ts'"),
+    (lambda demux: dvbemu.serve("a.ts", argv="--once"), "argv: a list is expected, got '--once'"),
+    (lambda demux: dvbemu.serve("a.ts", packets="3000"), "packets: a number is expected, got '3000'"),
+    (lambda demux: dvbemu.serve("a.ts", seats=1.5), "seats: a whole number is expected, got 1.5"),
 ]  # fmt: skip
 # A test that is killed while it has a device and two programs that find it, of which one was started by the other.
 KILLED = """\
@@ -127,6 +147,19 @@ def test_mistyped_call(call, wanted):
     assert str(wrong.value) == wanted
 
 
+@pytest.mark.parametrize("fields, wanted", [
+    ({"version_number": "!=3"}, "3=06/3e/3e"),
+    ({"version_number": 3}, "3=06/3e/00"),
+    ({"table_id": "0x40/0xf0"}, "0=40/f0/00"),
+    ({"table_id": 0x42, "version_number": "!=3"}, "0=42/ff/00 3=06/3e/3e"),
+])  # fmt: skip
+def test_fields_of_a_filter(fields, wanted):
+    """version_number is bits 1 to 5 of section byte 5, which filter byte 3 stands for."""
+    script = dvbemu.Script()
+    script.client(0).open("demux0").set_filter(16, **fields)
+    assert str(script) == f"c0 open n0\nc0 section n0 16 0 5 {wanted}\n"
+
+
 def test_bytearray():
     script = dvbemu.Script()
     script.client(0).open("demux0").set_filter(0, bytearray(b"\0"), bytearray(b"\xff"), flags=5)
@@ -177,8 +210,54 @@ def test_timeout():
 
 
 def test_node_that_nobody_called():
-    with pytest.raises(KeyError, match="called were n0"):
+    with pytest.raises(KeyError, match="nodes that were called: n0"):
         loaded("programs/scan").node("n31")
+
+
+def test_repr():
+    """One line, without the data."""
+    report = loaded("rules/overflow")
+    calls, read = [entry for node in report.nodes for entry in node.calls()], b"".join(node.data() for node in report.nodes)
+    assert repr(report) == f"<Report: {report.packets} packets, {len(calls)} calls on n0, {len(read)} bytes read>"
+    assert repr(report.node("n0")) == f"<Node n0: {len(calls)} calls, {len(read)} bytes read>"
+
+
+def test_repr_of_an_empty_report():
+    report = dvbemu.Report.parse(b"dvbemu 1\npackets=0 skipped=0 rest=0\nend\n")
+    assert repr(report) == "<Report: 0 packets, 0 calls on no node, 0 bytes read>"
+
+
+@pytest.mark.parametrize("name", ["programs/scan", "rules/overflow", "rules/timeout"])
+def test_to_json(name):
+    """The lines of `dvbemu json`, of which --back makes the report again."""
+    report, path = loaded(name), str(EXAMPLES / (name + ".report"))
+    text = report.to_json()
+    assert text == subprocess.run([PROGRAM, "json", path], stdout=subprocess.PIPE, text=True, check=True).stdout
+    assert subprocess.run([PROGRAM, "json", "--back"], input=text.encode(), stdout=subprocess.PIPE, check=True).stdout == report.text
+
+
+# ------ the module's names
+
+
+def test_version():
+    assert dvbemu.__version__ == (ROOT / "VERSION").read_text().split("\n")[0]
+
+
+def test_exceptions():
+    """Each that the package defines is an Error; each public one has a name that ends so."""
+    for module in pkgutil.walk_packages(dvbemu.__path__, "dvbemu."):
+        if module.name not in ("dvbemu.__main__", "dvbemu.strategies"):
+            importlib.import_module(module.name)
+    own = [kind for kind in descendants(Exception) if kind.__module__.startswith("dvbemu.")]
+    others = {"NotPlayed", "Unplayable"}
+    assert [kind.__qualname__ for kind in own if not issubclass(kind, (dvbemu.Error, ValueError)) and kind.__name__ not in others] == []
+    public = [name for name in dvbemu.__all__ if isinstance(getattr(dvbemu, name), type) and issubclass(getattr(dvbemu, name), Exception)]
+    assert public == ["AdapterError", "Error", "ProgramError", "ReportError", "ScriptError"]
+
+
+def descendants(kind):
+    """All classes that are derived from one."""
+    return [found for child in kind.__subclasses__() for found in (child, *descendants(child))]
 
 
 # ------ `steps`, `run`, `check` and `explain`
@@ -217,7 +296,9 @@ def test_check_of_a_wrong_report(script):
 
 
 def test_explain(script):
-    assert "table_id" in dvbemu.steps(script, STREAM, batch=1).explain()
+    report = dvbemu.steps(script, STREAM, batch=1)
+    assert "table_id" in report.explain() and "What the stream says" not in report.explain()
+    assert "What the stream says" in report.explain(script, STREAM)
 
 
 @pytest.mark.parametrize("ending", [b"", b"\n", b"\nstream", b"\nstream\n"])
@@ -230,13 +311,14 @@ def test_steps_as_the_command(tmp_path, ending):
 
 
 def test_fault_of_a_script():
-    with pytest.raises(dvbemu.ScriptFault, match="script line 2: command") as fault:
+    with pytest.raises(dvbemu.ScriptError, match="script line 2: command") as error:
         dvbemu.steps(b"c0 open n0\nc0 foo n0\n", STREAM)
-    assert fault.value.status == 3
+    assert error.value.status == 3
+    assert error.value.stderr == f"dvbemu: {error.value}\n"
 
 
 def test_text_that_is_no_report():
-    with pytest.raises(dvbemu.NotAReport, match="line 2"):
+    with pytest.raises(dvbemu.ReportError, match="line 2"):
         dvbemu.Report.parse(b"dvbemu 1\n")
 
 
@@ -254,11 +336,17 @@ def test_serve(server, tmp_path):
     assert not os.path.exists(adapter.env["DVBEMU_DIR"])
     assert [entry.call.name for node in adapter.report.nodes for entry in node.calls()] == ["open", "close"]
     assert len(adapter.reports) == 1
+    assert adapter.explain() == adapter.report.explain(STREAM) and "What the stream says" in adapter.explain()
 
 
 def test_stream_that_is_not_there(server):
-    with pytest.raises(dvbemu.NoAdapter, match="no-such.ts"), dvbemu.serve("no-such.ts", packets=3000):
+    with pytest.raises(dvbemu.AdapterError, match="no-such.ts"), dvbemu.serve("no-such.ts", packets=3000):
         pass
+
+
+def test_report_of_an_adapter_that_runs():
+    with pytest.raises(dvbemu.AdapterError, match="hasn't ended"):
+        dvbemu.serve(STREAM).explain()
 
 
 @pytest.fixture
@@ -298,6 +386,7 @@ def test_two_adapters(server, stations, tmp_path, monkeypatch):
     assert told == [f"{first} Alpha Beta", f"{first} Gamma Delta"]
     texts = [report.node("n0").data() for report in adapter.reports]
     assert [[name in text for name in (b"Beta", b"Gamma")] for text in texts] == [[True, False], [False, True]]
+    assert re.findall("^Adapter .*", adapter.explain(), re.M) == ["Adapter 0", "Adapter 1"]
 
 
 def processes(name, wanted):

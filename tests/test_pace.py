@@ -57,7 +57,7 @@ def due_of(chunks, pid):
     """The pieces of a stream and when they are due."""
     try:
         return [(round(at, 9), piece) for at, piece in pace.timed(chunks, pid)]
-    except pace.NoClock:
+    except pace.ClockError:
         return None
 
 

@@ -1,4 +1,4 @@
-"""`dvbemu.strategies`: what is drawn is lawful or broken as it says, and a failure becomes small. Where hypothesis isn't there
+"""`dvbemu.strategies`: what is drawn is well-formed or broken as it says, and a failure becomes small. Where hypothesis isn't there
 the import says so."""
 import subprocess
 import sys
@@ -16,7 +16,7 @@ ALONE = "import sys; sys.path.insert(0, sys.argv[1]); sys.modules['hypothesis'] 
 def test_without_hypothesis():
     ran = subprocess.run([sys.executable, "-B", "-c", ALONE, str(ROOT / "python" / "src")], capture_output=True, text=True, check=False)
     assert ran.returncode == 1
-    assert ran.stderr.endswith("ImportError: dvbemu.strategies wants hypothesis (Debian: apt-get install python3-hypothesis)\n")
+    assert ran.stderr.endswith("ImportError: dvbemu.strategies needs hypothesis (Debian: apt-get install python3-hypothesis)\n")
 
 
 hypothesis = pytest.importorskip("hypothesis")

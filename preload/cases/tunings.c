@@ -1,4 +1,4 @@
-/* The frontend, over a stream that is at each frequency. */
+/* The frontend, with one recording on every frequency. */
 #include "cases.h"
 
 static int set(int fd, uint32_t command, uint32_t value)

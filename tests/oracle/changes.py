@@ -60,7 +60,7 @@ def one_line_less(rng, text):
 
 
 def one_line_twice(rng, text):
-    """A line stands twice."""
+    """A line is repeated."""
     lines = text.splitlines(keepends=True)
     place = rng.randrange(len(lines))
     return "".join(lines[: place + 1] + lines[place:]), WRONG

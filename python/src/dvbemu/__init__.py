@@ -1,4 +1,4 @@
-"""dvbemu from Python: scripts, their reports as objects, and a device for the programs of a test.
+"""dvbemu from Python: scripts, their reports as objects, and an emulated adapter for the programs of a test.
 
     import dvbemu
 
@@ -11,21 +11,22 @@
 
     with dvbemu.serve("my.ts", packets=3000) as adapter:
         adapter.run(["dvbv5-scan", "-o", "channels", "dvbv5.conf"], timeout=60)
-    print(adapter.report.explain())
+    print(adapter.explain())
 
-It needs the standard library alone, and calls the programs `dvbemu` and `dvbemu-serve`: those that `DVBEMU` and `DVBEMU_SERVE` of
-the environment name, else those beside this module, else those of the PATH. Whether a reply is right is decided by the program,
-whose `steps`, `run` and `check` are proved; this module is tested, and neither the server's outside nor the preload is proved
-(docs/PROVED.md).
+It needs only the standard library. It calls the programs `dvbemu` and `dvbemu-serve`: those that the variables `DVBEMU` and
+`DVBEMU_SERVE` name, else those beside this module, else those of the PATH. Replies come from these programs. `steps`, `run` and
+`check` are proved; this module, the outside of the server and the preload are tested (docs/PROVED.md).
+
+Each exception of this module is a `dvbemu.Error`. docs/EVERYWHERE.md has examples.
 """
 import importlib
 from typing import TYPE_CHECKING, Any
 
-# The version, that of the file VERSION.
+# The version, as in the file VERSION.
 __version__ = "0.4"
 
 if TYPE_CHECKING:
-    from .adapter import Adapter, NoAdapter, serve
+    from .adapter import Adapter, serve
     from .abi import (
         DMX_CHECK_CRC,
         DMX_IMMEDIATE_START,
@@ -42,7 +43,8 @@ if TYPE_CHECKING:
         Output,
         PesType,
     )
-    from .program import Failed, ScriptFault, Verdict, check, run, steps
+    from .errors import AdapterError, Error, ProgramError, ScriptError
+    from .program import Verdict, check, run, steps
     from .report import (
         Again,
         Busy,
@@ -51,7 +53,6 @@ if TYPE_CHECKING:
         Done,
         Entry,
         Node,
-        NotAReport,
         Outcome,
         Overflow,
         Passed,
@@ -60,27 +61,30 @@ if TYPE_CHECKING:
         Refused,
         Reply,
         Report,
+        ReportError,
         TimedOut,
     )
     from .script import Client, Device, Script
 
-# The module of each public name: it is loaded when the name is asked for, so that a command loads what it needs alone.
+# The module of each public name. It is loaded when the name is first used, so that a command loads only what it needs.
 _MODULES = {
-    "adapter": "Adapter NoAdapter serve",
+    "adapter": "Adapter serve",
     "abi": "DMX_CHECK_CRC DMX_IMMEDIATE_START DMX_IN_DVR DMX_IN_FRONTEND DMX_ONESHOT DMX_OUT_DECODER DMX_OUT_TAP "
         "DMX_OUT_TS_TAP DMX_OUT_TSDEMUX_TAP KEEP Flag Input Output PesType",
-    "program": "Failed ScriptFault Verdict check run steps",
-    "report": "Again Busy Call Data Done Entry Node NotAReport Outcome Overflow Passed PidCount Ready Refused Reply Report "
+    "errors": "AdapterError Error ProgramError ScriptError",
+    "program": "Verdict check run steps",
+    "report": "Again Busy Call Data Done Entry Node Outcome Overflow Passed PidCount Ready Refused Reply Report ReportError "
         "TimedOut",
     "script": "Client Device Script",
 }
 _HOMES = {name: module for module, names in _MODULES.items() for name in names.split()}
 
 __all__ = [
-    "Adapter", "Again", "Busy", "Call", "Client", "Data", "Device", "Done", "Entry", "Failed", "Flag", "Input", "KEEP", "NoAdapter", "Node",
-    "NotAReport", "Outcome", "Output", "Overflow", "Passed", "PesType", "PidCount", "Ready", "Refused", "Reply", "Report", "Script",
-    "ScriptFault", "TimedOut", "Verdict", "check", "run", "serve", "steps", "DMX_CHECK_CRC", "DMX_IMMEDIATE_START", "DMX_IN_DVR",
-    "DMX_IN_FRONTEND", "DMX_ONESHOT", "DMX_OUT_DECODER", "DMX_OUT_TAP", "DMX_OUT_TSDEMUX_TAP", "DMX_OUT_TS_TAP",
+    "Adapter", "AdapterError", "Again", "Busy", "Call", "Client", "Data", "Device", "Done", "Entry", "Error", "Flag", "Input", "KEEP",
+    "Node", "Outcome", "Output", "Overflow", "Passed", "PesType", "PidCount", "ProgramError", "Ready", "Refused", "Reply", "Report",
+    "ReportError", "Script", "ScriptError", "TimedOut", "Verdict", "check", "run", "serve", "steps", "DMX_CHECK_CRC",
+    "DMX_IMMEDIATE_START", "DMX_IN_DVR", "DMX_IN_FRONTEND", "DMX_ONESHOT", "DMX_OUT_DECODER", "DMX_OUT_TAP", "DMX_OUT_TSDEMUX_TAP",
+    "DMX_OUT_TS_TAP",
 ]  # fmt: skip
 
 

@@ -15,7 +15,7 @@ if TYPE_CHECKING:
     from types import FrameType
     from typing import BinaryIO, Iterable, NoReturn, Sequence
 
-# Fresh memory comes in large pages, but for `run`, whose threads gain nothing by it, and where the caller sets it otherwise. The shell script
+# Fresh memory comes in large pages, except for `run`, whose threads gain nothing by it, and if the caller sets it otherwise. The shell script
 # sets the same.
 SETTING = {"GLIBC_TUNABLES": "glibc.malloc.hugetlb=1"}
 # The signals that may end this before the program has.
@@ -24,12 +24,12 @@ ENDS = {signal.SIGHUP, signal.SIGINT, signal.SIGQUIT, signal.SIGTERM, signal.SIG
 
 
 def environment(word: str) -> dict[str, str]:
-    """The environment of the program with this word."""
+    """The environment of the program for this word."""
     return dict(os.environ) if word == "run" else {**SETTING, **os.environ}
 
 
 def program() -> str:
-    """The program, which is built where it isn't. Ends where it can't be."""
+    """The path of the program, which is built if it isn't there. Exits if it can't be."""
     try:
         return build.path_of("dvbemu")
     except build.Stopped as why:
@@ -45,24 +45,24 @@ def in_memory(pieces: Iterable[bytes] = ()) -> BinaryIO:
     return file
 
 
-def ran(words: Sequence[str], given: Iterable[bytes]) -> subprocess.CompletedProcess[bytes]:
-    """What the program wrote and told over the bytes of these pieces, and its status."""
-    with in_memory(given) as file:
-        return subprocess.run(words, stdin=file, capture_output=True, check=False, env=environment(words[1]))
+def ran(argv: Sequence[str], pieces: Iterable[bytes]) -> subprocess.CompletedProcess[bytes]:
+    """The output, messages and status of a command over these pieces of input."""
+    with in_memory(pieces) as file:
+        return subprocess.run(argv, stdin=file, capture_output=True, check=False, env=environment(argv[1]))
 
 
 class Run:
-    """The program over what is written to it: what it tells on standard error, on standard output where that is wanted, and its status.
-    A signal that ends this ends the program first: it never takes what came till then for the whole."""
+    """A run of the program over input that is written to it: its standard error, its standard output if that is wanted, and its status. A
+    signal that ends this process ends the program first, so it never takes incomplete input for complete."""
 
-    def __init__(self, path: str, words: Sequence[str], takes_output: bool = False) -> None:
+    def __init__(self, path: str, argv: Sequence[str], takes_output: bool = False) -> None:
         self.ends = in_memory() if takes_output else None, in_memory()
-        self.child = subprocess.Popen([path, *words], stdin=subprocess.PIPE, stdout=self.ends[0], stderr=self.ends[1],
-                                      env=environment(words[0]))  # fmt: skip
+        self.child = subprocess.Popen([path, *argv], stdin=subprocess.PIPE, stdout=self.ends[0], stderr=self.ends[1],
+                                      env=environment(argv[0]))  # fmt: skip
         for number in ENDS:
             if signal.getsignal(number) not in (signal.SIG_IGN, progress.renew):
                 signal.signal(number, self.end)
-        self.output, self.told = b"", b""
+        self.stdout, self.stderr = b"", b""
 
     def end(self, number: int, _frame: FrameType | None) -> NoReturn:
         """Ends the program, and then this."""
@@ -70,7 +70,7 @@ class Run:
         os._exit(standard.end_by(number))
 
     def feed(self, pieces: Iterable[bytes]) -> int:
-        """Gives the program all pieces, and waits until it has ended. Where a piece can't be read it is ended. Gives its status."""
+        """Writes all pieces to the program, waits for its end, and returns its status. If a piece can't be read, the program is killed."""
         assert self.child.stdin
         signal.signal(signal.SIGPIPE, signal.SIG_IGN)
         try:
@@ -86,7 +86,7 @@ class Run:
         finally:
             self.child.communicate()
             signal.signal(signal.SIGPIPE, signal.SIG_DFL)
-        self.output, self.told = (self.taken(end) for end in self.ends)
+        self.stdout, self.stderr = (self.taken(end) for end in self.ends)
         return self.child.returncode
 
     @staticmethod

@@ -1,8 +1,8 @@
-"""The command line: the table of its words, help, wrong words, and the words of the proved program.
+"""The command line: its commands, help, errors, and the commands of the proved program.
 
-`steps`, `run` and `check` with files give the program what the files hold, by its standard input: what it writes and its status are its
-own, but that `check` with files has the status 1 where the answer is no, and that a file that can't be read to its end is told by its name,
-with the status 1; where a signal has ended it that is told, with 128 and its number. The other words are the modules of `commands`.
+`steps`, `run` and `check` with files write the files' content to the program's standard input. Output and exit status are the program's,
+with three exceptions: the status of `check` with files is 1 if the answer is no; a file that can't be read completely is named, with status
+1; and if a signal ended the program, that is reported, with status 128 plus its number. The other words are the modules of `commands`.
 """
 from __future__ import annotations
 
@@ -23,11 +23,11 @@ if TYPE_CHECKING:
     from . import inputs
     from . import progress
 
-ABOUT = "/dev/dvb/adapter0 without a card: DVB programs, or their calls as lines, on a recording."
+ABOUT = "/dev/dvb/adapter0 without a card: runs DVB programs, or scripts of their calls, on a recording."
 ABOVE = "Proved, by the toolchain that --version names (docs/PROVED.md):"
 BELOW = "`dvbemu WORD --help` has files, options, exit statuses and an example. `dvbemu --version` prints the version."
 BATCH, PACKET = "[--batch B]", "[--packet P]"
-# The words of the proved program: what stands behind each, and what it does.
+# The words of the proved program: the arguments of each, and what it does.
 PROVED = {
     "steps": (f"{BATCH} {PACKET} [SCRIPT [STREAM ..]]", "runs a script's calls, in order, against the streams, and prints a report"),
     "run": (f"{BATCH} {PACKET} [SCRIPT [STREAM ..]]", "runs a script with one thread per client and one for the stream; reports differ from run to run"),
@@ -61,10 +61,10 @@ MOVED = {
 }
 STATUSES = "0; 1 if {}a file can't be read; 2 for a usage error; 3 if the script has an error; 5 to 7 if reading, writing or " \
     "memory failed (docs/BEHAVIOUR.md, 'Statuses'); 128 plus the number of a signal that ended the program"
-READS = "{}a script, or a session with its stream, then more streams; a script without its line `stream` gets it " \
-    "before the first stream. A file may be `-`, standard input. "
-ALONE = "Without files the session is read from standard input"
-ASKED = "Without files standard input has the line `report N`, a report of N bytes, and its session; the status is then 0 for `no` too"
+READS = "{}a script and its streams, or a session, which holds its stream; the line `stream` is added to a script that has none. " \
+    "A file may be `-`, standard input. "
+ALONE = "Without files, the session is read from standard input"
+ASKED = "Without files, standard input is the line `report N`, a report of N bytes, and its session; the status is then 0 for `no`, too"
 
 
 def whole_help() -> str:
@@ -74,24 +74,24 @@ def whole_help() -> str:
 
 
 def command(word: str) -> tool.Command:
-    """A word of the proved program, with the words that may stand behind it."""
+    """The command line of a word of the proved program."""
     usage, what = PROVED[word]
-    told = {"reads": "nothing", "writes": "the session" if word == "make" else "one line", "status": "0; 2 for a usage error; 6 if writing failed; 7 if out of memory",
+    sections = {"reads": "nothing", "writes": "the session" if word == "make" else "one line", "status": "0; 2 for a usage error; 6 if writing failed; 7 if out of memory",
             "example": f"dvbemu {word} 7"}  # fmt: skip
     if word in ("steps", "run"):
-        told = {"reads": READS.format("") + ALONE, "writes": "the report", "status": STATUSES.format(""), "example": f"dvbemu {word} my.script my.ts > my.report"}
+        sections = {"reads": READS.format("") + ALONE, "writes": "the report", "status": STATUSES.format(""), "example": f"dvbemu {word} my.script my.ts > my.report"}
     elif word == "check":
-        told = {"reads": READS.format("a report; and ") + ASKED, "writes": "yes or no; on standard error what is wrong and what was expected",
+        sections = {"reads": READS.format("a report; and ") + ASKED, "writes": "yes or no; on standard error what is wrong and what was expected",
                 "status": STATUSES.format("the answer is no or "), "example": "dvbemu check my.report my.script my.ts"}  # fmt: skip
-    words = tool.Command(word, usage, f"{what[0].upper()}{what[1:]}.", teller="dvbemu", **told)
+    parser = tool.Command(word, usage, f"{what[0].upper()}{what[1:]}.", teller="dvbemu", **sections)
     if word in ("steps", "run", "selftest"):
-        words.add_argument("--batch", action=tool.Once, type=tool.number(1, 64, True), metavar="B", help="the maximum number of packets in a batch, 1 to 64; default 64")
+        parser.add_argument("--batch", action=tool.Once, type=tool.number(1, 64, True), metavar="B", help="the maximum number of packets in a batch, 1 to 64; default 64")
     if word in ("steps", "run", "check"):
-        words.add_argument("--packet", action=tool.Once, type=int, choices=(188, 204), metavar="P", help="the packet size in the stream: 188 (default) or 204")
-        words.add_argument("files", metavar="FILE", nargs="*", help="the files, in the order shown above")
+        parser.add_argument("--packet", action=tool.Once, type=int, choices=(188, 204), metavar="P", help="the packet size in the stream: 188 (default) or 204")
+        parser.add_argument("files", metavar="FILE", nargs="*", help="the files, in the order shown above")
     else:
-        words.add_argument("number", metavar="N", type=tool.number(0, 2**64 - 1, True), help="the session's number, below 2^64")
-    return words
+        parser.add_argument("number", metavar="N", type=tool.number(0, 2**64 - 1, True), help="the session's number, below 2^64")
+    return parser
 
 
 def summary(word: str) -> str:
@@ -100,31 +100,31 @@ def summary(word: str) -> str:
 
 
 def parser(word: str) -> tool.Command:
-    """What reads the words behind a word, and has its help."""
+    """The parser of a word's arguments, which also has its help."""
     if word in PROVED:
         return command(word)
     found: tool.Command = importlib.import_module(f"dvbemu.commands.{word}").command()
     return found
 
 
-def plain(word: str, given: Namespace) -> list[str]:
-    """The words that the program takes."""
-    words = [word] if "files" in given else [word, str(given.number)]
+def plain(word: str, args: Namespace) -> list[str]:
+    """The arguments of the program."""
+    argv = [word] if "files" in args else [word, str(args.number)]
     for name in "batch", "packet":
-        if getattr(given, name, None) is not None:
-            words += [f"--{name}", str(getattr(given, name))]
-    return words
+        if getattr(args, name, None) is not None:
+            argv += [f"--{name}", str(getattr(args, name))]
+    return argv
 
 
-def started(words: Sequence[str], takes_output: bool = False) -> child.Run:
-    """The program, started with these words."""
+def started(argv: Sequence[str], takes_output: bool = False) -> child.Run:
+    """The program, started with these arguments."""
     from . import child  # pylint: disable=import-outside-toplevel
-    return child.Run(child.program(), words, takes_output)
+    return child.Run(child.program(), argv, takes_output)
 
 
 def ended(status: int) -> int:
-    """The status of a program; 128 and the number of the signal that has ended it, which is told, but for Ctrl-C and a reader that has
-    gone."""
+    """The status of a program, or 128 plus the number of the signal that ended it. A signal is reported, except for Ctrl-C and a reader that
+    has gone."""
     if status >= 0:
         return status
     if -status in (signal.SIGINT, signal.SIGPIPE):
@@ -133,23 +133,23 @@ def ended(status: int) -> int:
     return 128 - status
 
 
-def over_files(words: tool.Command, given: Namespace, word: str) -> int:
+def over_files(parser: tool.Command, args: Namespace, word: str) -> int:
     """`steps` and `run` over files."""
     from . import inputs, progress  # pylint: disable=import-outside-toplevel
     kept: list[bytes] = []
     try:
-        files = inputs.opened(given.files)
+        files = inputs.opened(args.files)
         if any(file.is_terminal for file in files):
-            words.tell_waiting()
-        run, work = started(plain(word, given)), progress.Work(files, "")
-        progress.show_beside(words.teller, work.text)
+            parser.tell_waiting()
+        run, work = started(plain(word, args)), progress.Work(files, "")
+        progress.show_beside(parser.teller, work.text)
         status = run.feed(kept_head(inputs.session_pieces(files), kept, work))
-    except inputs.Broken as fault:
-        return words.fail(fault)
+    except inputs.InputError as fault:
+        return parser.fail(fault)
     progress.end()
     if status == standard.WRITE_FAULT and standard.reader_is_gone():
         return standard.end_by(signal.SIGPIPE)
-    sys.stderr.buffer.write(run.told)
+    sys.stderr.buffer.write(run.stderr)
     sys.stderr.flush()
     tell_more(status, run, kept[0], files, word)
     return ended(status)
@@ -159,8 +159,8 @@ def tell_more(status: int, run: child.Run, script: bytes, files: Sequence[inputs
     """What a script's fault may be about, behind the program's lines; or that what was taken for a stream is likely none."""
     from . import faulty  # pylint: disable=import-outside-toplevel
     names = ["-" if file.is_standard else file.name for file in files]
-    told = faulty.hint(run.told.decode(errors="replace"), script, names, word) if status == 3 else faulty.warnings(script, files)
-    sys.stderr.write(told)
+    text = faulty.hint(run.stderr.decode(errors="replace"), script, names, word) if status == 3 else faulty.warnings(script, files)
+    sys.stderr.write(text)
 
 
 def kept_head(pieces: Iterable[bytes], kept: list[bytes], work: progress.Work) -> Iterator[bytes]:
@@ -172,73 +172,73 @@ def kept_head(pieces: Iterable[bytes], kept: list[bytes], work: progress.Work) -
     work.begin("writing the report")
 
 
-def check_files(words: tool.Command, given: Namespace) -> int:
+def check_files(parser: tool.Command, args: Namespace) -> int:
     """`check` over files."""
     from . import inputs, progress  # pylint: disable=import-outside-toplevel
-    if len(given.files) == 1:
-        words.error("the following arguments are required: SCRIPT")
+    if len(args.files) == 1:
+        parser.error("the following arguments are required: SCRIPT")
     try:
-        report, *session = inputs.opened(given.files)
+        report, *session = inputs.opened(args.files)
         if report.is_terminal or any(file.is_terminal for file in session):
-            words.tell_waiting()
+            parser.tell_waiting()
         work = progress.Work([report, *session], "checking")
-        progress.show(words.teller, work.text)
+        progress.show(parser.teller, work.text)
         text, (head, *others) = report.whole(), inputs.session_pieces(session)
         behind = b"".join([head, *others])
         del others
         progress.end()
-        run = started(plain("check", given), True)
+        run = started(plain("check", args), True)
         work.begin("checking")
-        progress.show(words.teller, work.text)
+        progress.show(parser.teller, work.text)
         status = run.feed([b"report %d\n" % len(text), text, behind])
-    except inputs.Broken as fault:
-        return words.fail(fault)
+    except inputs.InputError as fault:
+        return parser.fail(fault)
     progress.end()
-    sys.stdout.buffer.write(run.output)
+    sys.stdout.buffer.write(run.stdout)
     sys.stdout.flush()
-    sys.stderr.buffer.write(run.told)
+    sys.stderr.buffer.write(run.stderr)
     sys.stderr.flush()
     tell_more(status, run, head, session, "check")
-    return 1 if run.output == b"no\n" and not status else ended(status)
+    return 1 if run.stdout == b"no\n" and not status else ended(status)
 
 
-def direct(words: tool.Command, given: Namespace, word: str) -> NoReturn:
+def direct(parser: tool.Command, args: Namespace, word: str) -> NoReturn:
     """The program takes the place of this process, and standard input is its own."""
     from . import child  # pylint: disable=import-outside-toplevel
-    if "files" in given:
-        words.tell_waiting(f" ('dvbemu {word} --help' tells of files)")
+    if "files" in args:
+        parser.tell_waiting(f" ('dvbemu {word} --help' tells of files)")
     path = child.program()
-    os.execve(path, [path, *plain(word, given)], child.environment(word))
+    os.execve(path, [path, *plain(word, args)], child.environment(word))
 
 
 def done(word: str, behind: Sequence[str]) -> int:
     """A word of the proved program."""
-    words = command(word)
-    given = words.parse_args(behind)
-    if not getattr(given, "files", None):
-        direct(words, given, word)
-    return check_files(words, given) if word == "check" else over_files(words, given, word)
+    parser = command(word)
+    args = parser.parse_args(behind)
+    if not getattr(args, "files", None):
+        direct(parser, args, word)
+    return check_files(parser, args) if word == "check" else over_files(parser, args, word)
 
 
 def refuse(word: str | None) -> int:
     """Names a word that is none, and the nearest one; the status is 2."""
     if word is None:
-        told = "the following arguments are required: WORD"
+        message = "the following arguments are required: WORD"
     elif word in MOVED:
-        told = MOVED[word]
+        message = MOVED[word]
     elif word.startswith("-"):
-        told = f"unrecognized arguments: {word}"
+        message = f"unrecognized arguments: {word}"
     elif os.path.isfile(word):
-        told = f"unknown word {word}; for a file: dvbemu steps {word} .."
+        message = f"unknown word {word}; for a file: dvbemu steps {word} .."
     else:
-        told = f"unknown word {word}{tool.nearest(word, [*PROVED, *TOOLS])}"
-    print(f"usage: dvbemu WORD .., with one of the words {', '.join([*PROVED, *TOOLS])}\ndvbemu: error: {told}", file=sys.stderr)
+        message = f"unknown word {word}{tool.nearest(word, [*PROVED, *TOOLS])}"
+    print(f"usage: dvbemu WORD .., with one of the words {', '.join([*PROVED, *TOOLS])}\ndvbemu: error: {message}", file=sys.stderr)
     return 2
 
 
-def main(*words: str) -> int | None:
-    """Does what the words ask for."""
-    word, *behind = words or (None,)
+def main(*argv: str) -> int | None:
+    """Runs a command line, and returns its status; None is 0."""
+    word, *behind = argv or (None,)
     if word == "help" and behind:
         return main(behind[0], "--help")
     if word in ("-h", "--help", "help"):
@@ -256,11 +256,11 @@ def main(*words: str) -> int | None:
     return 0
 
 
-def teller_of(words: Sequence[str]) -> str:
-    """Who tells what a command can't go on behind."""
-    return " ".join(["dvbemu", *(word for word in words[:1] if word in TOOLS)])
+def prog_of(argv: Sequence[str]) -> str:
+    """The name that begins the messages of a command line: `dvbemu`, or `dvbemu serve`."""
+    return " ".join(["dvbemu", *(word for word in argv[:1] if word in TOOLS)])
 
 
-def begin(*words: str) -> NoReturn:
-    """Does what the words ask for, and ends with its status."""
-    standard.run(teller_of(words), main, *words)
+def begin(*argv: str) -> NoReturn:
+    """Runs a command line, and ends with its status."""
+    standard.run(prog_of(argv), main, *argv)

@@ -29,7 +29,7 @@ def words_of(names: Sequence[str], plain: str) -> str:
 
 
 def of_file(script: bytes, names: Sequence[str], word: str) -> str:
-    """What is told of a file that is no script."""
+    """The hint for a file that isn't a script."""
     if script.startswith(b"G"):
         return f"{names[0]}: a script comes first, and then the streams: {usage(word, names[:1])}"
     if script.startswith(REPORT) and word == "check":
@@ -40,7 +40,7 @@ def of_file(script: bytes, names: Sequence[str], word: str) -> str:
 
 
 def no_stream(names: Sequence[str], word: str) -> str:
-    """What is told of a script without the line `stream`, behind which no stream is named."""
+    """The hint for a script without the line `stream` and without a stream."""
     if len(names) > 1 or names[0] == "-":
         return ""
     script = usage(word, ()).replace("SCRIPT", names[0])
@@ -48,7 +48,7 @@ def no_stream(names: Sequence[str], word: str) -> str:
 
 
 def pause(words: list[str]) -> str:
-    """What is told of a word that waits in a shell."""
+    """The hint for a word that waits in a shell."""
     if words[0] not in ("sleep", "usleep", "wait", "delay"):
         return ""
     found = re.fullmatch(r"sleep (\d{1,6}(?:\.\d{1,3})?)", " ".join(words))
@@ -56,7 +56,7 @@ def pause(words: list[str]) -> str:
 
 
 def short_section(words: list[str]) -> str:
-    """What is told of a line `section` whose first byte stands where a number should."""
+    """The hint for a line `section` with a filter byte in the place of a number."""
     byte = next((place for place, word in enumerate(words[3:6]) if "=" in word), None)  # that stands for PID, TIMEOUT or FLAGS
     if words[1:2] != ["section"] or byte is None:
         return ""
@@ -71,7 +71,7 @@ def nearest(kind: str, words: list[str], commands: Iterable[str]) -> str:
 
 
 def of_line(kind: str, line: bytes, number: int, names: Sequence[str]) -> str:
-    """What is told of a line."""
+    """The hint for a line."""
     from . import naming  # pylint: disable=import-outside-toplevel
     if line.startswith(b"G") and len(line) > 1:
         return PACKET
@@ -79,17 +79,17 @@ def of_line(kind: str, line: bytes, number: int, names: Sequence[str]) -> str:
     words = text.split(" ")
     try:
         plain = naming.plain_line(text.removeprefix("" if number > 1 else naming.MARK))
-    except naming.Fault:
+    except naming.WordError:
         plain = text
     if plain != text and is_plain(plain):
         return words_of(names, plain)
     return short_section(words) or pause(words) or nearest(kind, words, naming.COMMANDS)
 
 
-def hint(told: str, script: bytes, names: Sequence[str], word: str) -> str:
+def hint(stderr: str, script: bytes, names: Sequence[str], word: str) -> str:
     """What is told behind a fault of a script in one of these files, of which this is the beginning, to this word; nothing where no more is
     known."""
-    found = re.match(r"dvbemu: script line (\d+): (\w+)\n", told)
+    found = re.match(r"dvbemu: script line (\d+): (\w+)\n", stderr)
     more, number, lines = of_file(script, names, word), int(found[1]) if found else 0, script.split(b"\n")
     if found and not more and found[2] == "nostream":
         more = no_stream(names, word)
@@ -115,9 +115,9 @@ def is_text(beginning: bytes) -> bool:
 def warnings(head: bytes, files: Sequence[inputs.Input]) -> str:
     """The lines on what is likely a mistake: a line of a script behind the line `stream`, and a text that is taken for a stream. The files
     are those of `inputs.opened`, of which the first has this beginning."""
-    place, told = inputs.stream_at(head), []
+    place, warned = inputs.stream_at(head), []
     if place >= 0 and (found := LINE.match(head, place + len(inputs.LINE))):
         line, text = head.count(b"\n", 0, found.start()) + 1, found[0].decode(errors="replace")
-        told = [f"{files[0].name}: line {line}, '{text}', follows `stream`, so it is part of the stream, not a call"]
-    told += [f"{file.name}: this is text, not a transport stream" for file in files[1:] if is_text(file.beginning)]
-    return "".join(f"dvbemu: {line}\n" for line in told)
+        warned = [f"{files[0].name}: line {line}, '{text}', follows `stream`, so it is part of the stream, not a call"]
+    warned += [f"{file.name}: this is text, not a transport stream" for file in files[1:] if is_text(file.beginning)]
+    return "".join(f"dvbemu: {line}\n" for line in warned)

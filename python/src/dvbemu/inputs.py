@@ -6,6 +6,8 @@ import stat
 import sys
 from typing import TYPE_CHECKING
 
+from .errors import Error
+
 if TYPE_CHECKING:
     from typing import Iterator, Sequence
 
@@ -18,7 +20,7 @@ def many(count: int, one: str, more: str | None = None) -> str:
     return f"{count:,} {one if count == 1 else more or one + 's'}"
 
 
-class Broken(Exception):
+class InputError(Error):
     """A file that can't be read to its end: its name, and why."""
 
     def __init__(self, name: str, why: str) -> None:
@@ -34,9 +36,9 @@ class Input:
             self.file = sys.stdin.fileno() if name == "-" else os.open(name, os.O_RDONLY)
             status = os.fstat(self.file)
         except (OSError, AttributeError) as fault:
-            raise Broken(self.name, getattr(fault, "strerror", None) or "it is closed") from None
+            raise InputError(self.name, getattr(fault, "strerror", None) or "it is closed") from None
         if stat.S_ISDIR(status.st_mode):
-            raise Broken(self.name, "Is a directory")
+            raise InputError(self.name, "Is a directory")
         self.is_standard = name == "-"
         self.is_terminal = self.is_standard and os.isatty(self.file)
         # (how many bytes a file has; a pipe, a device and what the system makes up have no size)
@@ -48,11 +50,11 @@ class Input:
         try:
             piece = os.read(self.file, most)
         except OSError as fault:
-            raise Broken(self.name, f"reading failed after {many(self.taken, 'byte')}: {fault.strerror}") from None
+            raise InputError(self.name, f"reading failed after {many(self.taken, 'byte')}: {fault.strerror}") from None
         self.beginning = self.beginning or piece[:BEGINNING]
         self.taken += len(piece)
         if not piece and self.size is not None and self.taken < self.size:
-            raise Broken(self.name, f"it ended after {self.taken:,} of its {many(self.size, 'byte')}")
+            raise InputError(self.name, f"it ended after {self.taken:,} of its {many(self.size, 'byte')}")
         return piece
 
     def pieces(self) -> Iterator[bytes]:
@@ -68,7 +70,7 @@ class Input:
 def opened(names: list[str]) -> list[Input]:
     """These files, each of them open; none is named twice as standard input."""
     if names.count("-") > 1:
-        raise Broken("-", "standard input can be given only once")
+        raise InputError("-", "standard input can be given only once")
     return [Input(name) for name in names]
 
 

@@ -3,10 +3,12 @@ from __future__ import annotations
 
 from typing import NamedTuple
 
+from .errors import Error
+
 HEAD = "Seq\tHost\tStarttime\tJobRuntime\tSend\tReceive\tExitval\tSignal\tCommand"
 
 
-class NotALog(Exception):
+class JobLogError(Error):
     """A text that is no log of jobs: the line, and what was expected there."""
 
 
@@ -29,7 +31,7 @@ def job_in(line: str, number: int) -> Job:
     """The job that a line tells."""
     parts = line.split("\t", 8)
     if len(parts) != 9 or not all(part.lstrip("-").isdecimal() for part in (parts[0], parts[6], parts[7])):
-        raise NotALog(f"line {number}: expected a job: {HEAD}")
+        raise JobLogError(f"line {number}: expected a job: {HEAD}")
     return Job(int(parts[0]), parts[1], int(parts[6]), int(parts[7]), parts[8])
 
 
@@ -38,6 +40,6 @@ def read(text: str) -> list[Job]:
     without its end is that of a job whose line is still written, and no job."""
     lines = text.split("\n")[:-1]
     if not lines or lines[0] != HEAD:
-        raise NotALog(f"line 1: expected the head of a log of GNU parallel: {HEAD}")
+        raise JobLogError(f"line 1: expected the head of a log of GNU parallel: {HEAD}")
     jobs = (job_in(line, number) for number, line in enumerate(lines[1:], 2))
     return [job for _, job in sorted({job.number: job for job in jobs}.items())]

@@ -84,9 +84,9 @@ def page(word: str) -> str:
         section("SYNOPSIS", f".B {plain(command.prog)}", plain(usage.strip())),
         section("DESCRIPTION", ".PP\n".join(plain(part) + "\n" for part in (command.description or "").split("\n\n")).rstrip()),
         section("OPTIONS", *(f".TP\n{form(action)}\n{plain(action.help or '')}" for action in actions)),
-        section("INPUT", plain(command.told["reads"])), section("OUTPUT", plain(command.told["writes"])),
+        section("INPUT", plain(command.sections["reads"])), section("OUTPUT", plain(command.sections["writes"])),
         section("EXIT STATUS", *statuses(command.statuses())),
-        section("EXAMPLES", plain(command.told["example"])), section("SEE ALSO", f"dvbemu(1), {SEE}"),
+        section("EXAMPLES", plain(command.sections["example"])), section("SEE ALSO", f"dvbemu(1), {SEE}"),
     ])  # fmt: skip
 
 
@@ -94,7 +94,7 @@ def overview() -> str:
     """The page of all words."""
     words = [f".PP\n{plain(cli.ABOVE)}", *map(item, cli.PROVED), ".PP\nTested:", *map(item, cli.TOOLS)]
     return "".join([
-        head("dvbemu", "/dev/dvb/adapter0 without a card, for tests"), section("SYNOPSIS", ".B dvbemu", "WORD .."),
+        head("dvbemu", "emulates /dev/dvb/adapter0, without a card"), section("SYNOPSIS", ".B dvbemu", "WORD .."),
         section("DESCRIPTION", plain(cli.ABOUT)), section("COMMANDS", *words),
         section("OPTIONS", ".TP\n.B \\-\\-help\nshow the commands; after a command, its help", ".TP\n.B \\-\\-version\nthe version, and what proved it"),
         section("EXIT STATUS", *statuses(cli.STATUSES.format(""))),

@@ -10,6 +10,7 @@ import re
 from typing import TYPE_CHECKING, NamedTuple
 
 from . import abi
+from .errors import Error
 from .psi import fields
 from .reports import BITS_16, BITS_32, MOST_BYTES, filter_words
 
@@ -38,7 +39,7 @@ COMMANDS = {"open": (), "close": (), "start": (), "stop": (), "poll": (), "secti
 LIMITS = {"PID": BITS_16, "COUNT": MOST_BYTES}
 
 
-class Fault(Exception):
+class WordError(Error):
     """A word that can't be read: its line, its place in the line, the word, the kind of the fault, and what was expected."""
 
     def __init__(self, kind: str, word: str, expected: str) -> None:
@@ -73,7 +74,7 @@ def plain_number(kind: str, word: str) -> str:
     """A number as the program reads it."""
     number, most = number_in(word), LIMITS.get(kind, BITS_32)
     if number is None or number > most:
-        raise Fault("number", word, f"{'N' if kind == 'COUNT' else kind}, 0 to {most}, as 4096 or 0x1000")
+        raise WordError("number", word, f"{'N' if kind == 'COUNT' else kind}, 0 to {most}, as 4096 or 0x1000")
     return str(number)
 
 
@@ -89,7 +90,7 @@ def plain_flags(word: str) -> str:
     total = 0
     for value in values:
         if value is None or value > BITS_32:
-            raise Fault("number", word, f"FLAGS, a number or {', '.join(FLAGS)} with + between them")
+            raise WordError("number", word, f"FLAGS, a number or {', '.join(FLAGS)} with + between them")
         total |= value
     return str(total)
 
@@ -105,7 +106,7 @@ def plain_name(names: Mapping[str, str], kind: str, word: str) -> str:
     """An input or an output."""
     found = names.get(word.lower().removeprefix("dmx_"))
     if found is None:
-        raise Fault("name", word, f"{kind}: {', '.join(dict.fromkeys(names.values()))}")
+        raise WordError("name", word, f"{kind}: {', '.join(dict.fromkeys(names.values()))}")
     return found
 
 
@@ -115,7 +116,7 @@ def field_bytes(name: str, sign: str, value: str, mask: str | None) -> dict[int,
     width = sum(bits.bit_count() for _, bits in rows)
     number, counts = number_in(value), number_in(mask) if mask else 2**width - 1
     if number is None or counts is None or number >= 2**width or counts >= 2**width:
-        raise Fault("bytes", f"{name}{sign}{value}{'/' + mask if mask else ''}", f"{name}{sign} and a number from 0 to {2**width - 1}")
+        raise WordError("bytes", f"{name}{sign}{value}{'/' + mask if mask else ''}", f"{name}{sign} and a number from 0 to {2**width - 1}")
     found = {}
     for place, bits in reversed(rows):
         size, low = bits.bit_count(), (bits & -bits).bit_length() - 1
@@ -131,7 +132,7 @@ def filter_word(word: str) -> dict[int, Byte]:
         return field_bytes(field[1].lower(), *field.groups()[1:])
     byte = re.fullmatch(r"([0-9]{1,2})=(?:0[xX])?([0-9a-fA-F]{1,2})/(?:0[xX])?([0-9a-fA-F]{1,2})/(?:0[xX])?([0-9a-fA-F]{1,2})", word)
     if not byte or int(byte[1]) > 15:
-        raise Fault("bytes", word, "I=FF/MM/DD with I from 0 to 15, or a field, as table_id=0x42, version_number!=3; the fields are "
+        raise WordError("bytes", word, "I=FF/MM/DD with I from 0 to 15, or a field, as table_id=0x42, version_number!=3; the fields are "
                     + ", ".join(FIELDS))  # fmt: skip
     return {int(byte[1]): Byte(*(int(part, 16) for part in byte.groups()[1:]))}
 
@@ -144,11 +145,11 @@ def plain_filter(words: Sequence[str]) -> list[str]:
         found = filter_word(word)
         if any(byte.mode & byte.mask for byte in found.values()):
             if differs is not None:
-                raise Fault("bytes", word, f"one `!=` in a filter: with {differs} too a section passes where one of the two differs")
+                raise WordError("bytes", word, f"one `!=` in a filter: with {differs} too a section passes where one of the two differs")
             differs = word
         for place, byte in found.items():
             if whole.get(place, Byte()).mask & byte.mask:
-                raise Fault("bytes", word, f"bits of byte {place} that no word before has named")
+                raise WordError("bytes", word, f"bits of byte {place} that no word before has named")
             whole[place] = whole.get(place, Byte()).join(byte)
     return filter_words(sorted(whole.items()))
 
@@ -158,7 +159,7 @@ def plain_target(word: str) -> str:
     name = word.lower().rpartition("/")[2] if word.startswith("/dev/dvb/") else word.lower()
     if found := re.fullmatch(r"demux([0-9]+)", name):
         if int(found[1]) > 31:
-            raise Fault("target", word, "n0 to n31, or demux0 to demux31, h0 to h31, or dvr")
+            raise WordError("target", word, "n0 to n31, or demux0 to demux31, h0 to h31, or dvr")
         return f"n{int(found[1])}"
     return "dvr" if name == "dvr0" else name
 
@@ -203,7 +204,7 @@ def plain_words(words: list[str]) -> list[str]:
         if kinds[-1:] == ("BYTE",) and len(words) > 6:
             told[6:] = plain_bytes(words)
         return told
-    except Fault as fault:
+    except WordError as fault:
         fault.place = fault.place or place + 1
         raise
 
@@ -212,7 +213,7 @@ def plain_bytes(words: Sequence[str]) -> list[str]:
     """The words of a line's filter."""
     try:
         return plain_filter(words[6:])
-    except Fault as fault:
+    except WordError as fault:
         fault.place = 7 + words[6:].index(fault.word) if fault.word in words[6:] else 7
         raise
 
@@ -236,7 +237,7 @@ def plain_script(script: bytes) -> bytes:
     for number, line in enumerate(text.split("\n"), 1):
         try:
             lines.append(plain_line(line))
-        except Fault as fault:
+        except WordError as fault:
             fault.line = number
             raise
     return "\n".join(lines).encode("utf-8", "surrogateescape")

@@ -6,6 +6,7 @@ from functools import lru_cache
 from typing import TYPE_CHECKING
 
 from . import reports
+from .errors import Error
 from .reports import ACTS, FORMAT, HEAD, PID, READERS, REPLIES, STC, word_of, written
 
 if TYPE_CHECKING:
@@ -14,7 +15,7 @@ if TYPE_CHECKING:
     from .reports import Outcome, Report
 
 
-class NoObjects(Exception):
+class JsonError(Error):
     """A text that is no report as JSON Lines: the number of the line and what is wrong there."""
 
     def __init__(self, line: int, what: str) -> None:
@@ -142,11 +143,11 @@ def back(lines: Iterable[str]) -> Iterator[str]:
             elif found["kind"] in UNDER and found[UNDER[found["kind"]]] != under.get(UNDER[found["kind"]]):
                 raise KeyError(f"{UNDER[found['kind']]} isn't the one above")
         except RecursionError:
-            raise NoObjects(line, "no line of a report: too much stands within one another") from None
+            raise JsonError(line, "no line of a report: too much stands within one another") from None
         except ValueError as wrong:
             what = "this is a report, and json without --back writes its JSON Lines" if text == f"{FORMAT}\n" else wrong
-            raise NoObjects(line, f"no object of JSON: {what}") from None
+            raise JsonError(line, f"no object of JSON: {what}") from None
         except (KeyError, TypeError, IndexError, AttributeError) as wrong:
-            raise NoObjects(line, f"no line of a report, {type(wrong).__name__}: {wrong}") from None
+            raise JsonError(line, f"no line of a report, {type(wrong).__name__}: {wrong}") from None
         # (a text that stands in an object may have line feeds of its own)
         yield from (part + "\n" for part in told.split("\n"))

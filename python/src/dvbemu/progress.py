@@ -32,7 +32,7 @@ def write(line: str) -> None:
 
 def renew(*_: object) -> None:
     """Writes the line anew."""
-    shown[:] = [f"{teller}: {text()}" for teller, text in work]
+    shown[:] = [f"{prog}: {text()}" for prog, text in work]
     for line in shown:
         write(line)
 
@@ -42,23 +42,23 @@ def is_terminal(end: TextIO | None) -> bool:
     return end is not None and end.isatty()
 
 
-def show(teller: str, text: Callable[[], str]) -> None:
+def show(prog: str, text: Callable[[], str]) -> None:
     """Shows what `text` gives until the program or the work ends; nothing where standard error is no terminal."""
     if is_terminal(sys.stderr):
-        work[:] = [(teller, text)]
+        work[:] = [(prog, text)]
         signal.signal(signal.SIGALRM, renew)
         signal.setitimer(signal.ITIMER_REAL, FIRST, EACH)
         atexit.register(end)
 
 
-def show_beside(teller: str, text: Callable[[], str]) -> None:
+def show_beside(prog: str, text: Callable[[], str]) -> None:
     """The same of work that writes as it goes: nothing where what it writes goes to a terminal too."""
     if not is_terminal(sys.stdout):
-        show(teller, text)
+        show(prog, text)
 
 
 def end() -> None:
-    """Takes the line away, so that something else can be told."""
+    """Erases the line, so that something else can be written."""
     if work:
         signal.setitimer(signal.ITIMER_REAL, 0)
         signal.signal(signal.SIGALRM, signal.SIG_DFL)
@@ -99,7 +99,7 @@ class Work:
 
 
 class Counted(io.FileIO):
-    """An open file whose bytes are counted as they are read, and what is told of that."""
+    """An open file whose bytes are counted as they are read, and the text on its progress."""
 
     def __init__(self, file: BinaryIO, what: str) -> None:
         super().__init__(file.fileno(), closefd=False)
@@ -114,12 +114,12 @@ class Counted(io.FileIO):
         return count
 
 
-def reading(words: Command, name: str | None, what: str) -> BinaryIO:
-    """The file of this name, or standard input, as `words.opened` gives it, with a line that tells how far its reading is, and that `what` is
-    done behind it."""
-    file = words.opened(name)
+def reading(parser: Command, name: str | None, what: str) -> BinaryIO:
+    """The file of this name, or standard input, as `parser.opened` returns it. On a terminal a line shows the progress of reading, and then
+    that `what` is done."""
+    file = parser.opened(name)
     if not is_terminal(sys.stderr):
         return file
     counted = Counted(file, what)
-    show(words.teller, counted.work.text)
+    show(parser.teller, counted.work.text)
     return io.BufferedReader(counted, 1 << 20)

@@ -13,6 +13,7 @@ from functools import lru_cache
 from typing import TYPE_CHECKING, NamedTuple, TypeVar, cast
 
 from . import abi
+from .errors import Error
 
 if TYPE_CHECKING:
     from typing import Any, BinaryIO, Callable, Dict, Iterable, Iterator, List, Mapping, TextIO, Tuple, TypedDict, Union
@@ -70,7 +71,7 @@ MOST_PIDS, MOST_BYTES = 128, 65536
 HEX_DIGITS = b"0123456789abcdef"
 
 
-class NotAReport(Exception):
+class ReportError(Error):
     """A text that is no report: the number of the line, from 1, what was expected there, what was found, and what the text is instead,
     where that is known."""
 
@@ -79,7 +80,7 @@ class NotAReport(Exception):
         self.line, self.expected, self.found = line, expected, found
 
 
-class AnotherFormat(NotAReport):
+class FormatError(ReportError):
     """A report of a format that this tool doesn't know."""
 
     def __str__(self) -> str:
@@ -517,7 +518,7 @@ class Lines:
         line = next(self.lines, "")
         self.line += 1
         if line and not line.endswith("\n"):
-            raise NotAReport(self.line, "a line feed at the end of the line", kind=instead(line[:BEGINNING]) if self.line == 1 else "")
+            raise ReportError(self.line, "a line feed at the end of the line", kind=instead(line[:BEGINNING]) if self.line == 1 else "")
         self.text = line[:-1] if line else None
 
     def begins(self, beginning: str) -> bool:
@@ -530,9 +531,9 @@ class Lines:
             yield self.text
             self.go_on()
 
-    def wrong(self, what: str) -> NotAReport:
+    def wrong(self, what: str) -> ReportError:
         """The exception for the line in hand."""
-        return NotAReport(self.line, what, shown(self.text))
+        return ReportError(self.line, what, shown(self.text))
 
     def want(self, holds: object, what: str) -> None:
         """Raises where it doesn't hold."""
@@ -550,9 +551,9 @@ class Lines:
 def head_of(lines: Lines) -> tuple[int, int, int]:
     """The numbers of the stream's cutting."""
     if lines.begins("dvbemu ") and lines.text != FORMAT:
-        raise AnotherFormat(lines.line, f"`{FORMAT}`", shown(lines.text))
+        raise FormatError(lines.line, f"`{FORMAT}`", shown(lines.text))
     if lines.text != FORMAT:
-        raise NotAReport(lines.line, f"`{FORMAT}`", shown(lines.text), instead(lines.beginning()))
+        raise ReportError(lines.line, f"`{FORMAT}`", shown(lines.text), instead(lines.beginning()))
     lines.go_on()
     if lines.text is None:
         raise lines.wrong("`packets=.. skipped=.. rest=..`")
@@ -669,7 +670,7 @@ def nodes_of(lines: Lines) -> dict[int, Sequence[Entry]]:
 
 
 def read(text: Iterable[str]) -> Report:
-    """The report that the lines of a text are, or an open text file. Raises NotAReport where they are none."""
+    """The report that the lines of a text are, or an open text file. Raises ReportError where they are none."""
     lines = Lines(text)
     try:
         packets, skipped, rest = head_of(lines)

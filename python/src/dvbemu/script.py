@@ -1,13 +1,12 @@
-"""Builds scripts by calls that are named as in linux/dvb/dmx.h, a line each (docs/BEHAVIOUR.md, 'The script')."""
+"""Builds scripts: each call, named as in linux/dvb/dmx.h, adds a line (docs/BEHAVIOUR.md, 'The script')."""
 from __future__ import annotations
 
 import enum
-import operator
 import re
-import reprlib
 
 from . import naming
 from .abi import DMX_CHECK_CRC, DMX_IMMEDIATE_START, DMX_IN_FRONTEND, DMX_OUT_TSDEMUX_TAP, GET_STC, Flag, Input, Output, PesType
+from .arguments import mistyped, see, see_bytes, see_text, whole, within
 from .naming import LARGEST_WRITE
 from .reports import BITS_16, BITS_32, CLIENTS, MOST_BYTES, filter_words
 
@@ -15,7 +14,7 @@ PLACES = 16
 
 
 class Script:
-    """The lines of a script, in the order in which they are asked for. `str()` gives its text, without the line `stream`."""
+    """The lines of a script, in order. `str()` gives its text, without the line `stream`."""
 
     def __init__(self, text: str = "") -> None:
         self._lines: list[str] = []
@@ -26,30 +25,30 @@ class Script:
         return "".join(line + "\n" for line in self._lines)
 
     def lines(self, text: str) -> Script:
-        """Adds lines as `dvbemu words` takes them: plain ones, and ones with names, as `c0 section demux0 0x10 0 CHECK_CRC
-        table_id=0x40`. Raises a ValueError, which names the line and the word, where it can't be read."""
-        _see_text(text, "text")
+        """Adds lines as `dvbemu words` takes them, with names or without: `c0 section demux0 0x10 0 CHECK_CRC table_id=0x40`. Raises
+        a ValueError with the line and the word that is wrong."""
+        see_text(text, "text")
         try:
             plain = naming.plain_script(text.encode("utf-8", "surrogateescape")).decode("utf-8", "surrogateescape")
-        except naming.Fault as fault:
+        except naming.WordError as fault:
             raise ValueError(fault.text()) from None
         added = plain.removesuffix("\n").split("\n")
         if "stream" in added:
-            raise ValueError("the line `stream` ends a script: it is written where the script is run")
+            raise ValueError("leave out the line `stream`, which ends a script: it is added when the script runs")
         self._lines += added
         return self
 
     def feed(self, packets: int) -> Script:
-        """So many packets of the stream pass."""
-        return self._add("feed", _within(packets, 1, BITS_32, "packets"))
+        """Lets this many packets of the stream pass."""
+        return self._add("feed", within(packets, 1, BITS_32, "packets"))
 
     def tick(self, milliseconds: int) -> Script:
-        """So much time passes."""
-        return self._add("tick", _within(milliseconds, 0, BITS_32, "milliseconds"))
+        """Lets this much time pass."""
+        return self._add("tick", within(milliseconds, 0, BITS_32, "milliseconds"))
 
     def client(self, number: int) -> Client:
-        """A program, 0 to 7."""
-        return Client(self, _within(number, 0, CLIENTS - 1, "a client"))
+        """A client by its number, 0 to 7."""
+        return Client(self, within(number, 0, CLIENTS - 1, "a client"))
 
     def _add(self, *words: object) -> Script:
         self._lines.append(" ".join(map(str, words)))
@@ -57,14 +56,14 @@ class Script:
 
 
 class Client:
-    """A program whose calls are lines of the script."""
+    """A client, whose calls are lines of the script."""
 
     def __init__(self, script: Script, number: int) -> None:
         self.script, self.number = script, number
 
     def open(self, device: str) -> Device:
-        """open(): `demux0` to `demux31` is a node by its number, `dvr` or `dvr0` the dvr device, `h0` to `h31` the first demux
-        node that is free, as what a slot of this client holds from then on."""
+        """open() of `demux0` to `demux31`, a node by its number; of `dvr0`; or of the first free demux node, which a slot of this
+        client, `h0` to `h31`, then stands for."""
         found = Device(self, _target(device))
         found._call("open")
         return found
@@ -85,15 +84,16 @@ class Device:
 
     def set_filter(
         self, pid: int, filter: bytes = b"", mask: bytes = b"", mode: bytes = b"", *, timeout: int = 0,
-        flags: Flag = DMX_CHECK_CRC | DMX_IMMEDIATE_START, **fields: int,
+        flags: Flag = DMX_CHECK_CRC | DMX_IMMEDIATE_START, **fields: int | str,
     ) -> None:  # fmt: skip
-        """DMX_SET_FILTER: the bytes of filter, mask and mode as in struct dmx_filter, up to 16 each, or fields of a section by
-        their names, as `table_id=0x42`; timeout in milliseconds, 0 for none."""
+        """DMX_SET_FILTER. The filter is the bytes of filter, mask and mode as in struct dmx_filter, up to 16 each; or fields of a
+        section by name: `table_id=0x42` for this value, `table_id="0x40/0xf0"` for a value under a mask, and
+        `version_number="!=3"` for any other value. The timeout is in milliseconds, 0 for none."""
         if fields and (filter or mask or mode):
-            raise ValueError("a filter is its bytes, or fields by their names")
-        words = [f"{name}={value}" for name, value in fields.items()]
-        self._call("section", _pid(pid), _within(timeout, 0, BITS_32, "timeout"), _within(flags, 0, BITS_32, "flags"),
-                   *_filter_words(filter, mask, mode, words))  # fmt: skip
+            raise ValueError("give the filter's bytes, or fields by name, and not both")
+        conditions = [_condition(name, value) for name, value in fields.items()]
+        self._call("section", _pid(pid), within(timeout, 0, BITS_32, "timeout"), within(flags, 0, BITS_32, "flags"),
+                   *_filter_words(filter, mask, mode, conditions))  # fmt: skip
 
     def set_pes_filter(
         self, pid: int, output: Output = DMX_OUT_TSDEMUX_TAP, *, input: Input = DMX_IN_FRONTEND,
@@ -101,7 +101,7 @@ class Device:
     ) -> None:  # fmt: skip
         """DMX_SET_PES_FILTER."""
         self._call("pes", _pid(pid), _value(input, DMX_IN_FRONTEND, "input"), _value(output, DMX_OUT_TSDEMUX_TAP, "output"),
-                   _within(pes_type, 0, BITS_32, "pes_type"), _within(flags, 0, BITS_32, "flags"))  # fmt: skip
+                   within(pes_type, 0, BITS_32, "pes_type"), within(flags, 0, BITS_32, "flags"))  # fmt: skip
 
     def add_pid(self, pid: int) -> None:
         """DMX_ADD_PID."""
@@ -121,19 +121,19 @@ class Device:
 
     def set_buffer_size(self, size: int) -> None:
         """DMX_SET_BUFFER_SIZE, in bytes."""
-        self._call("size", _within(size, 0, BITS_32, "size"))
+        self._call("size", within(size, 0, BITS_32, "size"))
 
     def get_stc(self, number: int = 0) -> None:
-        """DMX_GET_STC: its answer is the outcome of this line."""
-        self._call("ioctl", f"{GET_STC.number:08x}", GET_STC.layout.pack(_within(number, 0, BITS_32, "a counter")).hex())
+        """DMX_GET_STC: its result is the outcome of this line."""
+        self._call("ioctl", f"{GET_STC.number:08x}", GET_STC.layout.pack(within(number, 0, BITS_32, "a counter")).hex())
 
     def read(self, count: int, waits: bool = False) -> None:
-        """read() of at most so many bytes, with O_NONBLOCK; or one that waits until there is something to tell."""
-        self._call("readw" if waits else "read", _within(count, 0, MOST_BYTES, "count"))
+        """read() of at most this many bytes, with O_NONBLOCK; or one that waits for data, an error or the end."""
+        self._call("readw" if waits else "read", within(count, 0, MOST_BYTES, "count"))
 
     def drain(self, count: int) -> None:
-        """Reads of at most so many bytes until the stream has ended and nothing is left."""
-        self._call("drain", _within(count, 0, MOST_BYTES, "count"))
+        """Reads of at most this many bytes each, until the stream has ended and nothing is left."""
+        self._call("drain", within(count, 0, MOST_BYTES, "count"))
 
     def poll(self) -> None:
         """poll()."""
@@ -141,54 +141,38 @@ class Device:
 
     def write(self, data: bytes) -> None:
         """write() to the dvr device, of 1 to 12,032 bytes."""
-        _see_bytes(data, "data")
+        see_bytes(data, "data")
         if not 1 <= len(data) <= LARGEST_WRITE or self.target != "dvr":
-            raise ValueError(f"1 to {LARGEST_WRITE:,} bytes are written, to the dvr device alone")
+            raise ValueError(f"a write takes 1 to {LARGEST_WRITE:,} bytes, and only the dvr device takes one")
         self._call("write", data.hex())
 
 
-def _within(value: int, least: int, most: int, what: str) -> int:
-    """A number that a line takes. Whether the device takes it is told by its reply."""
-    try:
-        number = operator.index(value)
-    except TypeError:
-        raise _mistyped(what, "a whole number is expected", value) from None
-    if not least <= number <= most:
-        raise ValueError(f"{what}: {number} isn't from {least} to {most}")
-    return number
-
-
-def _mistyped(what: str, expected: str, value: object) -> TypeError:
-    return TypeError(f"{what}: {expected}, got {reprlib.repr(value)}")
-
-
-def _see_text(value: object, what: str) -> None:
-    if not isinstance(value, str):
-        raise _mistyped(what, "a string is expected", value)
-
-
-def _see_bytes(value: object, what: str) -> None:
-    if not isinstance(value, (bytes, bytearray)):
-        raise _mistyped(what, "bytes are expected", value)
-
-
 def _value(value: enum.Enum, like: enum.Enum, what: str) -> str:
-    """The word of an input or an output, of the kind of another."""
-    if not isinstance(value, type(like)):
-        raise _mistyped(what, f"an {type(like).__name__} is expected, as {like.name}", value)
+    """An input or an output as a script has it: a value of the same enum as another."""
+    see(value, type(like), what, f"an {type(like).__name__} such as {like.name}")
     return str(value.value)
 
 
+def _condition(name: str, value: int | str) -> str:
+    """A condition on a field, as a script has it: `table_id=66`, `version_number!=3`."""
+    if isinstance(value, str):
+        return name + (value if value.startswith(("=", "!=")) else f"={value}")
+    try:
+        return f"{name}={whole(value, name)}"
+    except TypeError:
+        raise mistyped(name, "a whole number, or a string such as '!=3' or '0x40/0xf0',", value) from None
+
+
 def _pid(value: int) -> int:
-    return _within(value, 0, BITS_16, "a PID")
+    return within(value, 0, BITS_16, "a PID")
 
 
 def _target(device: str) -> str:
     """A device as a script names it."""
-    _see_text(device, "device")
+    see_text(device, "device")
     try:
         target = naming.plain_target(device)
-    except naming.Fault as fault:
+    except naming.WordError as fault:
         raise ValueError(f"{device}: expected {fault.expected}") from None
     if not re.fullmatch("dvr|[nh]([12]?[0-9]|3[01])", target):
         raise ValueError(f"{device}: expected demux0 to demux31, h0 to h31, or dvr0")
@@ -196,15 +180,15 @@ def _target(device: str) -> str:
 
 
 def _filter_words(filter: bytes, mask: bytes, mode: bytes, fields: list[str]) -> list[str]:
-    """The words of a filter: of its bytes those that aren't 0 in all three."""
+    """A filter as a script has it, without the bytes that are 0 in filter, mask and mode."""
     for part, what in (filter, "filter"), (mask, "mask"), (mode, "mode"):
-        _see_bytes(part, what)
+        see_bytes(part, what)
     if max(len(filter), len(mask), len(mode)) > PLACES:
-        raise ValueError("a filter has at most 16 bytes")
+        raise ValueError(f"a filter has at most {PLACES} bytes")
     if fields:
         try:
             return naming.plain_filter(fields)
-        except naming.Fault as fault:
+        except naming.WordError as fault:
             raise ValueError(f"{fault.word}: expected {fault.expected}") from None
-    whole = zip(*(part.ljust(PLACES, b"\0") for part in (filter, mask, mode)))
-    return filter_words((place, three) for place, three in enumerate(whole) if any(three))
+    triples = zip(*(part.ljust(PLACES, b"\0") for part in (filter, mask, mode)))
+    return filter_words((place, triple) for place, triple in enumerate(triples) if any(triple))

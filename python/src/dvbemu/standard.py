@@ -58,7 +58,7 @@ class Output(io.FileIO):
 
 
 class Errors(Output):
-    """Standard error. What it doesn't take can be told nowhere."""
+    """Standard error. An error in writing to it can't be reported."""
 
     def fail(self, fault: OSError, count: int) -> int:
         return count
@@ -114,7 +114,7 @@ def place_of(fault: BaseException) -> str:
 
 
 def told_of(fault: BaseException) -> tuple[str, int]:
-    """What is told of what a command can't go on behind, and its status."""
+    """The message and status for an exception that a command doesn't handle."""
     if isinstance(fault, NoOutput):
         return f"standard output: {fault.why}", WRITE_FAULT
     if isinstance(fault, MemoryError):
@@ -124,12 +124,12 @@ def told_of(fault: BaseException) -> tuple[str, int]:
     return f"internal error, at {place_of(fault)}: {type(fault).__name__}: {fault}".replace("\n", " "), INTERNAL
 
 
-def status_of(teller: str, main: Callable[..., int | None], *words: str) -> int | str | None:
+def status_of(prog: str, main: Callable[..., int | None], *argv: str) -> int | str | None:
     """Runs a command over the ends as they stand, and gives its status."""
     status: int | str | None
     try:
         try:
-            status = main(*words)
+            status = main(*argv)
         except SystemExit as asked:
             if isinstance(asked, NoOutput):
                 raise
@@ -139,13 +139,13 @@ def status_of(teller: str, main: Callable[..., int | None], *words: str) -> int 
     except (NoOutput, Exception) as fault:  # pylint: disable=broad-exception-caught
         text, status = told_of(fault)
         progress.end()
-        print(f"{teller}: {text}", file=sys.stderr)
+        print(f"{prog}: {text}", file=sys.stderr)
     return status
 
 
-def run(teller: str, main: Callable[..., int | None], *words: str) -> NoReturn:
+def run(prog: str, main: Callable[..., int | None], *argv: str) -> NoReturn:
     """Runs a command, and exited with status that it gives."""
     hold()
     # (where the caller waits for no child, neither would this)
     signal.signal(signal.SIGCHLD, signal.SIG_DFL)
-    sys.exit(status_of(teller, main, *words))
+    sys.exit(status_of(prog, main, *argv))

@@ -1,4 +1,4 @@
-"""Strategies of hypothesis, where it is installed: descriptors, tables, sections and streams, lawful and broken, which shrink.
+"""Strategies for hypothesis, if it is installed: descriptors, tables, sections and streams, well-formed or broken.
 
     from hypothesis import given
     from dvbemu import strategies
@@ -7,8 +7,8 @@
     def test_my_parser(section):
         parse(section)
 
-What is lawful is right in form, by ISO/IEC 13818-1 and ETSI EN 300 468; of what is broken one to five changes were made by the
-grammar of `dvbemu fuzz`. Importing this raises ImportError where hypothesis isn't there.
+Well-formed ones follow ISO/IEC 13818-1 and ETSI EN 300 468. Broken ones have one to five changes by the grammar of `dvbemu fuzz`. They
+shrink. Importing this module without hypothesis raises an ImportError.
 """
 from __future__ import annotations
 
@@ -17,7 +17,7 @@ from typing import Any, Optional, Sequence
 try:
     from hypothesis import strategies as st
 except ImportError as missing:
-    raise ImportError("dvbemu.strategies wants hypothesis (Debian: apt-get install python3-hypothesis)") from missing
+    raise ImportError("dvbemu.strategies needs hypothesis (Debian: apt-get install python3-hypothesis)") from missing
 
 from .fuzz.grammar import map_of, mended
 from .fuzz.mutate import CHANGES, PACKETS, Draw, Item, bits, stream_of
@@ -29,7 +29,7 @@ Strategy = Any
 
 
 class Drawn(Draw):
-    """Draws that hypothesis makes, and makes small."""
+    """Draws by hypothesis, which shrink."""
 
     def __init__(self, draw: Any) -> None:
         super().__init__()
@@ -46,14 +46,14 @@ class Drawn(Draw):
 
 
 def descriptors(tag: Optional[int] = None, broken: bool = False) -> Strategy:
-    """Descriptors, as the bytes of one: right in form, of a tag where one is given; broken ones have any bytes and any length."""
+    """Descriptors as bytes: well-formed, with this tag if one is given. Broken ones have any bytes and any length."""
     right = [one.descriptor for one in RIGHT if tag in (None, one.descriptor.tag)] or [Descriptor(tag or 0, b"")]
-    lawful = st.sampled_from(right).map(lambda one: bytes([one.tag, len(one.data)]) + one.data)
+    well_formed = st.sampled_from(right).map(lambda one: bytes([one.tag, len(one.data)]) + one.data)
     if not broken:
-        return lawful
+        return well_formed
     tags = st.integers(0, 255) if tag is None else st.just(tag)
     length = st.integers(0, 255)
-    return st.one_of(st.builds(with_length, lawful, length), st.builds(with_tag, tags, length, st.binary(max_size=40)))
+    return st.one_of(st.builds(with_length, well_formed, length), st.builds(with_tag, tags, length, st.binary(max_size=40)))
 
 
 def with_length(descriptor: bytes, length: int) -> bytes:
@@ -78,12 +78,12 @@ def programs() -> Strategy:
 
 
 def chosen() -> Strategy:
-    """Descriptors that stand in tables, and where they may."""
+    """Descriptors, with the tables in which each may be."""
     return st.lists(st.sampled_from(RIGHT), max_size=6)
 
 
 def items() -> Strategy:
-    """Tables of each kind, on their PIDs, right in form."""
+    """Well-formed tables of each kind, on their PIDs."""
 
     def made(some: Sequence[Program], more: Sequence[Right]) -> list[Item]:
         return [Item(pid, data) for pid, data in tables_of(some, more)]
@@ -92,15 +92,14 @@ def items() -> Strategy:
 
 
 def tables(table_id: Optional[int] = None) -> Strategy:
-    """Tables, as `dvbemu.stream.tables` has them: right in form, with a table_id where one is given."""
+    """Well-formed tables, as objects of `dvbemu.stream.tables`; with this table_id if one is given."""
     if table_id is not None and table_id not in FORMS:
         raise ValueError(f"0x{table_id:02X} is the table_id of no table")
     return sections(table_id).map(read)
 
 
 def sections(table_id: Optional[int] = None, broken: bool = False) -> Strategy:
-    """Sections of tables: right in form, with a table_id where one is given; or broken ones, whose CRC_32 is mended, and now and
-    then not."""
+    """Sections of tables: well-formed, with this table_id if one is given. Broken ones mostly have a right CRC_32 all the same."""
 
     @st.composite
     def one(draw: Any) -> bytes:
@@ -122,8 +121,7 @@ def damaged(draw: Drawn, data: bytes) -> bytes:
 
 
 def streams(broken: bool = False) -> Strategy:
-    """Transport streams of tables of each kind, as the bytes of their packets: right in form, or broken, with changes of sections
-    and of packets."""
+    """Transport streams of tables of each kind, as bytes: well-formed, or broken by changes of sections and packets."""
 
     @st.composite
     def one(draw: Any) -> bytes:

@@ -1,10 +1,9 @@
-"""What the commands of dvbemu share: one form of --help, --version and errors, files or standard input, and how they end.
+"""What the commands of dvbemu share: the form of --help, --version and errors, files or standard input, and exit statuses.
 
-A command is a script of tools/, which `dvbemu WORD` runs. Its statuses: 0, 1 where a file can't be read or is of the wrong kind, 2
-where a word of the command line is wrong, and what its own help says beside these. What it can't do it tells in one line on standard
-error, `dvbemu WORD: ..`; standard.py does so of all that no command looks after itself: 6 where standard output takes no more, 7 where
-memory is missing, 70 for a fault of its own. A reader that has seen enough ends it quietly, and so does Ctrl-C, which a shell sees as the
-status 130.
+A command is a module of `commands`, which `dvbemu WORD` runs. Its exit status is 0; 1 if a file can't be read or is of the wrong kind; 2 for
+a usage error; and others that its help names. An error is one line on standard error, `dvbemu WORD: ..`. standard.py handles what no command
+does itself: 6 if standard output can't be written, 7 if out of memory, 70 for a bug. If a reader of its output goes away, or on Ctrl-C, a
+command ends without a message; a shell sees Ctrl-C as the status 130.
 """
 from __future__ import annotations
 
@@ -24,26 +23,26 @@ if TYPE_CHECKING:
 ROOT = os.path.normpath(os.path.join(os.path.dirname(os.path.realpath(__file__)), "..", "..", ".."))
 PARTS = ("reads", "writes", "status", "example")
 WIDTH = 120
-# What --version tells where nothing is proved of the program that runs.
+# What --version prints if the program isn't proved.
 HASTY = "not proved: built with DVBEMU_UNPROVED"
 
-# (set where this is read, so that what a command reads behind it ends quietly too)
+# (set on import, so that the imports that follow end quietly too)
 signal.signal(signal.SIGPIPE, signal.SIG_DFL)
 if signal.getsignal(signal.SIGINT) is signal.default_int_handler:
     signal.signal(signal.SIGINT, signal.SIG_DFL)
-# (a Ctrl-C that has come since the wrapper began ends it here)
+# (a Ctrl-C that came since the wrapper started takes effect here)
 signal.pthread_sigmask(signal.SIG_UNBLOCK, {signal.SIGINT})
 
 
 def nearest(word: str, known: Iterable[str]) -> str:
-    """Of the words that are known the one that a wrong word is like, as the end of a message; nothing where none is."""
+    """The end of a message with the known word that is most like a wrong one; empty if none is."""
     import difflib  # pylint: disable=import-outside-toplevel
     found = difflib.get_close_matches(word, known, 1, 0.6)
     return f"; did you mean {found[0]}?" if found else ""
 
 
 def version() -> str:
-    """The version of the file VERSION, the commit where there is one, and the toolchain that proved the program that runs."""
+    """The version in the file VERSION, the commit if there is one, and the toolchain that proved the program."""
     from . import build  # pylint: disable=import-outside-toplevel
     with open(os.path.join(ROOT, "VERSION"), encoding="utf-8") as file:
         number, proved = file.read().splitlines()[:2]
@@ -67,7 +66,7 @@ class Version(argparse.Action):
 
 
 class Once(argparse.Action):
-    """An option that stands once."""
+    """An option that can be given once."""
 
     def __call__(self, parser: argparse.ArgumentParser, namespace: argparse.Namespace, values: object, option_string: str | None = None) -> None:
         if getattr(namespace, self.dest) is not None:
@@ -76,21 +75,22 @@ class Once(argparse.Action):
 
 
 class Page(argparse.RawDescriptionHelpFormatter):
-    """A help whose lines aren't those of the terminal, so that it is the same everywhere."""
+    """A help whose width doesn't depend on the terminal."""
 
     def __init__(self, prog: str) -> None:
         super().__init__(prog, width=WIDTH)
 
 
 class Command(argparse.ArgumentParser):
-    """A command: its word, the words behind that, what it does, and what it reads, writes and ends with, and an example."""
+    """The parser of a command: its word, its usage, what it does; and for its help what it reads and writes, its exit statuses, and an
+    example."""
 
-    # The statuses of all tools, behind their own.
+    # The statuses of all tools, which follow their own.
     others = "; 6 if standard output can't be written; 7 if out of memory; 70 for a bug in the tool"
 
-    def __init__(self, word: str, usage: str, about: str, teller: str | None = None, **told: str) -> None:
+    def __init__(self, word: str, usage: str, about: str, teller: str | None = None, **sections: str) -> None:
         self.teller = teller or f"dvbemu {word}"
-        self.told = told
+        self.sections = sections
         super().__init__(prog=f"dvbemu {word}", usage=f"dvbemu {word} {usage}", description=about, add_help=False, formatter_class=Page,
                          allow_abbrev=False)  # fmt: skip
         self.add_argument("-h", "--help", action="help", help="show this help")
@@ -98,32 +98,32 @@ class Command(argparse.ArgumentParser):
 
     def statuses(self) -> str:
         """The exit statuses, and what they mean."""
-        return self.told["status"] + ("" if self.teller == "dvbemu" else self.others)
+        return self.sections["status"] + ("" if self.teller == "dvbemu" else self.others)
 
     def format_help(self) -> str:
-        """The help, with what is told at its end."""
+        """The help, with its sections at the end."""
         import textwrap  # pylint: disable=import-outside-toplevel
-        told = {**self.told, "status": self.statuses()}
-        rows = (textwrap.wrap(told[part], WIDTH - 9, break_on_hyphens=False) for part in PARTS)
+        sections = {**self.sections, "status": self.statuses()}
+        rows = (textwrap.wrap(sections[part], WIDTH - 9, break_on_hyphens=False) for part in PARTS)
         self.epilog = "\n".join(f"{part:8} " + "\n         ".join(row) for part, row in zip(PARTS, rows))
         return super().format_help()
 
     def exit(self, status: int = 0, message: str | None = None) -> NoReturn:
-        """Ends, behind a line of the message, where there is one."""
+        """Exits, with a message if there is one."""
         progress.end()
         super().exit(status, message)
 
     def fail(self, text: object) -> NoReturn:
-        """Tells what can't be done; the status is 1."""
+        """Exits with an error message and status 1."""
         self.exit(1, f"{self.teller}: {text}\n")
 
     def fail_on(self, name: str | None, fault: Exception | str) -> NoReturn:
-        """Tells what is wrong with a file."""
+        """Exits with a message on a file and status 1."""
         reason = fault.strerror if isinstance(fault, OSError) and fault.strerror else str(fault)
         self.fail(f"{'standard input' if name in (None, '-') else name}: {reason}")
 
     def opened(self, name: str | None) -> BinaryIO:
-        """The file of this name, or standard input for None and `-`, whose bytes are read."""
+        """The file of this name, opened for its bytes; standard input for None and `-`."""
         if name is not None and name != "-":
             try:
                 return open(name, "rb")  # pylint: disable=consider-using-with
@@ -137,7 +137,7 @@ class Command(argparse.ArgumentParser):
         return sys.stdin.buffer
 
     def tell_waiting(self, more: str = "") -> None:
-        """Tells on a terminal what is waited for."""
+        """Says on a terminal that standard input is read."""
         if sys.stdin is not None and sys.stdin.isatty():
             print(f"{self.teller}: reading standard input, which is a terminal; Ctrl-D ends it{more}", file=sys.stderr)
 
@@ -151,7 +151,7 @@ class Command(argparse.ArgumentParser):
 
 
 def reader(function: Callable[[str], T], expected: str) -> Callable[[str], T]:
-    """A reader of a word of the command line by a function, which raises a ValueError or a KeyError where the word isn't what is expected."""
+    """A function for `type=` of an argument. A ValueError or KeyError of the given function becomes a message with what is expected."""
 
     def read(word: str) -> T:
         try:
@@ -163,7 +163,7 @@ def reader(function: Callable[[str], T], expected: str) -> Callable[[str], T]:
 
 
 def number(least: int, most: int, is_plain: bool = False) -> Callable[[str], int]:
-    """A reader of a number in decimal digits; in hexadecimal ones behind 0x, and with zeros in front, where it needn't be plain."""
+    """A `type=` for a decimal number in a range; unless it has to be plain, also a hexadecimal one after 0x, and with leading zeros."""
 
     def read(word: str) -> int:
         value = int(word, 16) if word.lower().startswith("0x") and not is_plain else int(word)

@@ -11,7 +11,7 @@ if TYPE_CHECKING:
     from typing import Iterator
 
 TRACEME, SYSCALL, SETOPTIONS, GETEVENTMSG, GET_SYSCALL_INFO = 0, 24, 0x4200, 0x4201, 0x420E
-# A mark on stops at system calls; forks, threads and exec are followed and told; nobody outlives this process.
+# A mark on stops at system calls; forks, threads and exec are followed and reported; no process outlives this one.
 OPTIONS = 0x01 | 0x02 | 0x04 | 0x08 | 0x10 | 0x100000
 BORN, EXEC = (1, 2, 3), 4
 X86_64 = 0xC000003E
@@ -27,7 +27,7 @@ class Event(NamedTuple):
 
     kind: str
     thread: int
-    # The number of a system call and its six words; its result alone; the other's number; the exit status.
+    # The number of a system call and its six arguments; its result alone; the other's number; the exit status.
     words: tuple[int, ...] = ()
 
 
@@ -42,14 +42,14 @@ def ptrace(request: int, thread: int, at: int | None = None, data: int | None = 
 class Traced:
     """A program that runs, and all that it starts."""
 
-    def __init__(self, words: list[str]) -> None:
+    def __init__(self, argv: list[str]) -> None:
         self.first = os.fork()
         if self.first == 0:
             try:
                 ptrace(TRACEME, 0)
-                os.execvp(words[0], words)
+                os.execvp(argv[0], argv)
             except OSError as error:
-                os.write(2, f"dvbemu calls: {words[0]}: {error.strerror}\n".encode())
+                os.write(2, f"dvbemu calls: {argv[0]}: {error.strerror}\n".encode())
             os._exit(127)
         self.threads = {self.first}
         self.early: set[int] = set()
@@ -69,7 +69,7 @@ class Traced:
             pass
 
     def events(self) -> Iterator[Event]:
-        """All that happens, in the order in which it is told. A thread stands still until the next event is asked for."""
+        """All events, in order. A thread stops until the next event is requested."""
         while self.threads:
             thread, status = os.waitpid(-1, ALL)
             if os.WIFSTOPPED(status):
@@ -84,7 +84,7 @@ class Traced:
         """What a stop tells; then the thread goes on."""
         number, event = why & 0xFF, why >> 8
         if thread not in self.threads:
-            self.early.add(thread)  # its maker hasn't told yet
+            self.early.add(thread)  # its maker's event hasn't come yet
             return
         if event in BORN:
             yield from self.born(thread, self.message(thread))
@@ -118,14 +118,14 @@ class Traced:
         return number.value
 
     def called(self, thread: int) -> Iterator[Event]:
-        """The system call at whose edge a thread stands. Those of programs of 32 bits aren't told."""
-        told = ctypes.create_string_buffer(88)
-        ptrace(GET_SYSCALL_INFO, thread, len(told), ctypes.addressof(told))
-        kind, machine = struct.unpack_from("<B3xI", told)
+        """The system call that a thread enters or leaves. Those of 32-bit programs are left out."""
+        info = ctypes.create_string_buffer(88)
+        ptrace(GET_SYSCALL_INFO, thread, len(info), ctypes.addressof(info))
+        kind, machine = struct.unpack_from("<B3xI", info)
         if machine == X86_64 and kind == 1:
-            yield Event("enters", thread, struct.unpack_from("<7Q", told, 24))
+            yield Event("enters", thread, struct.unpack_from("<7Q", info, 24))
         elif machine == X86_64 and kind == 2:
-            yield Event("leaves", thread, struct.unpack_from("<q", told, 24))
+            yield Event("leaves", thread, struct.unpack_from("<q", info, 24))
 
 
 def bytes_at(thread: int, place: int, count: int) -> bytes:

@@ -24,7 +24,7 @@ if TYPE_CHECKING:
     from ..linux.parts import Reply
     from ..linux.points import Point
 
-# How many changes of a line are told, and how many lines by the same rows.
+# How many changes of a line are shown, and how many lines by the same rows.
 CHANGES, LINES = 3, 20
 HERTZ = 1000, 250, 100
 
@@ -33,7 +33,7 @@ HERTZ = 1000, 250, 100
 
 
 class Given(NamedTuple):
-    """What the words name: the session with its script in front, the batch, and the report that it is of, if there is one."""
+    """What the arguments name: the session with its script in front, the batch, and the report that it is of, if there is one."""
 
     session: bytes
     batch: int
@@ -41,11 +41,11 @@ class Given(NamedTuple):
 
 
 def command() -> tool.Command:
-    """The command and its words."""
-    words = tool.Command(
+    """The command line."""
+    parser = tool.Command(
         "beside",
         "[--batch B] [--packet P] [--hz HZ] [--json] [SESSION | SCRIPT STREAM .. | REPORT SESSION]",
-        "Plays a session by the rules of Linux 6.1 too, and shows line by line which replies would differ, with the rows of docs/KERNEL.md.",
+        "Runs a session also by the rules of Linux 6.1, and shows line by line which replies differ, and by which row of docs/KERNEL.md.",
         reads="a session, or a script and its streams, like `steps`; or a report of `steps` and its session, with the report's batch size; "
         "or a report of `serve` and what was played, with the lines of `dvbemu session`. A file may be `-`; without files the session is "
         "read from standard input",
@@ -53,58 +53,58 @@ def command() -> tool.Command:
         status="0 if all replies are the same; 1 if one differs, or a file can't be read; 2 for a usage error; 3 if the script has an error",
         example="dvbemu beside my.session; dvbemu beside my.script my.ts; dvbemu beside --hz 250 my.report my.session",
     )
-    words.add_argument("--batch", action=tool.Once, type=tool.number(1, MOST_BATCH, True), metavar="B",
+    parser.add_argument("--batch", action=tool.Once, type=tool.number(1, MOST_BATCH, True), metavar="B",
                        help="the maximum number of packets in a batch, as in `steps`")  # fmt: skip
-    words.add_argument("--packet", action=tool.Once, type=int, choices=(188, 204), metavar="P",
+    parser.add_argument("--packet", action=tool.Once, type=int, choices=(188, 204), metavar="P",
                        help="the packet size in the stream: 188 (default) or 204")  # fmt: skip
-    words.add_argument("--hz", type=int, choices=HERTZ, default=HERTZ[0], help="the timer frequency of the kernel; default 1000")
-    words.add_argument("--json", action="store_true", help="write JSON Lines: one object for each line that differs, and one for the whole")
-    words.add_argument("files", metavar="FILE", nargs="*", help="the files, in the order shown above")
-    return words
+    parser.add_argument("--hz", type=int, choices=HERTZ, default=HERTZ[0], help="the timer frequency of the kernel; default 1000")
+    parser.add_argument("--json", action="store_true", help="write JSON Lines: one object for each line that differs, and a summary")
+    parser.add_argument("files", metavar="FILE", nargs="*", help="the files, in the order shown above")
+    return parser
 
 
-def given_by(words: tool.Command, given: Namespace, files: Sequence[inputs.Input]) -> Given:
+def given_by(parser: tool.Command, args: Namespace, files: Sequence[inputs.Input]) -> Given:
     """What the files are."""
     texts = [file.whole() for file in files]
     if not texts[0].startswith(f"{reports.FORMAT}\n".encode()) or len(texts) == 1:
         script = inputs.with_line(texts[0]) if texts[1:] else texts[0]
-        return Given(b"".join([script, *texts[1:]]), given.batch or MOST_BATCH, None)
+        return Given(b"".join([script, *texts[1:]]), args.batch or MOST_BATCH, None)
     if played.is_recording(texts[1]):
-        return Given(served(words, files, texts), given.batch or MOST_BATCH, None)
+        return Given(served(parser, files, texts), args.batch or MOST_BATCH, None)
     script = inputs.with_line(texts[1]) if texts[2:] else texts[1]
-    return Given(b"".join([script, *texts[2:]]), given.batch or batch_of(texts[0].decode("latin-1").split("\n")), texts[0])
+    return Given(b"".join([script, *texts[2:]]), args.batch or batch_of(texts[0].decode("latin-1").split("\n")), texts[0])
 
 
-def served(words: tool.Command, files: Sequence[inputs.Input], texts: Sequence[bytes]) -> bytes:
+def served(parser: tool.Command, files: Sequence[inputs.Input], texts: Sequence[bytes]) -> bytes:
     """The session of a report of `serve` and of what was played."""
     try:
         report = reports.read(reports.text_of(io.BytesIO(texts[0])))
-        script, _ = sessions.script_in(words, files[0].name, report)
+        script, _ = sessions.script_in(parser, files[0].name, report)
         return b"".join(["\n".join([*script, ""]).encode(), LINE, *played.packets_of(texts[1], report)])
-    except reports.NotAReport as wrong:
-        words.fail_on(files[0].name, wrong)
+    except reports.ReportError as wrong:
+        parser.fail_on(files[0].name, wrong)
     except played.NotPlayed as wrong:
-        words.fail_on(files[1].name, wrong)
+        parser.fail_on(files[1].name, wrong)
 
 
-def compared(words: tool.Command, given: Namespace, files: Sequence[inputs.Input]) -> Beside | int:
+def compared(parser: tool.Command, args: Namespace, files: Sequence[inputs.Input]) -> Beside | int:
     """Both runs of what the files are, or the status where `steps` ends with another one than 0."""
-    found = given_by(words, given, files)
-    size = given.packet or 188
+    found = given_by(parser, args, files)
+    size = args.packet or 188
     run = child.Run(child.program(), ["steps", "--batch", str(found.batch), "--packet", str(size)], True)
     if status := run.feed([found.session]):
         progress.end()
-        sys.stderr.buffer.write(run.told)
+        sys.stderr.buffer.write(run.stderr)
         sys.stderr.flush()
         cli.tell_more(status, run, found.session[: inputs.SCRIPT], files, "beside")
         return cli.ended(status)
-    if found.report is not None and found.report != run.output:
-        words.fail(f"{files[0].name}: it isn't the report of `steps` over this session; without it the session alone is compared")
+    if found.report is not None and found.report != run.stdout:
+        parser.fail(f"{files[0].name}: not the report of `steps` over this session; leave it out to compare the session alone")
     session = Session.of(found.session, size)
-    return Beside(session, events_here(run.output.decode("latin-1").split("\n"), session), found.batch, given.hz)
+    return Beside(session, events_here(run.stdout.decode("latin-1").split("\n"), session), found.batch, args.hz)
 
 
-# ------ what is told
+# ------ what is written
 
 
 def change_lines(count: int, changes: Sequence[Change]) -> Iterator[str]:
@@ -117,8 +117,8 @@ def change_lines(count: int, changes: Sequence[Change]) -> Iterator[str]:
 
 
 class Teller:
-    """The differences of a session, as text. `times` says how many lines were told by each set of rows, `passed` are the
-    lines that were passed over since, as these rows have been told."""
+    """The differences of a session, as text. `times` says how many lines each set of rows was shown for; `passed` are the
+    lines left out since, because their rows have been shown often enough."""
 
     def __init__(self, both: Beside) -> None:
         self.both = both
@@ -127,7 +127,7 @@ class Teller:
         self.passed: list[int] = []
 
     def lines(self) -> Iterator[str]:
-        """What is told of each line that differs, and at the end."""
+        """The text on each line that differs, and the end."""
         for line in self.both.differing:
             causes = self.both.causes(line)
             rows = frozenset(cause.point for cause in causes)
@@ -143,7 +143,7 @@ class Teller:
         yield from self.last()
 
     def line(self, line: int, causes: Sequence[Cause]) -> Iterator[str]:
-        """What is told of a line."""
+        """The text on a line."""
         yield f"line {line}: {self.both.session.text[line - 1]}"
         yield from change_lines(*self.both.changes(line))
         for cause in causes:
@@ -155,7 +155,7 @@ class Teller:
             yield "    by several rows together"
 
     def passed_lines(self) -> Iterator[str]:
-        """What is told of lines that were passed over."""
+        """The text on lines that were left out."""
         if not self.passed:
             return
         first, last, places = self.passed[0], self.passed[-1], self.both.elsewhere(self.passed[0])
@@ -165,7 +165,7 @@ class Teller:
         self.passed = []
 
     def last(self) -> Iterator[str]:
-        """What is told at the end."""
+        """The last lines."""
         both, lines = self.both, many(len(self.both.lines), "line")
         if both.undefined is not None:
             yield f"undefined from line {both.undefined} on: Linux goes on with memory that it has given to another feed"
@@ -202,19 +202,19 @@ def objects(both: Beside) -> Iterator[str]:
 
 def main() -> int:
     """Compares, and tells."""
-    words = command()
-    given = words.parse_args()
+    parser = command()
+    args = parser.parse_args()
     try:
-        files = inputs.opened(given.files or ["-"])
+        files = inputs.opened(args.files or ["-"])
         if any(file.is_terminal for file in files):
-            words.tell_waiting()
-        progress.show(words.teller, progress.Work(files, "comparing").text)
-        both = compared(words, given, files)
-    except inputs.Broken as fault:
-        words.fail(fault)
+            parser.tell_waiting()
+        progress.show(parser.teller, progress.Work(files, "comparing").text)
+        both = compared(parser, args, files)
+    except inputs.InputError as fault:
+        parser.fail(fault)
     if isinstance(both, int):
         return both
     progress.clear()
-    for line in objects(both) if given.json else Teller(both).lines():
+    for line in objects(both) if args.json else Teller(both).lines():
         sys.stdout.write(line + "\n")
     return 0 if both.is_same() else 1

@@ -1,6 +1,6 @@
 """Writes what a node's clients have read, as a file: `dvbemu bytes --help`.
 
-The bytes of all reads of the node stand there in the order of its entries. What isn't among them is told on standard error: what was lost,
+The bytes of all reads of the node stand there in the order of its entries. What isn't among them is reported on standard error: what was lost,
 how many bytes, and behind which of those that are written; and each filter, PID or start that was asked for and refused.
 """
 from __future__ import annotations
@@ -26,8 +26,8 @@ ASKING = "section", "pes", "add", "start"
 
 
 def command() -> tool.Command:
-    """The command and its words."""
-    words = tool.Command(
+    """The command line."""
+    parser = tool.Command(
         "bytes",
         "[--node NODE] [-o FILE] [REPORT]",
         "Writes the bytes that were read from a node: what a recorder would have on disk.",
@@ -38,11 +38,11 @@ def command() -> tool.Command:
         "several nodes were read and --node is missing; 2 for a usage error",
         example="dvbemu steps record.script my.ts | dvbemu bytes --node dvr -o recorded.ts",
     )
-    words.add_argument("--node", metavar="NODE", type=tool.reader(reports.node_of, "n0 to n31 or dvr"), help="the node: n0 to n31, or dvr; "
+    parser.add_argument("--node", metavar="NODE", type=tool.reader(reports.node_of, "n0 to n31 or dvr"), help="the node: n0 to n31, or dvr; "
                        "default: the one that was read")  # fmt: skip
-    words.add_argument("-o", metavar="FILE", dest="to", help="the output file; default: standard output")
-    words.add_argument("report", metavar="REPORT", nargs="?", help="the report")
-    return words
+    parser.add_argument("-o", metavar="FILE", dest="to", help="the output file; default: standard output")
+    parser.add_argument("report", metavar="REPORT", nargs="?", help="the report")
+    return parser
 
 
 def has_data(entry: Entry) -> bool:
@@ -50,21 +50,21 @@ def has_data(entry: Entry) -> bool:
     return entry.reply.startswith("data ") and entry.reply != "data -"
 
 
-def chosen(words: tool.Command, given: Namespace, report: Report) -> int:
+def chosen(parser: tool.Command, args: Namespace, report: Report) -> int:
     """The node whose bytes are asked for."""
-    if given.node is not None:
-        node: int = given.node
+    if args.node is not None:
+        node: int = args.node
         if node not in report.nodes:
-            words.fail(f"no client called {reports.node_name(node)}")
+            parser.fail(f"no client called {reports.node_name(node)}")
         return node
     found = [node for node, entries in sorted(report.nodes.items()) if any(map(has_data, entries))]
     if not found:
         for node, entries in sorted(report.nodes.items()):
             for entry in entries:
-                tell_lost(words, node, entry, 0)
-        words.fail("no byte was read; `dvbemu explain` says more")
+                tell_lost(parser, node, entry, 0)
+        parser.fail("no byte was read; `dvbemu explain` says more")
     if len(found) > 1:
-        words.fail(f"{', '.join(map(reports.node_name, found))} were read; choose one with --node")
+        parser.fail(f"{', '.join(map(reports.node_name, found))} were read; choose one with --node")
     return found[0]
 
 
@@ -81,29 +81,29 @@ class Asked(Walk):
                 yield entry.place, re.sub(r" at=\d+", "", entry.act), error + (f": {reason}" if reason else "")
 
 
-def tell_refused(words: tool.Command, report: Report, node: int) -> None:
+def tell_refused(parser: tool.Command, report: Report, node: int) -> None:
     """Tells what was asked for and refused; of the dvr node, what was asked of the nodes whose packets it gets."""
     tapped = [number for number, entries in report.nodes.items() if any(" output=ts_tap " in entry.act for entry in entries)]
     for number in tapped if node == reports.DVR else [node]:
         for place, act, error in Asked(number).refused(report.nodes[number]):
-            print(f"{words.prog}: {reports.node_name(number)}: refused, and not among these bytes: {act} (place {place}: {error})",
+            print(f"{parser.prog}: {reports.node_name(number)}: refused, and not among these bytes: {act} (place {place}: {error})",
                   file=sys.stderr)  # fmt: skip
 
 
-def tell_lost(words: tool.Command, node: int, entry: Entry, written: int) -> None:
+def tell_lost(parser: tool.Command, node: int, entry: Entry, written: int) -> None:
     """Tells of an overflow, behind so many bytes that are written."""
     if entry.reply.startswith("overflow "):
         first, after = reports.span(entry.reply.split(" ")[1])
         lost = many(after - first, "byte is", "bytes are")
-        print(f"{words.prog}: {reports.node_name(node)}: {lost} lost after byte {written:,} (place {entry.place}: {entry.reply})",
+        print(f"{parser.prog}: {reports.node_name(node)}: {lost} lost after byte {written:,} (place {entry.place}: {entry.reply})",
               file=sys.stderr)  # fmt: skip
 
 
-def copy(words: tool.Command, node: int, entries: Sequence[Entry], out: BinaryIO) -> None:
+def copy(parser: tool.Command, node: int, entries: Sequence[Entry], out: BinaryIO) -> None:
     """Writes the bytes of a node's reads, and tells what was lost."""
     written = 0
     for entry in entries:
-        tell_lost(words, node, entry, written)
+        tell_lost(parser, node, entry, written)
         if has_data(entry):
             data = bytes.fromhex(entry.reply[5:])
             out.write(data)
@@ -112,16 +112,16 @@ def copy(words: tool.Command, node: int, entries: Sequence[Entry], out: BinaryIO
 
 def main() -> None:
     """Writes the bytes."""
-    words = command()
-    given = words.parse_args()
+    parser = command()
+    args = parser.parse_args()
     try:
-        report = reports.read(reports.text_of(words.opened(given.report)))
-    except (reports.NotAReport, OSError) as wrong:
-        words.fail_on(given.report, wrong)
-    node = chosen(words, given, report)
-    tell_refused(words, report, node)
+        report = reports.read(reports.text_of(parser.opened(args.report)))
+    except (reports.ReportError, OSError) as wrong:
+        parser.fail_on(args.report, wrong)
+    node = chosen(parser, args, report)
+    tell_refused(parser, report, node)
     try:
-        with open(given.to, "wb") if given.to else sys.stdout.buffer as out:
-            copy(words, node, report.nodes[node], out)
+        with open(args.to, "wb") if args.to else sys.stdout.buffer as out:
+            copy(parser, node, report.nodes[node], out)
     except OSError as wrong:
-        words.fail_on(given.to or "standard output", wrong)
+        parser.fail_on(args.to or "standard output", wrong)

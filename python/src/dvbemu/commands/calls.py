@@ -112,13 +112,13 @@ class Script:
         if old in table:
             table[new] = table[old]
 
-    def polled(self, thread: int, call: int, words: Sequence[int]) -> list[int]:
+    def polled(self, thread: int, call: int, args: Sequence[int]) -> list[int]:
         """The descriptors that a call asks after."""
         if call in (POLL, PPOLL):
-            rows = bytes_at(thread, words[0], 8 * min(words[1], 1024))
+            rows = bytes_at(thread, args[0], 8 * min(args[1], 1024))
             return [descriptor for descriptor, _, _ in struct.iter_unpack("<ihh", rows[: len(rows) // 8 * 8])]
-        bits = [bytes_at(thread, place, (words[0] + 7) // 8) for place in words[1:4] if place]
-        return [i for i in range(min(words[0], 1024)) if any(row[i // 8] >> i % 8 & 1 for row in bits if i // 8 < len(row))]
+        bits = [bytes_at(thread, place, (args[0] + 7) // 8) for place in args[1:4] if place]
+        return [i for i in range(min(args[0], 1024)) if any(row[i // 8] >> i % 8 & 1 for row in bits if i // 8 < len(row))]
 
     def read(self, thread: int, target: str, descriptor: int, count: int) -> None:
         """A read: that of a client that waits, unless the device is open without waiting."""
@@ -147,41 +147,41 @@ class Script:
         else:
             self.line(line if self.plain else f"{spelled} {argument.hex() or '-'}")
 
-    def enters(self, thread: int, call: int, *words: int) -> None:
+    def enters(self, thread: int, call: int, *args: int) -> None:
         """A system call begins."""
-        self.asked[thread] = (call, words)
-        table, descriptor = self.tables[thread], words[0] & 0xFFFFFFFF
+        self.asked[thread] = (call, args)
+        table, descriptor = self.tables[thread], args[0] & 0xFFFFFFFF
         if call == IOCTL and descriptor in table:
-            number = words[1] & 0xFFFFFFFF
-            self.requested(table[descriptor].target, number, argument_of(thread, number, words[2]))
+            number = args[1] & 0xFFFFFFFF
+            self.requested(table[descriptor].target, number, argument_of(thread, number, args[2]))
         elif call == READ and descriptor in table:
-            self.read(thread, table[descriptor].target, descriptor, words[2])
+            self.read(thread, table[descriptor].target, descriptor, args[2])
         elif call == WRITE and descriptor in table:
-            self.written(thread, table[descriptor].target, words[1], words[2])
+            self.written(thread, table[descriptor].target, args[1], args[2])
         elif call in (POLL, PPOLL, SELECT, PSELECT):
-            for polled in self.polled(thread, call, words):
+            for polled in self.polled(thread, call, args):
                 if polled in table:
                     self.line(f"c0 poll {table[polled].target}")
         elif call == CLOSE:
             self.closed(table, descriptor)
-        elif call == CLOSE_RANGE and not words[2] & CLOSE_RANGE_CLOEXEC:
-            for descriptor in [known for known in table if words[0] <= known <= words[1]]:
+        elif call == CLOSE_RANGE and not args[2] & CLOSE_RANGE_CLOEXEC:
+            for descriptor in [known for known in table if args[0] <= known <= args[1]]:
                 self.closed(table, descriptor)
 
     def leaves(self, thread: int, result: int) -> None:
         """A system call has its result."""
-        call, words = self.asked.pop(thread, (None, ()))
+        call, args = self.asked.pop(thread, (None, ()))
         if result < 0:
             return
         if call in (OPEN, OPENAT, OPENAT2):
             self.opened(thread, result)
-        elif call in (DUP, DUP2, DUP3) or call == FCNTL and words[1] in DUPLICATES:
-            self.copied(self.tables[thread], words[0], result)
+        elif call in (DUP, DUP2, DUP3) or call == FCNTL and args[1] in DUPLICATES:
+            self.copied(self.tables[thread], args[0], result)
 
     def born(self, maker: int, thread: int) -> None:
         """A thread shares the table of its maker, a process has a copy."""
-        call, words = self.asked.get(maker, (None, ()))
-        flags = words[0] if call == CLONE else int.from_bytes(bytes_at(maker, words[0], 8), "little") if call == CLONE3 else 0
+        call, args = self.asked.get(maker, (None, ()))
+        flags = args[0] if call == CLONE else int.from_bytes(bytes_at(maker, args[0], 8), "little") if call == CLONE3 else 0
         table = self.tables[maker]
         self.tables[thread] = table if flags & CLONE_FILES else dict(table)
 
@@ -206,50 +206,50 @@ def literal(path: str) -> str:
 
 
 def command() -> tool.Command:
-    """The command and its words."""
-    told = tool.Command(
+    """The command line."""
+    parser = tool.Command(
         "calls",
         "[--plain] [--to FILE] [--demux PATH] [--dvr PATH] PROGRAM ARGUMENT ..",
-        "Runs a program on an adapter and writes its calls on demux and dvr devices as a script (x86-64 Linux).",
+        "Runs a program on a real adapter and writes its calls on demux and dvr devices as a script (x86-64 Linux).",
         reads="the program's calls; its standard input is the program's",
         writes="the script, which ends with the line `stream`, into FILE or on standard output",
         status="that of the program, 128 plus the signal's number if one ended it; 127 if it doesn't exist; 1 if FILE "
         "can't be written; 2 for a usage error",
         example="dvbemu calls --to my.script my-receiver ..; dvbemu steps my.script my.ts",
     )
-    told.add_argument("--to", metavar="FILE", help="the output file; default: standard output")
-    told.add_argument("--demux", metavar="PATH", type=literal, default=r"/dev/dvb/adapter\d+/demux\d+",
+    parser.add_argument("--to", metavar="FILE", help="the output file; default: standard output")
+    parser.add_argument("--demux", metavar="PATH", type=literal, default=r"/dev/dvb/adapter\d+/demux\d+",
                       help="another file to treat as the demux device")  # fmt: skip
-    told.add_argument("--dvr", metavar="PATH", type=literal, default=r"/dev/dvb/adapter\d+/dvr\d+",
+    parser.add_argument("--dvr", metavar="PATH", type=literal, default=r"/dev/dvb/adapter\d+/dvr\d+",
                       help="another file to treat as the dvr device")  # fmt: skip
-    told.add_argument("--plain", action="store_true", help="plain commands in place of request numbers and bytes")
-    told.add_argument("program", metavar="PROGRAM", nargs=argparse.REMAINDER, help="the program and its arguments")
-    return told
+    parser.add_argument("--plain", action="store_true", help="plain commands in place of request numbers and bytes")
+    parser.add_argument("program", metavar="PROGRAM", nargs=argparse.REMAINDER, help="the program and its arguments")
+    return parser
 
 
 def main() -> int:
-    told = command()
-    words = told.parse_args()
-    words.program = words.program[words.program[:1] == ["--"] :]
-    if not words.program:
-        told.error("the following arguments are required: PROGRAM")
-    if words.program[0].startswith("-"):
-        told.error(f"unrecognized arguments: {words.program[0]}")
+    parser = command()
+    args = parser.parse_args()
+    args.program = args.program[args.program[:1] == ["--"] :]
+    if not args.program:
+        parser.error("the following arguments are required: PROGRAM")
+    if args.program[0].startswith("-"):
+        parser.error(f"unrecognized arguments: {args.program[0]}")
     # (Ctrl-C is for the program: what it has called until it ends is written)
     signal.signal(signal.SIGINT, lambda *_: None)
     try:
-        out = open(words.to, "w", encoding="ascii") if words.to else sys.stdout
+        out = open(args.to, "w", encoding="ascii") if args.to else sys.stdout
     except OSError as fault:
-        told.fail_on(words.to, fault)
-    program = Traced(words.program)
+        parser.fail_on(args.to, fault)
+    program = Traced(args.program)
     try:
         with out:
-            script = Script(program.first, out, re.compile(words.demux), re.compile(words.dvr), words.plain)
+            script = Script(program.first, out, re.compile(args.demux), re.compile(args.dvr), args.plain)
             for event in program.events():
                 getattr(script, event.kind)(event.thread, *event.words)
             script.line("stream")
     except OSError as fault:
         # (what ptrace refuses says so itself)
-        told.fail(fault.strerror if fault.strerror.startswith("ptrace") else f"{words.to}: {fault.strerror}")
+        parser.fail(fault.strerror if fault.strerror.startswith("ptrace") else f"{args.to}: {fault.strerror}")
     code = os.waitstatus_to_exitcode(program.status)
     return code if code >= 0 else 128 - code

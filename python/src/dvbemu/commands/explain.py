@@ -69,7 +69,7 @@ def main() -> None:
         if part.client is not None and part.client >= len(report.clients):
             words.fail(f"the report has no client {part.client}")
         text = with_session(words, given, report, part) if given.session else page(report, part, None)
-    except (reports.NotAReport, OSError) as wrong:
+    except (reports.ReportError, OSError) as wrong:
         words.fail_on(given.report, wrong)
     progress.clear()
     sys.stdout.write(text)

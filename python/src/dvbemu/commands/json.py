@@ -38,7 +38,7 @@ def main() -> None:
         with progress.reading(words, given.report, "writing") as file:
             text = reports.text_of(file)
             report = reports.read(objects.back(text) if given.back else text)
-    except (reports.NotAReport, objects.NoObjects, OSError) as wrong:
+    except (reports.ReportError, objects.JsonError, OSError) as wrong:
         words.fail_on(given.report, wrong)
     progress.clear()
     sys.stdout.writelines(reports.write(report) if given.back else (text + "\n" for text in objects.texts_of(report)))

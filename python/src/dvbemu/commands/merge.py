@@ -3,10 +3,10 @@
 The folder has a file N.calls for each seat, with a line for each call: its node, and then the line that the report has of it. The file
 `batches` has a line for each batch that passed all nodes: the number of its first packet, how many packets it has, and the moment. `head`
 is a report of the stream alone. A client's commands aren't there, since its calls tell them: a search for a free node is a command, what
-the dvr node is told of a tap belongs to the call before it, and each other call is a command of its own.
+the dvr node gets a tap belongs to the call before it, and each other call is a command of its own.
 
 The report is written as it comes, and no file is held in memory; each is read once for the commands, and once more for each node that was
-called. Where the server hasn't ended, or a line is missing, torn or wrong, that is told on standard error, and the status is 1; what was
+called. Where the server hasn't ended, or a line is missing, incomplete or wrong, that is reported on standard error, and the status is 1; what was
 written until then is no report.
 """
 from __future__ import annotations
@@ -23,7 +23,8 @@ from typing import TYPE_CHECKING, NamedTuple
 from .. import progress
 from .. import reports
 from .. import tool
-from ..reports import BITS_32, DVR, Entry, NotAReport, Outcome
+from ..errors import Error
+from ..reports import BITS_32, DVR, Entry, ReportError, Outcome
 
 if TYPE_CHECKING:
     from typing import Iterable, Iterator, TextIO
@@ -31,7 +32,7 @@ if TYPE_CHECKING:
 NODES = {**{str(node): node for node in range(DVR)}, "dvr": DVR}
 
 
-class Torn(Exception):
+class MergeError(Error):
     """A folder of which no report can be made."""
 
 
@@ -57,7 +58,7 @@ def opened(path: str) -> TextIO:
         file = os.open(name, flags | os.O_NONBLOCK)
         if not stat.S_ISREG(os.fstat(file).st_mode):
             os.close(file)
-            raise Torn(f"{name}: it is no file")
+            raise MergeError(f"{name}: it is no file")
         return file
 
     return open(path, encoding="ascii", opener=open_file)
@@ -69,7 +70,7 @@ def calls_in(path: str) -> Iterator[Call]:
         for step, line in enumerate(file):
             found = re.fullmatch(r"(\d+|dvr) (\d+) (c\d+) (\d+) (.*?) = (.*)\n", line)
             if not found or found[1] not in NODES or int(found[4]) != step:
-                raise Torn(f"{path}: line {step + 1} isn't call {step}")
+                raise MergeError(f"{path}: line {step + 1} isn't call {step}")
             yield Call(NODES[found[1]], Entry(int(found[2]), found[3], step, found[5], found[6]))
 
 
@@ -80,11 +81,11 @@ def passes_in(path: str, count: int) -> Iterator[str]:
         for number, line in enumerate(file, 1):
             found = re.fullmatch(r"(\d+) (\d+) (\d+)\n", line)
             if not found or int(found[1]) != packets:
-                raise Torn(f"{path}: line {number} isn't the batch behind {packets} packets")
+                raise MergeError(f"{path}: line {number} isn't the batch behind {packets} packets")
             yield f"pass input=frontend first={found[1]} count={found[2]} at={found[3]}"
             packets += int(found[2])
     if packets != count:
-        raise Torn(f"{path} tells of {packets} packets, and the stream had {count}")
+        raise MergeError(f"{path} tells of {packets} packets, and the stream had {count}")
     yield "end"
 
 
@@ -125,14 +126,14 @@ class Folder:
         self.node: int | None = None
         progress.show_beside("dvbemu merge", self.how_far)
         if not os.path.isdir(path):
-            raise Torn(f"{path}: {'it is no folder' if os.path.exists(path) else 'No such file or directory'}")
+            raise MergeError(f"{path}: {'it is no folder' if os.path.exists(path) else 'No such file or directory'}")
         if not os.path.exists(head):
-            raise Torn(f"{path} has no file `head`: the server is still running, or this isn't a --keep folder")
+            raise MergeError(f"{path} has no file `head`: the server is still running, or this isn't a --keep folder")
         try:
             with opened(head) as file:
                 self.stream = reports.read(file)
-        except NotAReport:
-            raise Torn(f"{head} isn't complete") from None
+        except ReportError:
+            raise MergeError(f"{head} isn't complete") from None
         paths = glob.glob(os.path.join(glob.escape(path), "*.calls"))
         for name in paths:
             self.take(name)
@@ -142,7 +143,7 @@ class Folder:
         """Looks who has made the calls of a file, and on which nodes."""
         for node, entry in calls_in(path):
             if self.files.setdefault(entry.who, path) != path:
-                raise Torn(f"{path}: {entry.who} has made the calls of {self.files[entry.who]}")
+                raise MergeError(f"{path}: {entry.who} has made the calls of {self.files[entry.who]}")
             self.called.add(node)
             self.read += 1
 
@@ -164,13 +165,13 @@ class Folder:
         passes, call = enumerate(passes_in(self.batches, self.stream.packets)), next(own, None)
         for place in itertools.count():
             if call and call.place < place:
-                raise Torn(f"node {reports.node_text(node)}: two calls at place {call.place}")
+                raise MergeError(f"node {reports.node_text(node)}: two calls at place {call.place}")
             if call and call.place == place:
                 entry, call = call, next(own, None)
             elif passed := next(passes, None):
                 entry = Entry(place, "feed", *passed, "passed")
             elif call:
-                raise Torn(f"node {reports.node_text(node)}: no file has the call at place {place}")
+                raise MergeError(f"node {reports.node_text(node)}: no file has the call at place {place}")
             else:
                 break
             self.written += 1
@@ -183,27 +184,27 @@ class Folder:
 
 
 def command() -> tool.Command:
-    """The command and its words."""
-    words = tool.Command(
+    """The command line."""
+    parser = tool.Command(
         "merge",
         "FOLDER",
         "Makes a report from the calls that `serve --keep FOLDER` has written.",
         reads="FOLDER, whose server has ended",
-        writes="the report, as it comes; what was written before an error is no report",
-        status="0; 1 if a file can't be read, a line is missing, torn or wrong, or the server is still running; 2 for a usage error",
+        writes="the report; after an error, what was written is incomplete",
+        status="0; 1 if a file can't be read, a line is missing, incomplete or wrong, or the server is still running; 2 for a usage error",
         example="dvbemu merge calls > my.report",
     )
-    words.add_argument("folder", metavar="FOLDER", help="the folder")
-    return words
+    parser.add_argument("folder", metavar="FOLDER", help="the folder")
+    return parser
 
 
 def main() -> None:
     """Writes the report."""
-    words = command()
-    given = words.parse_args()
+    parser = command()
+    args = parser.parse_args()
     try:
-        sys.stdout.writelines(Folder(given.folder).report())
+        sys.stdout.writelines(Folder(args.folder).report())
     except OSError as fault:
-        words.fail_on(fault.filename or given.folder, fault)
-    except (Torn, UnicodeDecodeError, ValueError) as fault:
-        words.fail(str(fault))
+        parser.fail_on(fault.filename or args.folder, fault)
+    except (MergeError, UnicodeDecodeError, ValueError) as fault:
+        parser.fail(str(fault))

@@ -5,7 +5,7 @@ make a leap. So a program that reads this meets the packets as a receiver would:
 
     dvbemu pace my.ts | dvbemu run my.script -
 
-A stream with fewer than two PCRs is told on standard error, nothing is written, and the status is 1.
+A stream with fewer than two PCRs is an error: nothing is written, and the status is 1.
 """
 from __future__ import annotations
 
@@ -14,7 +14,7 @@ import time
 from typing import TYPE_CHECKING
 
 from .. import tool
-from ..stream.pace import NoClock, timed
+from ..stream.pace import ClockError, timed
 
 if TYPE_CHECKING:
     from typing import BinaryIO, Iterable, Iterator
@@ -31,25 +31,25 @@ def rate(word: str) -> float:
 
 
 def command() -> tool.Command:
-    """The command and its words."""
-    words = tool.Command(
+    """The command line."""
+    parser = tool.Command(
         "pace",
         "[--rate R] [--pid P] [STREAM]",
-        "Writes a stream at the pace of its program clock (PCR), so that `run` meets it as a receiver would.",
+        "Writes a stream at the pace of its program clock (PCR), so that `run` gets it as from a broadcast.",
         reads="a transport stream, from the file STREAM; without it, or with `-`, from standard input",
         writes="the same bytes, each when it is due",
         status="0; 1 if STREAM can't be read or has fewer than two PCRs; 2 for a usage error",
         example="dvbemu pace --rate 2 my.ts | dvbemu run my.script -",
     )
-    words.add_argument("--rate", type=tool.reader(rate, "a number above 0"), default=1.0, metavar="R", help="play R times as fast; R is above 0")
-    words.add_argument("--pid", type=tool.number(0, 8191), metavar="P", help="the PID whose PCRs are the clock")
-    words.add_argument("stream", metavar="STREAM", nargs="?", help="a transport stream")
-    return words
+    parser.add_argument("--rate", type=tool.reader(rate, "a number above 0"), default=1.0, metavar="R", help="play R times as fast; R is above 0")
+    parser.add_argument("--pid", type=tool.number(0, 8191), metavar="P", help="the PID whose PCRs are the clock")
+    parser.add_argument("stream", metavar="STREAM", nargs="?", help="a transport stream")
+    return parser
 
 
 def chunks_of(file: BinaryIO) -> Iterator[bytes]:
     """What a file gives, as it comes."""
-    while chunk := file.read1(CHUNK):  # type: ignore[attr-defined]  # (files of `words.opened` have it)
+    while chunk := file.read1(CHUNK):  # type: ignore[attr-defined]  # (files of `parser.opened` have it)
         yield chunk
 
 
@@ -69,13 +69,13 @@ def write(pieces: Iterable[tuple[float, bytes]], times: float, out: BinaryIO) ->
 
 def main() -> None:
     """Writes the named stream, or that on standard input."""
-    words = command()
-    given = words.parse_args()
+    parser = command()
+    args = parser.parse_args()
     try:
-        with words.opened(given.stream) as file:
-            write(timed(chunks_of(file), given.pid), given.rate, sys.stdout.buffer)
-    except NoClock:
-        of = "" if given.pid is None else f" on PID {given.pid}"
-        words.fail_on(given.stream, f"fewer than two PCRs{of}, so it has no usable clock")
+        with parser.opened(args.stream) as file:
+            write(timed(chunks_of(file), args.pid), args.rate, sys.stdout.buffer)
+    except ClockError:
+        of = "" if args.pid is None else f" on PID {args.pid}"
+        parser.fail_on(args.stream, f"fewer than two PCRs{of}, so it has no usable clock")
     except OSError as wrong:
-        words.fail_on(given.stream, wrong)
+        parser.fail_on(args.stream, wrong)

@@ -38,7 +38,7 @@ def main() -> None:
     title = given.title or (os.path.basename(name).removesuffix(".report") if name else "a report of dvbemu")
     try:
         text = page(reports.read(reports.text_of(progress.reading(words, name, "making the page"))), title)
-    except (reports.NotAReport, OSError) as wrong:
+    except (reports.ReportError, OSError) as wrong:
         words.fail_on(name, wrong)
     progress.clear()
     if isinstance(sys.stdout, io.TextIOWrapper):

@@ -38,7 +38,7 @@ def main() -> None:
     name = given.report if given.report != "-" else None
     try:
         report = reports.read(reports.text_of(progress.reading(words, name, "drawing")))
-    except (reports.NotAReport, OSError) as wrong:
+    except (reports.ReportError, OSError) as wrong:
         words.fail_on(name, wrong)
     title = given.title or (os.path.basename(name).removesuffix(".report") if name else "a report of dvbemu")
     text = picture(report, title)

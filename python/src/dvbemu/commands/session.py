@@ -3,7 +3,7 @@
 The commands stand in an order in which `steps` comes to the same replies: those of a client as it made them, those on a node by their
 places, with lines `feed` for the batches that passed in between, and with lines `tick` where a filter has a timeout. Where a batch had
 passed one node, but not another, between two calls of one client, no order of commands is the same: then it passes both at once. So it is
-where two searches for a free node overtake each other: then one comes first on each node. Both are told on standard error. `run` passes
+where two searches for a free node overtake each other: then one comes first on each node. Both are reported on standard error. `run` passes
 over these lines, and does the calls as its threads come.
 
 STREAM is what was played: it is repeated until it has the report's packets, and has to have as many of each PID as that. With --report it
@@ -204,64 +204,64 @@ def why_not_served(report: Report, order: Order) -> str | None:
 
 
 def command() -> tool.Command:
-    """The command and its words."""
-    words = tool.Command(
+    """The command line."""
+    parser = tool.Command(
         "session",
         "[--report] REPORT STREAM",
         "Turns a `serve` report into a session that replays it without the programs.",
-        reads="REPORT, as `serve` wrote it, and STREAM, what was played; one of them may be `-`, standard input",
+        reads="REPORT, as `serve` wrote it, and STREAM, the recording that was played; one of them may be `-`, standard input",
         writes="the session: the script of the programs' calls, and then the packets",
         status="0; 1 if a file can't be read, REPORT isn't from `serve`, or STREAM isn't what was played; 2 for a usage error",
         example="dvbemu session my.report my.ts > my.session; dvbemu steps my.session > again.report",
     )
-    words.add_argument("--report", action="store_true", help="write REPORT with the script's line numbers instead of the session")
-    words.add_argument("report_file", metavar="REPORT", help="the report")
-    words.add_argument("stream", metavar="STREAM", help="a transport stream, which is repeated until it has the report's packets")
-    return words
+    parser.add_argument("--report", action="store_true", help="write REPORT with the script's line numbers instead of the session")
+    parser.add_argument("report_file", metavar="REPORT", help="the report")
+    parser.add_argument("stream", metavar="STREAM", help="a transport stream, which is repeated until it has the report's packets")
+    return parser
 
 
-def report_in(words: tool.Command, name: str) -> Report:
+def report_in(parser: tool.Command, name: str) -> Report:
     """A report that a session can be made of."""
     try:
-        with words.opened(name) as file:
+        with parser.opened(name) as file:
             report = reports.read(reports.text_of(file))
-    except reports.NotAReport as wrong:
-        words.fail_on(name, f"not a report: {wrong}")
+    except reports.ReportError as wrong:
+        parser.fail_on(name, f"not a report: {wrong}")
     except OSError as fault:
-        words.fail_on(name, fault)
+        parser.fail_on(name, fault)
     return report
 
 
-def script_in(words: tool.Command, name: str, report: Report) -> tuple[list[str], dict[str, list[int]]]:
+def script_in(parser: tool.Command, name: str, report: Report) -> tuple[list[str], dict[str, list[int]]]:
     """The lines of the script of a report of `serve`, and the number of the line of each client's commands."""
     if any(entry.act.startswith("pass input=dvr ") for entries in report.nodes.values() for entry in entries):
-        words.fail_on(name, "a client has written, and a report doesn't contain the bytes")
+        parser.fail_on(name, "a client has written, and a report doesn't contain the bytes")
     try:
         order = Order(report)
         if why := why_not_served(report, order):
-            words.fail_on(name, f"not a report of `serve`: {why}")
+            parser.fail_on(name, f"not a report of `serve`: {why}")
         return script_of(order)
     except (KeyError, ValueError, IndexError):
-        return words.fail_on(name, "its entries aren't those of a report; `dvbemu explain` says more")
+        return parser.fail_on(name, "its entries aren't those of a report; `dvbemu explain` says more")
 
 
-def packets_of(words: tool.Command, report: Report, name: str) -> Iterable[bytes]:
+def packets_of(parser: tool.Command, report: Report, name: str) -> Iterable[bytes]:
     """The packets that were played."""
     counts = {row.pid: row.packets for row in report.pids}
     try:
-        return played.of_recording(words.bytes_of(name), report[:3], counts)
+        return played.of_recording(parser.bytes_of(name), report[:3], counts)
     except played.NotPlayed as wrong:
-        return words.fail_on(name, wrong)
+        return parser.fail_on(name, wrong)
 
 
 def main() -> None:
     """Writes the session, or the report."""
-    words = command()
-    given = words.parse_args()
-    report = report_in(words, given.report_file)
-    packets = () if given.report else packets_of(words, report, given.stream)
-    script, numbers = script_in(words, given.report_file, report)
-    if given.report:
+    parser = command()
+    args = parser.parse_args()
+    report = report_in(parser, args.report_file)
+    packets = () if args.report else packets_of(parser, report, args.stream)
+    script, numbers = script_in(parser, args.report_file, report)
+    if args.report:
         sys.stdout.writelines(reports.write(rewritten(report, numbers)))
         return
     out = sys.stdout.buffer

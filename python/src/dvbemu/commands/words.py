@@ -1,6 +1,6 @@
 """Writes a script with names and hexadecimal numbers as the plain one that the program reads: `dvbemu words --help`.
 
-What is read stands in tools/lib/naming.py; what it can't read is told with its line and word, as the program does. Behind the line
+naming.py reads it; an error is reported with its line and word, as the program does. Behind the line
 `stream` all bytes are written as they are.
 """
 from __future__ import annotations
@@ -12,8 +12,8 @@ from .. import naming
 
 
 def command() -> tool.Command:
-    """The command and its words."""
-    words = tool.Command(
+    """The command line."""
+    parser = tool.Command(
         "words",
         "[SCRIPT]",
         "Translates names and hexadecimal numbers in a script to plain lines: 0x1000, CHECK_CRC+IMMEDIATE_START, table_id=0x42,\n"
@@ -23,8 +23,8 @@ def command() -> tool.Command:
         status="0; 1 if SCRIPT can't be read; 2 for a usage error; 3 if the script has an error, reported as by the program",
         example="dvbemu words my.script | dvbemu steps - my.ts",
     )
-    words.add_argument("script", metavar="SCRIPT", nargs="?", help="the script")
-    return words
+    parser.add_argument("script", metavar="SCRIPT", nargs="?", help="the script")
+    return parser
 
 
 def cut(text: bytes) -> tuple[bytes, bytes]:
@@ -40,12 +40,12 @@ def cut(text: bytes) -> tuple[bytes, bytes]:
 
 def main() -> None:
     """Writes the plain script."""
-    words = command()
-    given = words.parse_args()
-    script, behind = cut(words.bytes_of(given.script))
+    parser = command()
+    args = parser.parse_args()
+    script, behind = cut(parser.bytes_of(args.script))
     try:
         plain = naming.plain_script(script)
-    except naming.Fault as fault:
-        words.exit(3, f"{words.prog}: {fault.text()}\n")
+    except naming.WordError as fault:
+        parser.exit(3, f"{parser.prog}: {fault.text()}\n")
     sys.stdout.buffer.write(plain + behind)
     sys.stdout.flush()

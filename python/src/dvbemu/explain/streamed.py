@@ -12,7 +12,7 @@ from .. import naming
 from ..inputs import many
 from ..psi.fields import is_pes_head, places_text, stream_text
 from ..reports import node_name
-from ..stream.pace import NoClock, timed
+from ..stream.pace import ClockError, timed
 from ..stream.packets import error_bit, payload_of, unit_start
 from ..stream.sections import is_intact, sections_of
 from .offered import like_this, matches, moved, ruled_out
@@ -117,7 +117,7 @@ def times_of(packets: Sequence[bytes]) -> list[float] | None:
     """When each packet is due by the stream's program clock, in seconds from its first PCR; None where it has none."""
     try:
         return [at for at, _ in timed(packets)]
-    except NoClock:
+    except ClockError:
         return None
 
 

@@ -183,22 +183,22 @@ def stream_hints(story: Story, stream: Stream, part: Part) -> list[Row]:
 
 
 def check_steps(report: reports.Report, story: Story) -> None:
-    """Raises NotAReport where the entries' steps aren't just those that the clients' commands made."""
+    """Raises ReportError where the entries' steps aren't just those that the clients' commands made."""
     line = 2 + len(report.pids)
     for number, client in sorted(story.clients.items()):
         if number >= len(report.clients):
-            raise reports.NotAReport(line + 1, f"`client {number}`, of which a node has an entry")
+            raise reports.ReportError(line + 1, f"`client {number}`, of which a node has an entry")
         line += 1 + len(client.outcomes)
         step = 0
         for outcome in client.outcomes:
             step = outcome.after if outcome.first == step else -1
         if step != len(client.calls.steps) or not client.calls.are_all():
             what = f"the commands of client {number} up to here to have just the steps of its entries"
-            raise reports.NotAReport(line, what)
+            raise reports.ReportError(line, what)
 
 
 def story_of(report: reports.Report, stream: Stream | None = None) -> Story:
-    """A report gone through. Raises NotAReport where its clients' commands have other steps than its entries."""
+    """A report gone through. Raises ReportError where its clients' commands have other steps than its entries."""
     story = Story(report, stream)
     check_steps(report, story)
     return story

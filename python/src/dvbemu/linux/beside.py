@@ -173,8 +173,8 @@ class Beside:
         self.here, self.there, self.met, self.undefined = by_line(here), by_line(run.events), run.adapter.met, run.undefined
         self.lines = [line for line in self.here if self.undefined is None or line < self.undefined]
         self.differing = [line for line in self.lines if replies(self.here[line]) != replies(self.there.get(line, []))]
-        # of the runs without some rows the lines that are answered as here, and the rows that were met with their first line;
-        # and the rows that have to go together for some line
+        # for each set of rows that a run leaves out: the lines that it answers as here, and the rows that took effect, each
+        # with its first line; and the sets of rows that explain some line only together
         self.without: dict[Points, tuple[set[int], dict[Point, int]]] = {}
         self.together: list[Points] = []
 

@@ -9,7 +9,7 @@ from ..inputs import LINE, stream_at
 from ..reports import DVR
 from ..stream.packets import PACKET, SYNC, cut, pcr_of
 from .adapter import HERTZ, Adapter
-from .parts import INPUTS, OUTPUTS, Undefined
+from .parts import INPUTS, OUTPUTS, UndefinedError
 from .points import Point
 
 if TYPE_CHECKING:
@@ -179,7 +179,7 @@ class Run:
                     break
                 self.adapter.line = line.number
                 self.line(line)
-        except Undefined:
+        except UndefinedError:
             self.undefined = self.adapter.line
         return self
 

@@ -4,7 +4,7 @@ from __future__ import annotations
 
 from typing import TYPE_CHECKING
 
-from ..stream.tables import Short, number
+from ..stream.tables import TableError, number
 from .fields import pid_text
 from .letters import text_of
 
@@ -57,7 +57,7 @@ def counted(data: bytes, place: int) -> tuple[bytes, int]:
     """The bytes behind their count, and the place behind them."""
     after = place + 1 + number(data, place, place + 1)
     if after > len(data):
-        raise Short
+        raise TableError
     return data[place + 1 : after], after
 
 
@@ -159,6 +159,6 @@ def texts_of(descriptors: Iterable[Descriptor], left_out: Container[int] = ()) -
             continue
         try:
             found.append(SAY[tag](data) if tag in SAY else NAMES.get(tag, f"descriptor 0x{tag:02X}"))
-        except (Short, IndexError):
+        except (TableError, IndexError):
             found.append(f"{NAMES[tag]}, which is too short")
     return found

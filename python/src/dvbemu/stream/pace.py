@@ -9,6 +9,7 @@ from __future__ import annotations
 
 from typing import TYPE_CHECKING
 
+from ..errors import Error
 from .packets import PACKET, SYNC, discontinuity, pcr_of, pid_of
 
 if TYPE_CHECKING:
@@ -19,7 +20,7 @@ WRAP = 2**33 * 300
 LONGEST, SILENT = 10 * TICKS, 100_000 * PACKET
 
 
-class NoClock(Exception):
+class ClockError(Error):
     """A stream that has fewer than two PCRs of one PID."""
 
 
@@ -62,13 +63,13 @@ def pieces(chunks: Iterable[bytes]) -> Iterator[bytes]:
 
 def timed(stream: Iterable[bytes], pid: int | None = None) -> Iterator[tuple[float, bytes]]:
     """The pieces of a stream, which comes in chunks, each with the second from the first PCR at which it is due, which is below 0 in front of
-    that. Raises NoClock, before the first piece, where the stream has fewer than two PCRs of one PID, or of the one that is named."""
+    that. Raises ClockError, before the first piece, where the stream has fewer than two PCRs of one PID, or of the one that is named."""
     timer = Timer(pid)
     for piece in pieces(stream):
         yield from timer.take(piece)
     if timer.pace.seconds is None:
-        raise NoClock
-    yield from timer.given(timer.pace.seconds)
+        raise ClockError
+    yield from timer.due(timer.pace.seconds)
 
 
 class Timer:
@@ -86,12 +87,12 @@ class Timer:
         if pcr is not None and self.pace.takes(piece, pcr, self.behind):
             self.ahead, self.behind = self.behind if is_first else self.ahead, 0
             if self.pace.seconds is not None:
-                yield from self.given(self.pace.seconds)
+                yield from self.due(self.pace.seconds)
         self.waiting.append(piece)
         self.behind += len(piece)
 
-    def given(self, seconds: float) -> Iterator[tuple[float, bytes]]:
-        """The pieces that wait, where a byte takes so many seconds."""
+    def due(self, seconds: float) -> Iterator[tuple[float, bytes]]:
+        """The waiting pieces, each with the time at which it is due, if a byte takes this many seconds."""
         for piece in self.waiting:
             yield -self.ahead * seconds if self.ahead else self.at, piece
             if self.ahead:

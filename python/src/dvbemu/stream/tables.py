@@ -8,6 +8,7 @@ from __future__ import annotations
 import datetime
 from typing import TYPE_CHECKING, NamedTuple
 
+from ..errors import Error
 from .sections import crc, section, short_section, with_crc, with_length
 
 if TYPE_CHECKING:
@@ -24,7 +25,7 @@ EPOCH = datetime.date(1858, 11, 17)
 LOOPS = "descriptors", "parts"
 
 
-class Short(Exception):
+class TableError(Error):
     """A table or a descriptor that ends before what it has to have, or goes on behind it."""
 
 
@@ -101,7 +102,7 @@ SUMMED = (TOT_ID,)
 def number(data: bytes, first: int, after: int) -> int:
     """The number that some bytes are, which have to be there."""
     if after > len(data):
-        raise Short
+        raise TableError
     return int.from_bytes(data[first:after], "big")
 
 
@@ -111,7 +112,7 @@ def split(data: bytes) -> list[Descriptor]:
     while at < len(data):
         after = at + 2 + number(data, at + 1, at + 2)
         if after > len(data):
-            raise Short
+            raise TableError
         found.append(Descriptor(data[at], data[at + 2 : after]))
         at = after
     return found
@@ -161,7 +162,7 @@ class Reader:
         size = self.number(bits) if bits else self.rest()
         first, self.at = self.at // 8, self.at + 8 * size
         if self.rest() < 0:
-            raise Short
+            raise TableError
         return self.data[first : first + size]
 
 
@@ -194,11 +195,11 @@ def body_of(data: bytes, extension: str | None, fields: Fields) -> bytes:
     """The bytes of a section behind its head and before its CRC_32; the numbers of the head are put to the fields."""
     is_summed = extension is not None or data[0] in SUMMED
     if bool(data[1] & 0x80) != (extension is not None) or is_summed and crc(data):
-        raise Short
+        raise TableError
     if extension is None:
         return data[3:-4] if is_summed else data[3:]
     if len(data) < 12:
-        raise Short
+        raise TableError
     if extension:
         fields[extension] = number(data, 3, 5)
     fields["version_number"], fields["current_next_indicator"] = data[5] >> 1 & 0x1F, data[5] & 1
@@ -218,7 +219,7 @@ def read(data: bytes) -> Table | None:
         if reader.rest() and (counted or not part):
             return None
         parts = read_parts(counted[0] if counted else reader, part)
-    except Short:
+    except TableError:
         return None
     return Table(data[0], fields, descriptors, parts)
 
