@@ -17,12 +17,12 @@
 #include <stdlib.h>
 #include <unistd.h>
 
-#define NEXT(name)                                                                                                      \
-	({                                                                                                              \
-		static __typeof__(&name) next;                                                                          \
-		if (!next)                                                                                              \
-			next = (__typeof__(&name))dlsym(RTLD_NEXT, #name);                                              \
-		next;                                                                                                   \
+#define NEXT(name)                                                         \
+	({                                                                 \
+		static __typeof__(&name) next;                             \
+		if (!next)                                                 \
+			next = (__typeof__(&name))dlsym(RTLD_NEXT, #name); \
+		next;                                                      \
 	})
 
 static long number(const char *name, long otherwise)

@@ -132,7 +132,8 @@ def test_small_memory(large, command):
     assert (told(child), child.stdout) == (MEMORY, b"")
 
 
-# Starts a program from a small process, since what starts it counts as its memory, and writes its status and the KiB that it took.
+# Starts a program from a small process, since what starts it counts as its memory, and writes its status and the KiB that it
+# took.
 STARTER = "import os, sys; _, status, used = os.wait4(os.spawnv(os.P_NOWAIT, sys.argv[1], sys.argv[1:]), 0); " \
     "print(os.waitstatus_to_exitcode(status), used.ru_maxrss, file=sys.stderr)"
 
@@ -234,8 +235,9 @@ def run_slowly(session, packets, pause, behind):
 
 
 def test_woken():
-    """Each packet that passes after the filter's start is read soon after its pass: the median time counts, since a loaded machine
-    makes some of them long. There a packet or two may pass before the client has set its filter, and nobody reads those."""
+    """Each packet that passes after the filter's start is read soon after its pass: the median time counts, since a loaded
+    machine makes some of them long. There a packet or two may pass before the client has set its filter, and nobody reads
+    those."""
     packets = [packet(256, place) for place in range(COUNT)]
     report, _ = run_slowly(TAPPED + COUNT * b"c0 readw n1 188\n" + b"stream\n", packets, PAUSE, 0)
     entries = Report.parse(report).node("n1").entries

@@ -5,7 +5,6 @@ A), bit by bit.
 """
 import os
 import re
-import shutil
 import signal
 import subprocess
 import sys
@@ -13,9 +12,7 @@ import time
 
 import pytest
 from conftest import EXAMPLES, PROGRAM, ROOT, comes
-from dvbemu import Report
 from dvbemu.fuzz import grammar, mutate, reduce
-from dvbemu.fuzz.found import Folder, Hunt, Options
 from dvbemu.fuzz.mutate import Draw, Item
 from dvbemu.fuzz.right import PROGRAMS, RIGHT, tables_of
 from dvbemu.psi.descriptors import NAMES, texts_of

@@ -76,7 +76,8 @@ def test_left(served):
 @pytest.mark.parametrize("number, tell", [(signal.SIGTERM, os.kill), (signal.SIGINT, os.killpg)])
 def test_told_to_end(served, number, tell):
     """Where dvbemu-serve is told to end, or all that belongs to a terminal, its command is, and the report comes."""
-    words = [SERVE, "--packets", RATE, "--report", served.report, served.stream, "--", "sh", "-c", 'touch there; exec "$0" +wait 100']
+    words = [SERVE, "--packets", RATE, "--report", served.report, served.stream, "--", "sh", "-c",
+             'touch there; exec "$0" +wait 100']
     with subprocess.Popen([*words, served.cases], start_new_session=True, cwd=served.folder) as child:
         assert comes(served.path("there").exists)
         tell(child.pid, number)

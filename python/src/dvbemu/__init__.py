@@ -68,7 +68,7 @@ if TYPE_CHECKING:
 _MODULES = {
     "adapter": "Adapter NoAdapter serve",
     "abi": "DMX_CHECK_CRC DMX_IMMEDIATE_START DMX_IN_DVR DMX_IN_FRONTEND DMX_ONESHOT DMX_OUT_DECODER DMX_OUT_TAP "
-        "DMX_OUT_TS_TAP DMX_OUT_TSDEMUX_TAP KEEP Flag Input Output PesType",
+           "DMX_OUT_TS_TAP DMX_OUT_TSDEMUX_TAP KEEP Flag Input Output PesType",
     "program": "Failed ScriptFault Verdict check run steps",
     "report": "Again Busy Call Data Done Entry Node NotAReport Outcome Overflow Passed PidCount Ready Refused Reply Report "
         "TimedOut",
