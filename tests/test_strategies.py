@@ -10,12 +10,12 @@ from dvbemu.stream import packets, tables
 from dvbemu.stream.sections import is_intact, sections_of
 
 # Python without hypothesis.
-ALONE = "import sys; sys.path.insert(0, sys.argv[1]); sys.modules['hypothesis'] = None\nimport dvbemu.strategies"
+ALONE = "import sys; sys.modules['hypothesis'] = None\nimport dvbemu.strategies"
 
 
 def test_without_hypothesis():
-    ran = subprocess.run([sys.executable, "-B", "-c", ALONE, str(ROOT / "python" / "src")], capture_output=True, text=True,
-                         check=False)
+    env = {"PYTHONPATH": str(ROOT / "python" / "src")}
+    ran = subprocess.run([sys.executable, "-B", "-c", ALONE], capture_output=True, text=True, check=False, env=env)
     assert ran.returncode == 1
     assert ran.stderr.endswith("ImportError: dvbemu.strategies wants hypothesis (Debian: apt-get install python3-hypothesis)\n")
 

@@ -35,7 +35,7 @@ def scripts(ending, first):
 def finds_nothing(*words):
     """Whether a linter ends well and prints nothing; pytest shows what it prints."""
     ran = subprocess.run(words, cwd=ROOT, capture_output=True, text=True, check=False)
-    assert (ran.returncode, ran.stdout + ran.stderr) == (0, "")
+    assert ran.returncode == 0 and ran.stdout + ran.stderr == "", ran.stdout + ran.stderr
 
 
 LINTERS = [("flake8", ".py", PYTHON, 150, ()), ("shellcheck", ".sh", SHELL, 8, ("--exclude=SC3045",))]

@@ -71,7 +71,7 @@ _MODULES = {
            "DMX_OUT_TS_TAP DMX_OUT_TSDEMUX_TAP KEEP Flag Input Output PesType",
     "program": "Failed ScriptFault Verdict check run steps",
     "report": "Again Busy Call Data Done Entry Node NotAReport Outcome Overflow Passed PidCount Ready Refused Reply Report "
-        "TimedOut",
+              "TimedOut",
     "script": "Client Device Script",
 }
 _HOMES = {name: module for module, names in _MODULES.items() for name in names.split()}
