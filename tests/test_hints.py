@@ -261,8 +261,7 @@ LOST = [
      "8 packets, among the stream's "
      "packets 0 to 8, everything"),
     (f"c0 open dvr|c0 open n0|c0 size n0 377|c0 pes n0 256 {PLAYED} 4|feed 9|c0 write dvr {PLAIN[:564].hex()}|c0 read n0 188",
-     PLAIN,
-     "564 bytes, 0..564 of the capture, 3 packets, everything unread"),
+     PLAIN, "564 bytes, 0..564 of the capture, 3 packets, everything unread"),
     ("c0 open n0|c0 size n0 2|c0 pes n0 256 frontend tap 20 260|feed 2|c0 read n0 9|c0 read n0 9", SINGLE,
      "line 6, n0: 1 byte, 1..2 of the "
      "capture, brought by packets among the stream's packets 0 to 1, all items from 1 on"),

@@ -193,8 +193,7 @@ PRINTED = {
     "service_id": r"Service ID: (0x\w+)", "network_id": r"(?<!Original )Network ID: (0x\w+)",
     "bouquet_id": r"Bouquet ID: (0x\w+)",
     "PID": r"(?:Program Map PID|Elementary PID): (0x\w+)", "stream_type": r"Stream type: .*\((0x\w+)\)",
-    "event_id": r"Event ID: (0x\w+)",
-    "running_status": r"Running Status: .*\((0x\w+)\)",
+    "event_id": r"Event ID: (0x\w+)", "running_status": r"Running Status: .*\((0x\w+)\)",
 }  # fmt: skip
 
 
