@@ -222,7 +222,8 @@ static int comes(struct program *program, pid_t pid, int adapter)
 		program->is_used = 0;
 		return -1;
 	}
-	if (!line_comes(&program->line, program->ask, program->tell) && write(program->line.ask, &first, sizeof first) == sizeof first)
+	if (!line_comes(&program->line, program->ask, program->tell) &&
+	    write(program->line.ask, &first, sizeof first) == sizeof first)
 		return 0;
 	end_program(program);
 	return -1;
@@ -323,7 +324,8 @@ static int read_on(struct wait *wait)
 		uint32_t most = wait->size - wait->done < MOST_READ ? (uint32_t)(wait->size - wait->done) : MOST_READ;
 		error = ask_node(file, READ, most, NULL, 0, &reply, wait->bytes + wait->done);
 		wait->done += error ? 0 : reply.length;
-		is_whole = file->device.section || !reply.length || wait->done == wait->size || (reply.length < most && !is_waiting);
+		is_whole =
+			file->device.section || !reply.length || wait->done == wait->size || (reply.length < most && !is_waiting);
 	}
 	file->device.state = error == -EAGAIN ? QUIET : UNKNOWN;
 	if (error == -EAGAIN && is_waiting)
@@ -440,8 +442,15 @@ static fuse_ino_t number_of(int adapter, int kind) { return (fuse_ino_t)(adapter
 static void tell(fuse_ino_t number, struct stat *told)
 {
 	int is_file = number != ROOT && number % EACH;
-	*told = (struct stat){ .st_ino = number, .st_nlink = is_file ? 1 : 2, .st_uid = getuid(), .st_gid = getgid(), .st_atim = begun,
-			       .st_mtim = begun, .st_ctim = begun };
+	*told = (struct stat){
+		.st_ino = number,
+		.st_nlink = is_file ? 1 : 2,
+		.st_uid = getuid(),
+		.st_gid = getgid(),
+		.st_atim = begun,
+		.st_mtim = begun,
+		.st_ctim = begun,
+	};
 	told->st_mode = is_file ? S_IFREG | FREE_FOR_ALL : S_IFDIR | READ_ONLY_DIRECTORY;
 }
 
@@ -509,8 +518,14 @@ static void do_open(fuse_req_t request, fuse_ino_t number, struct fuse_file_info
 		fuse_reply_err(request, lock < -1 ? -lock : EIO);
 		return;
 	}
-	*file = (struct file){ .device = { .kind = kind, .access = access, .node = NO_NODE, .state = UNKNOWN }, .program = program,
-			       .adapter = adapter, .flags = info->flags, .lock = lock, .next = files };
+	*file = (struct file){
+		.device = { .kind = kind, .access = access, .node = NO_NODE, .state = UNKNOWN },
+		.program = program,
+		.adapter = adapter,
+		.flags = info->flags,
+		.lock = lock,
+		.next = files,
+	};
 	files = file;
 	if (program)
 		program->files++;
@@ -581,7 +596,8 @@ static void do_ioctl(fuse_req_t request, fuse_ino_t inode, unsigned number, void
 	int is_set = number == _IOW('o', _IOC_NR(FE_SET_PROPERTY), struct list_32);
 	int is_list = is_set || number == _IOR('o', _IOC_NR(FE_GET_PROPERTY), struct list_32);
 	(void)inode;
-	call = (struct call){ fuse_req_ctx(request)->pid, argument, in, in_size, out_size, flags & FUSE_IOCTL_COMPAT && is_list, "" };
+	int is_32_bits = flags & FUSE_IOCTL_COMPAT && is_list;
+	call = (struct call){ fuse_req_ctx(request)->pid, argument, in, in_size, out_size, is_32_bits, "" };
 	if (call.is_32_bits)
 		number = is_set ? FE_SET_PROPERTY : FE_GET_PROPERTY;
 	if (file->device.kind == FRONTEND && number == FE_GET_EVENT) {
@@ -753,9 +769,20 @@ static void ends(int number)
 
 struct fuse_session *devices_mount(const char *on)
 {
-	static const struct fuse_lowlevel_ops calls = { .init = do_init, .lookup = do_lookup, .getattr = do_getattr,
-		.readdir = do_readdir, .open = do_open, .release = do_release, .read = do_read, .write = do_write, .ioctl = do_ioctl,
-		.poll = do_poll, .getxattr = do_getxattr, .listxattr = do_listxattr };
+	static const struct fuse_lowlevel_ops calls = {
+		.init = do_init,
+		.lookup = do_lookup,
+		.getattr = do_getattr,
+		.readdir = do_readdir,
+		.open = do_open,
+		.release = do_release,
+		.read = do_read,
+		.write = do_write,
+		.ioctl = do_ioctl,
+		.poll = do_poll,
+		.getxattr = do_getxattr,
+		.listxattr = do_listxattr,
+	};
 	char *words[] = { "dvbemu", "-o", "allow_other,default_permissions,fsname=dvbemu", NULL };
 	struct fuse_args args = FUSE_ARGS_INIT(3, words);
 	struct fuse_session *session = fuse_session_new(&args, &calls, sizeof calls, NULL);

@@ -93,7 +93,7 @@ static void show(const char *path, const char *at)
 }
 
 /* shows what is in a folder in another one too, but for two names */
-static void show_all(const char *folder, const char *in, const char *but, const char *or)
+static void show_all(const char *folder, const char *in, const char *skip, const char *skip_too)
 {
 	DIR *all = opendir(folder);
 	make_folder(in);
@@ -101,7 +101,7 @@ static void show_all(const char *folder, const char *in, const char *but, const 
 		char path[PATH], at[PATH];
 		const char *name = one->d_name;
 		int has_room = snprintf(path, PATH, "%s/%s", folder, name) < PATH && snprintf(at, PATH, "%s/%s", in, name) < PATH;
-		if (has_room && strcmp(name, ".") && strcmp(name, "..") && strcmp(name, but) && strcmp(name, or))
+		if (has_room && strcmp(name, ".") && strcmp(name, "..") && strcmp(name, skip) && strcmp(name, skip_too))
 			show(path, at);
 	}
 	if (all)
@@ -149,7 +149,8 @@ static void tell_device(const char *place, int adapter, const char *type, int mi
 	snprintf(folder, sizeof folder, "%s/devices/dvbemu%d/dvb%d.%s0", place, adapter, adapter, type);
 	make_folder(folder);
 	snprintf(path, sizeof path, "%s/uevent", folder);
-	write_file(path, "MAJOR=%d\nMINOR=%d\nDEVNAME=dvb/adapter%d/%s0\nDVB_ADAPTER_NUM=%d\nDVB_DEVICE_TYPE=%s\nDVB_DEVICE_NUM=0\n",
+	write_file(path,
+		   "MAJOR=%d\nMINOR=%d\nDEVNAME=dvb/adapter%d/%s0\nDVB_ADAPTER_NUM=%d\nDVB_DEVICE_TYPE=%s\nDVB_DEVICE_NUM=0\n",
 		   MAJOR, minor, adapter, type, adapter, type);
 	snprintf(path, sizeof path, "%s/dev", folder);
 	write_file(path, "%d:%d\n", MAJOR, minor);

@@ -3,15 +3,15 @@
 
     packaging/proof.py [--gate FILE] FOLDER
 
-FOLDER is that of bin, lib and share, without any of this. It gets lib/dvbemu/VERSION, share/doc/dvbemu/PROOF and SHA256SUMS, and each of its
-files the time of SOURCE_DATE_EPOCH, or else the commit's. FILE is what a run of .ci/run has written: it has to be a whole one, without a
-failure, over the commit that is here, with nothing changed, by the toolchain that VERSION names. Without FILE PROOF says that no gate is told.
+FOLDER is that of bin, lib and share, without any of this. It gets lib/dvbemu/VERSION, share/doc/dvbemu/PROOF and SHA256SUMS, and
+each of its files the time of SOURCE_DATE_EPOCH, or else the commit's. FILE is what a run of .ci/run has written: it has to be a
+whole one, without a failure, over the commit that is here, with nothing changed, by the toolchain that VERSION names. Without
+FILE PROOF says that no gate is told.
 """
 import argparse
 import hashlib
 import os
 import re
-import shlex
 import subprocess
 import sys
 from pathlib import Path
@@ -39,11 +39,12 @@ def told(*words):
 
 def checks_of_gate():
     """What .ci/run runs behind `rt ci`."""
-    return shlex.split(re.search(r"^checks=\((.*)\)$", (ROOT / ".ci" / "run").read_text(), re.M)[1])
+    return re.findall(r'^echo "== (.*)"$', (ROOT / ".ci" / "run").read_text(), re.M)
 
 
 def gate_lines(text, commit):
-    """The sum of each part of a run of the gate over a commit, a line each. Refused where one tells a failure, or one is missing."""
+    """The sum of each part of a run of the gate over a commit, a line each. Refused where one tells a failure, or one is
+    missing."""
     head, *others = re.split("^== ", text, flags=re.M)
     parts = {"rt ci": head, **dict(part.split("\n", 1) for part in others if "\n" in part)}
     sums = {name: [line for line in part.split("\n") if SUM.fullmatch(line)] for name, part in parts.items()}
@@ -91,7 +92,8 @@ def sign(folder, version, named, commit, lines):
     (library / "VERSION").write_text(f"{version} (commit {short})\n{named}\n")
     text = (ROOT / "packaging" / "PROOF").read_text()
     gate = "\n".join(f"    {line}" for line in lines)
-    (doc / "PROOF").write_text(text.format(version=version, commit=commit, toolchain=named.removeprefix("proved with "), gate=gate))
+    (doc / "PROOF").write_text(text.format(version=version, commit=commit, toolchain=named.removeprefix("proved with "),
+                                           gate=gate))
     sums = [f"{hashlib.sha256((folder / name).read_bytes()).hexdigest()}  {name}\n" for name in files_in(folder)]
     (doc / "SHA256SUMS").write_text("".join(sums))
     time = int(os.environ.get("SOURCE_DATE_EPOCH") or told("git", "log", "-1", "--format=%ct"))

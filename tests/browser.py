@@ -35,7 +35,8 @@ class Browser:
         theirs, self.out = os.pipe()
         self.back, given = os.pipe()
         words = [found(), *WORDS, f"--user-data-dir={self.folder.name}", "about:blank"]
-        self.process = subprocess.Popen([sys.executable, "-c", AS_3_AND_4, str(theirs), str(given), *words], pass_fds=(theirs, given),
+        self.process = subprocess.Popen([sys.executable, "-c", AS_3_AND_4, str(theirs), str(given), *words],
+                                        pass_fds=(theirs, given),
                                         stderr=subprocess.DEVNULL, stdout=subprocess.DEVNULL)  # fmt: skip
         os.close(theirs)
         os.close(given)

@@ -19,7 +19,7 @@ from unittest import mock
 
 import pytest
 from packets import session_of
-from samples import EXAMPLES, PROGRAM, ROOT, examples
+from samples import EXAMPLES, PROGRAM, ROOT, examples  # noqa: F401 (test_page.py and test_pictures.py import it from here)
 from serving import Served
 
 # (the command line sets these for its process, which this one isn't)
@@ -40,7 +40,8 @@ T = TypeVar("T")
 EMPTY = b"dvbemu 1\npackets=0 skipped=0 rest=0\nend\n"
 
 # (what a shell or nohup starts in the background passes these over, and so would all that is started here)
-for number, handler in ((signal.SIGHUP, signal.SIG_DFL), (signal.SIGINT, signal.default_int_handler), (signal.SIGQUIT, signal.SIG_DFL)):
+for number, handler in ((signal.SIGHUP, signal.SIG_DFL), (signal.SIGINT, signal.default_int_handler),
+                        (signal.SIGQUIT, signal.SIG_DFL)):
     if signal.getsignal(number) == signal.SIG_IGN:
         signal.signal(number, handler)
 
@@ -168,7 +169,8 @@ class Room:
 
     def run(self, line: str, given: bytes = b"") -> Bytes:
         """A command that has run."""
-        done = subprocess.run([PROGRAM, *line.split()], cwd=self.folder, input=given, capture_output=True, check=False, timeout=ENDS)
+        done = subprocess.run([PROGRAM, *line.split()], cwd=self.folder, input=given, capture_output=True, check=False,
+                              timeout=ENDS)
         return Bytes(done.returncode, done.stdout, done.stderr.decode(errors="replace"))
 
     def call(self, line: str, given: bytes = b"") -> Bytes:

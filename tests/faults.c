@@ -6,6 +6,7 @@
  *   FAIL_ABOVE=N  each of them fails that is of more than N bytes
  *   INTERRUPT=1   a signal seems to interrupt every other one
  *   SHORTEN=N     each takes at most N bytes of those that are offered
+ *   NO_THREAD=1   no thread can be made
  *
  * Each that is refused or fails writes a byte to descriptor 9.
  */
@@ -13,16 +14,17 @@
 #include <dlfcn.h>
 #include <errno.h>
 #include <limits.h>
+#include <pthread.h>
 #include <stdatomic.h>
 #include <stdlib.h>
 #include <unistd.h>
 
-#define NEXT(name)                                                                                                      \
-	({                                                                                                              \
-		static __typeof__(&name) next;                                                                          \
-		if (!next)                                                                                              \
-			next = (__typeof__(&name))dlsym(RTLD_NEXT, #name);                                              \
-		next;                                                                                                   \
+#define NEXT(name)                                                         \
+	({                                                                 \
+		static __typeof__(&name) next;                             \
+		if (!next)                                                 \
+			next = (__typeof__(&name))dlsym(RTLD_NEXT, #name); \
+		next;                                                      \
 	})
 
 static long number(const char *name, long otherwise)
@@ -86,4 +88,12 @@ void *aligned_alloc(size_t alignment, size_t size) { return refused() ? NULL : N
 int posix_memalign(void **place, size_t alignment, size_t size)
 {
 	return refused() ? ENOMEM : NEXT(posix_memalign)(place, alignment, size);
+}
+
+int pthread_create(pthread_t *thread, const pthread_attr_t *how, void *(*work)(void *), void *with)
+{
+	if (!number("NO_THREAD", 0))
+		return NEXT(pthread_create)(thread, how, work, with);
+	tell();
+	return EAGAIN;
 }

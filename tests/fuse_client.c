@@ -28,12 +28,17 @@ static void want(int holds, int step)
 
 static void tune(int tuner)
 {
-	struct dtv_property set[4] = { { .cmd = DTV_CLEAR }, { .cmd = DTV_DELIVERY_SYSTEM, .u.data = SYS_DVBT },
-				       { .cmd = DTV_FREQUENCY, .u.data = HZ }, { .cmd = DTV_TUNE } };
+	struct dtv_property set[4] = { { .cmd = DTV_CLEAR },
+				       { .cmd = DTV_DELIVERY_SYSTEM, .u.data = SYS_DVBT },
+				       { .cmd = DTV_FREQUENCY, .u.data = HZ },
+				       { .cmd = DTV_TUNE } };
 	struct dtv_property told[3] = { { .cmd = DTV_FREQUENCY }, { .cmd = DTV_ENUM_DELSYS }, { .cmd = DTV_DELIVERY_SYSTEM } };
 	struct dtv_properties all = { 4, set }, back = { 3, told };
 	struct dvb_frontend_event event = { 0 };
-	struct { int fd; short events, found; } poll = { tuner, POLL_IN, 0 };
+	struct {
+		int fd;
+		short events, found;
+	} poll = { tuner, POLL_IN, 0 };
 	unsigned status = 0;
 	want(call(__NR_ioctl, tuner, FE_SET_PROPERTY, (long)&all) == 0, 2);
 	want(call(__NR_ioctl, tuner, FE_GET_PROPERTY, (long)&back) == 0, 3);

@@ -4,7 +4,8 @@ A file has sessions, one behind the other. Empty lines, and lines that begin wit
 
     session TITLE            begins a session; its title is one word
     run WORDS                the words of a run; several; without them it is `steps` in batches of 1, 3 and 64
-    COMMAND = REPLY ; REPLY  a line of the script and the replies to its calls; `32 of passed` is 32 times `passed`; without ` = ` they
+    COMMAND = REPLY ; REPLY  a line of the script and the replies to its calls; `32 of passed` is 32 times `passed`; without ` = `
+    they
                              aren't compared. Any other line of no word below is one of the input too, also the line `stream`
     P PID COUNTER XX..       a packet: these bytes of payload, and the last of them to its end
     U PID COUNTER XX..       a packet that begins sections: pointer_field 0, these bytes, bytes ff to its end
@@ -14,7 +15,8 @@ A file has sessions, one behind the other. Empty lines, and lines that begin wit
     has LINE                 the output has this line
     wants STATUS             the line on standard error behind `dvbemu: `; without it the status is Ok
     hint TEXT                the second line of standard error
-    at L N, + LINE, answer STATUS   the first run's report with the `+` lines in place of N lines from line L on, and what `check` says to
+    at L N, + LINE, answer STATUS   the first run's report with the `+` lines in place of N lines from line L on, and what `check`
+    says to
                              it, `ok` for yes; without `at` it is the report as it stands
     expected TEXT            what the second line of that `check` tells behind `expected`; with no TEXT there is no such line
 

@@ -3,7 +3,8 @@ constant rate."""
 import datetime
 
 from dvbemu.stream import tables
-from dvbemu.stream.packets import NULL_PACKET, PACKET, RANDOM_ACCESS, ROOM, SYNC, adaptation_field, counter_of, packet, payload_of, pcr_of
+from dvbemu.stream.packets import NULL_PACKET, PACKET, RANDOM_ACCESS, ROOM, SYNC
+from dvbemu.stream.packets import adaptation_field, counter_of, packet, payload_of, pcr_of
 from dvbemu.stream.packets import pid_of, section_packets, unit_start
 from dvbemu.stream.pace import TICKS, WRAP
 from dvbemu.stream.tables import Descriptor, Part, Table
@@ -43,7 +44,8 @@ def later(media, ticks):
     payload = payload_of(media) or b""
     at = PACKET - len(payload)
     if pcr_of(media) is not None:
-        media = packet(pid_of(media), counter_of(media), payload, unit_start(media), adaptation_field(at - 4, flags=media[5] & RANDOM_ACCESS))
+        media = packet(pid_of(media), counter_of(media), payload, unit_start(media),
+                       adaptation_field(at - 4, flags=media[5] & RANDOM_ACCESS))
     if not unit_start(media) or payload[:3] != b"\0\0\1":
         return media
     flags = payload[7] >> 6
@@ -79,7 +81,8 @@ class Station:
 
     def sdt(self):
         here = {"EIT_schedule_flag": 1, "EIT_present_following_flag": 1, "running_status": 4}
-        parts = [Part({"service_id": sid, **here}, [Descriptor(0x48, b"\1" + texts("dvbemu", name))]) for sid, name, _, _ in self.services()]
+        parts = [Part({"service_id": sid, **here}, [Descriptor(0x48, b"\1" + texts("dvbemu", name))]) for sid, name, _,
+                 _ in self.services()]
         yield 17, Table(tables.SDT_ID, {"transport_stream_id": 1000 + self.number, "original_network_id": NETWORK}, [], parts)
 
     def nit(self):
@@ -100,8 +103,10 @@ class Station:
         here = {"transport_stream_id": 1000 + self.number, "original_network_id": NETWORK}
         for sid, name, _, _ in self.services():
             for table, numbers, place, last in ((0x4E, [0], 0, 1), (0x4E, [1], 1, 1), (0x50, range(EVENTS), 0, 0)):
-                places = {"section_number": place, "last_section_number": last, "segment_last_section_number": last, "last_table_id": table}
-                yield 18, Table(table, {"service_id": sid, **here, **places}, [], [self.event(sid, name, number) for number in numbers])
+                places = {"section_number": place, "last_section_number": last, "segment_last_section_number": last,
+                          "last_table_id": table}
+                yield 18, Table(table, {"service_id": sid, **here, **places}, [],
+                                [self.event(sid, name, number) for number in numbers])
 
     def tdt(self):
         yield 20, Table(tables.TDT_ID, {"UTC_time": tables.moment(now())}, [], [])
@@ -134,7 +139,8 @@ class Station:
         """What is due at this place of the stream."""
         if place % int(PCR * RATE) == 0:
             yield from self.clocks(place)
-        for period, table in (PAT, self.pat), (PMT, self.pmts), (SDT, self.sdt), (NIT, self.nit), (EIT, self.eits), (TDT, self.tdt):
+        for period, table in (PAT, self.pat), (PMT, self.pmts), (SDT, self.sdt), (NIT,
+                                                                                  self.nit), (EIT, self.eits), (TDT, self.tdt):
             if place % int(period * RATE) == 0:
                 for pid, one in table():
                     yield from self.packets_of(pid, one)

@@ -1,4 +1,5 @@
-"""`dvbemu calls` over a small receiver, calls.c, with files in the places of the devices. The lines are worked out by hand from its source."""
+"""`dvbemu calls` over a small receiver, calls.c, with files in the places of the devices. The lines are worked out by hand from
+its source."""
 import platform
 import subprocess
 
@@ -38,9 +39,11 @@ c0 close dvr
 c0 close h0
 stream
 """.replace("{12032}", 12032 * "00")
-# The same with request numbers and bytes. The receiver's structures hold a5 where nothing else is set: in the two bytes of padding.
+# The same with request numbers and bytes. The receiver's structures hold a5 where nothing else is set: in the two bytes of
+# padding.
 SPELLED = {
-    "section h0 17 5000 5 0=42/ff/00 15=00/00/0a": "403c6f2b 1100" + "42" + "00" * 15 + "ff" + "00" * 15 + "00" * 15 + "0a" + "a5a5" + "88130000" + "05000000",
+    "section h0 17 5000 5 0=42/ff/00 15=00/00/0a": "403c6f2b 1100" + "42" + "00" * 15 + "ff" + "00" * 15 + "00" * 15 + "0a"
+    + "a5a5" + "88130000" + "05000000",
     "pes h0 256 frontend tsdemux_tap 20 0": "40146f2c 0001" + "a5a5" + "00000000" + "03000000" + "14000000" + "00000000",
     "size h1 65536": "00006f2d 00000100",
     "add h1 257": "40026f33 0101",
@@ -48,7 +51,6 @@ SPELLED = {
     "start h0": "00006f29 -",
     "stop h0": "00006f2a -",
 }
-
 
 
 def wanted():
@@ -66,7 +68,8 @@ def written(compiled, tmp_path_factory):
     receiver, path = compiled("tests/calls.c", "-w"), tmp_path_factory.mktemp("calls") / "script"
 
     def made(*words):
-        words = [PROGRAM, "calls", *words, "--to", path, "--demux", "/dev/null", "--dvr", "/dev/zero", receiver, "/dev/null", "/dev/zero"]
+        words = [PROGRAM, "calls", *words, "--to", path, "--demux", "/dev/null", "--dvr", "/dev/zero", receiver, "/dev/null",
+                 "/dev/zero"]
         told = subprocess.run(words, stdin=subprocess.DEVNULL, capture_output=True, text=True, check=False, timeout=60)
         if "ptrace" in told.stderr:
             pytest.skip("no leave to trace")

@@ -1,10 +1,11 @@
 """What reads a report, over valid and changed reports: explain, with the stream too, picture, page, and json there and back.
 
-The reports are those of sessions of oracle/fuzz.py, by the plain second program, and changed ones, each with one to three changes of
-oracle/changes.py, or with another number, line or word; CHANGED_COUNT and CHANGED_FIRST in the environment name how many and the first of
-their seeds, 200 and 1 without. Over a valid report each tool gives its answer. Over a changed one it does, or it names the line that is
-wrong; nothing else may come of it. What the reader takes is a report for the program's `check` too, and what it refuses is none there
-either, but for what docs/BEHAVIOUR.md rules out and `check` tells as another fault; of more than 200 it is asked about each twentieth.
+The reports are those of sessions of oracle/fuzz.py, by the plain second program, and changed ones, each with one to three changes
+of oracle/changes.py, or with another number, line or word; CHANGED_COUNT and CHANGED_FIRST in the environment name how many and
+the first of their seeds, 200 and 1 without. Over a valid report each tool gives its answer. Over a changed one it does, or it
+names the line that is wrong; nothing else may come of it. What the reader takes is a report for the program's `check` too, and
+what it refuses is none there either, but for what docs/BEHAVIOUR.md rules out and `check` tells as another fault; of more than
+200 it is asked about each twentieth.
 """
 import io
 import os
@@ -27,14 +28,16 @@ COUNT, EACH, ASKED = 200, 10, 20
 ASKED_COUNT, FIRST = int(os.environ.get("CHANGED_COUNT", COUNT)), int(os.environ.get("CHANGED_FIRST", 1))
 SEEDS = range(FIRST, FIRST + ASKED_COUNT)
 NUMBERS = [0, 1, 7, 8, 31, 32, 64, 65, 188, 8191, 8192, 65535, 65536, 2**32 - 1, 2**32, 299999999999, 2**64 - 1, 2**64]
-WORDS = """c8 c12 feed end pass read poll data again passed ended=2 keep detach attach:- attach:5,4 input=dvr input=frontend owner=feed
-owner=c9 ENOMEM EINVAL 0=00/00/00 3=00/3e/3e""".split()
-# What `check` tells as another fault than that of the text, and the reader refuses: docs/BEHAVIOUR.md has clients up to c7, says which
-# replies a call has and who passes what of the stream, and has no span that ends before it begins.
+WORDS = """c8 c12 feed end pass read poll data again passed ended=2 keep detach attach:- attach:5,4 input=dvr input=frontend
+owner=feed owner=c9 ENOMEM EINVAL 0=00/00/00 3=00/3e/3e""".split()
+# What `check` tells as another fault than that of the text, and the reader refuses: docs/BEHAVIOUR.md has clients up to c7, says
+# which replies a call has and who passes what of the stream, and has no span that ends before it begins.
 RULED_OUT = ("a client `c0` to `c7`", "a node or the end, behind client 7", "a reply to `",
-             "`pass input=frontend` and `end` of `feed` alone", "a span `A..B` with A at most B", "a reply: data, done")  # fmt: skip
+             "`pass input=frontend` and `end` of `feed` alone", "a span `A..B` with A at most B",
+             "a reply: data, done")  # fmt: skip
 
-# A report in which each number stands as the greatest one of its bits, and whose other words are of a form that the program takes too.
+# A report in which each number stands as the greatest one of its bits, and whose other words are of a form that the program takes
+# too.
 WIDE = """dvbemu 1
 packets=<64> skipped=<64> rest=<32>
 pid 17 packets=<64> breaks=<64> duplicates=<64> errors=<64>
@@ -66,12 +69,15 @@ NO_LINES = [
 # Beginnings of texts that are no reports, and what is told of them.
 OTHERS = [
     ("c0 open n0\nstream\n", "this is a script: `dvbemu steps` writes its report"),
-    ("# one\n\nfeed 3\n", "this is a script: `dvbemu steps` writes its report"), (4 * ("G" + 187 * "\xff"), "this is a recording"),
+    ("# one\n\nfeed 3\n", "this is a script: `dvbemu steps` writes its report"),
+    (4 * ("G" + 187 * "\xff"), "this is a recording"),
     (4 * ("G\n" + 186 * "a"), "this is a recording"), (4 * ("G\n" + 202 * "a"), "this is a recording"),
-    (4 * ("\0\n\0\0G" + 187 * "a"), "this is a recording"), ('{"kind": "stream"}\n', "these are JSON Lines: `dvbemu json --back` writes their report"),
+    (4 * ("\0\n\0\0G" + 187 * "a"), "this is a recording"),
+    ('{"kind": "stream"}\n', "these are JSON Lines: `dvbemu json --back` writes their report"),
     ("Good morning\n", None), ("", None), ("dvbemu 2\n", None), ("c8 open n0\n", None), ("G" + 187 * "\xff", None),
 ]  # fmt: skip
-# Reports that no program writes: a command whose call no node has; and two callers each before the other, on nodes that no batch passes.
+# Reports that no program writes: a command whose call no node has; and two callers each before the other, on nodes that no batch
+# passes.
 HEAD = "dvbemu 1\npackets=60 skipped=0 rest=0\n"
 UNTOLD = HEAD + "client 0\nline 2 steps 0..1 done\nend\n"
 CROSSED = HEAD + """client 0
@@ -174,7 +180,8 @@ TOOLS = {
     "explain": lambda text, _: explained(read(text), Part()),
     "picture": lambda text, _: picture(read(text), "changed"),
     "page": lambda text, _: page(read(text), "changed"),
-    "explain with the stream": lambda text, session: explained(read(text), Part(), Stream(played.packets_of(session, read(text)))),
+    "explain with the stream": lambda text,
+    session: explained(read(text), Part(), Stream(played.packets_of(session, read(text)))),
 }
 LINE = r"line \d+: |no session"
 
@@ -207,7 +214,8 @@ def test_changed(seed, tool):
 
 def try_reader(program, text):
     """The program takes a text for a report where the reader does; what the reader tells."""
-    told = subprocess.run([program, "check"], input=asked_of(text.encode("latin-1"), b"stream\n"), capture_output=True, check=False).stderr.decode()
+    told = subprocess.run([program, "check"], input=asked_of(text.encode("latin-1"), b"stream\n"), capture_output=True,
+                          check=False).stderr.decode()
     _, fault = fault_of(read, text)
     is_text = not re.match(r"dvbemu: report line \d+: text\n", told)
     assert is_text == (fault is None) or is_text and any(words in fault for words in RULED_OUT), (fault, told)

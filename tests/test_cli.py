@@ -1,6 +1,6 @@
-"""Each word of `dvbemu`: --help, --version, no word behind it, a file that isn't there, a folder, random bytes, an option that it doesn't
-know, a reader that goes, Ctrl-C, and, where it reads standard input, a terminal. Each says in one form what it has to say, and none shows
-where in its code it was. A word of the tables of dvbemu.cli that isn't tried in each of these ways fails."""
+"""Each word of `dvbemu`: --help, --version, no word behind it, a file that isn't there, a folder, random bytes, an option that it
+doesn't know, a reader that goes, Ctrl-C, and, where it reads standard input, a terminal. Each says in one form what it has to
+say, and none shows where in its code it was. A word of the tables of dvbemu.cli that isn't tried in each of these ways fails."""
 import contextlib
 import fcntl
 import os
@@ -17,34 +17,40 @@ from dvbemu import cli
 from dvbemu import tool as form
 
 WORDS = [*cli.PROVED, *cli.TOOLS]
-# With no word behind them: the status over an empty standard input, and the beginning of what is told, or the words that are missing.
+# With no word behind them: the status over an empty standard input, and the beginning of what is told, or the words that are
+# missing.
 ALONE = {
     "steps": (3, "dvbemu: script line 1: nostream"), "run": (3, "dvbemu: script line 1: nostream"),
     "check": (3, "dvbemu: script line 0: number"), "make": (2, "N"), "selftest": (2, "N"),
-    "explain": (1, "dvbemu explain: standard input: line 1: expected"), "picture": (1, "dvbemu picture: standard input: line 1: expected"),
-    "bytes": (1, "dvbemu bytes: standard input: line 1: expected"), "pace": (1, "dvbemu pace: standard input: fewer than two PCRs"),
+    "explain": (1, "dvbemu explain: standard input: line 1: expected"),
+    "picture": (1, "dvbemu picture: standard input: line 1: expected"),
+    "bytes": (1, "dvbemu bytes: standard input: line 1: expected"),
+    "pace": (1, "dvbemu pace: standard input: fewer than two PCRs"),
     "json": (1, "dvbemu json: standard input: line 1: expected"), "page": (1, "dvbemu page: standard input: line 1: expected"),
     "serve": (2, "STREAM, COMMAND; put -- before COMMAND"), "words": (0, ""),
     "beside": (3, "dvbemu: script line 1: nostream"), "fuzz": (2, "RECORDING, COMMAND; put -- before COMMAND"),
     "test": (2, "PATH"), "session": (2, "REPORT, STREAM"), "merge": (2, "FOLDER"),
     "packet": (2, "PID, COUNTER, KIND, BYTES"), "calls": (2, "PROGRAM"), "build": (2, "PROGRAM"),
 }  # fmt: skip
-# A word in the place of which a file stands, and the status where that isn't there, is a folder, or has random bytes. Those that read no
-# file take it for a number.
+# A word in the place of which a file stands, and the status where that isn't there, is a folder, or has random bytes. Those that
+# read no file take it for a number.
 READS = {
-    "steps {}": (1, 1, 3), "steps script {}": (1, 1, 0), "run {}": (1, 1, 3), "run script {}": (1, 1, 0), "check {} session": (1, 1, 1),
+    "steps {}": (1, 1, 3), "steps script {}": (1, 1, 0), "run {}": (1, 1, 3), "run script {}": (1, 1, 0),
+    "check {} session": (1, 1, 1),
     "check report {}": (1, 1, 3), "check report script {}": (1, 1, 1), "make {}": (2, 2, 2), "selftest {}": (2, 2, 2),
     "explain {}": (1, 1, 1), "picture {}": (1, 1, 1), "page {}": (1, 1, 1), "json {}": (1, 1, 1), "json --back {}": (1, 1, 1),
     "beside {}": (1, 1, 3), "beside {} session": (1, 1, 3), "beside report {}": (1, 1, 3), "beside script {}": (1, 1, 0),
     "explain {} session": (1, 1, 1), "explain report {}": (1, 1, 1), "bytes {}": (1, 1, 1),
-    "session {} session": (1, 1, 1), "session report {}": (1, 1, 1), "pace {}": (1, 1, 1), "words {}": (1, 1, 0), "merge {}": (1, 1, 1),
+    "session {} session": (1, 1, 1), "session report {}": (1, 1, 1), "pace {}": (1, 1, 1), "words {}": (1, 1, 0),
+    "merge {}": (1, 1, 1),
     "test {}": (1, 1, 1), "calls {}": (127, 127, 127), "packet {} 0 payload 00": (2, 2, 2), "packet 0 0 payload {}": (1, 1, 1),
     "serve {} -- true": (1, 1, 1), "serve --channels {} -- true": (1, 1, 1), "build {}": (2, 2, 2),
     "fuzz {} -- true": (1, 1, 1),
 }  # fmt: skip
 # Those that write: what they are given by standard input.
 WRITES = {
-    "steps -": "session", "run -": "session", "make 7": None, "selftest 7": None, "explain": "report", "picture": "report", "page": "report",
+    "steps -": "session", "run -": "session", "make 7": None, "selftest 7": None, "explain": "report", "picture": "report",
+    "page": "report",
     "json": "report", "explain - session": "report", "beside": "session", "bytes": "report", "session - stream": "served",
     "words": "session", "pace --rate 1000": "stream",
     "packet 0 0 payload 00": None, "test a.session": None, "check - session": "report", "calls true": None,
@@ -55,7 +61,8 @@ OWN = "make 7", "selftest 7"
 # Those that wait for standard input.
 WAITS = (
     "steps", "steps -", "steps script -", "run", "run -", "check", "check - session", "check report -",
-    "beside", "beside -", "beside report -", "explain", "explain -", "picture", "page", "json", "json --back", "explain - session", "bytes", "session - session", "pace", "pace -", "words",
+    "beside", "beside -", "beside report -", "explain", "explain -", "picture", "page", "json", "json --back",
+    "explain - session", "bytes", "session - session", "pace", "pace -", "words",
     "serve - -- true",
 )  # fmt: skip
 # What they are given then, so that they wait for more: those that read a report, and others.
@@ -88,7 +95,8 @@ def started(files_room):
 
     def start(line, **ends):
         ends = {"stdin": subprocess.PIPE, "stdout": subprocess.PIPE, **ends}
-        children.append(subprocess.Popen([PROGRAM, *line.split()], cwd=files_room.folder, stderr=subprocess.PIPE, start_new_session=True, **ends))
+        children.append(subprocess.Popen([PROGRAM, *line.split()], cwd=files_room.folder, stderr=subprocess.PIPE,
+                                         start_new_session=True, **ends))
         return children[-1]
 
     yield start
@@ -151,7 +159,8 @@ def test_no_word(files_room, word, status, line):
 def test_a_word_that_has_moved(monkeypatch, tool):
     monkeypatch.setitem(cli.MOVED, "told", "`explain REPORT SESSION` tells it")
     status, out, told = tool("told", "r", "s")
-    assert (status, out) == (2, "") and told.startswith("usage: dvbemu WORD ..") and told.endswith("\ndvbemu: error: `explain REPORT SESSION` tells it\n")
+    assert (status, out) == (2, "") and told.startswith("usage: dvbemu WORD ..") and told.endswith("\ndvbemu: error: `explain "
+                                                                                                   "REPORT SESSION` tells it\n")
 
 
 # ------ a file that isn't there, a folder, and random bytes

@@ -1,8 +1,9 @@
-"""Counts what the picture and the explanation of each report of examples/ have to tell, by the lines of the report alone, and compares.
+"""Counts what the picture and the explanation of each report of examples/ have to tell, by the lines of the report alone, and
+compares.
 
-It reads the reports with a few patterns of its own, and shares no code with what it tries. A picture tells each call of each node and
-each command once, and each batch and End once for all nodes; an explanation tells the counts of the stream, each command of each client,
-and how many bytes the client's reads gave, lost and waited for in vain.
+It reads the reports with a few patterns of its own, and shares no code with what it tries. A picture tells each call of each node
+and each command once, and each batch and End once for all nodes; an explanation tells the counts of the stream, each command of
+each client, and how many bytes the client's reads gave, lost and waited for in vain.
 """
 import collections
 import html
@@ -92,8 +93,10 @@ def test_batches_of_picture(report, titles):
 
 
 def test_commands_of_picture(report, titles):
-    commands = collections.Counter(", ".join((f"line {line}", f"steps {steps}", kind)) for line, steps, kind in COMMAND.findall(report[1]))
-    assert collections.Counter(", ".join(title.split("; ")[0].split(", ")[:3]) for title in titles if title.startswith("line ")) == commands
+    commands = collections.Counter(", ".join((f"line {line}", f"steps {steps}", kind)) for line, steps,
+                                   kind in COMMAND.findall(report[1]))
+    assert collections.Counter(", ".join(title.split("; ")[0].split(", ")[:3]) for title in titles
+                               if title.startswith("line ")) == commands
 
 
 def test_stream(report, page):
@@ -133,4 +136,5 @@ def test_bytes_lost(report, pages):
 def test_timeouts(report, pages):
     for client, text in pages.items():
         late = " ".join(text.split("\n  What timed out:")[1].split("\n  Whom")[0].split()) + " "
-        assert late.count(" expired at ") == sum(reply.startswith("timedout ") for reply in replies(report[1], client)), f"client {client}"
+        assert late.count(" expired at ") == sum(reply.startswith("timedout ")
+                                                 for reply in replies(report[1], client)), f"client {client}"

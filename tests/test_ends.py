@@ -1,6 +1,6 @@
-"""Each word of `dvbemu` where standard input, output or errors are closed, full or a folder, and where the program is killed: each ends by an
-exact status with one line that names what failed, and none shows where in its code it was. A word of the tables of dvbemu.cli that has no
-line here fails. The program's place is taken by one that ends by each signal that ends a process."""
+"""Each word of `dvbemu` where standard input, output or errors are closed, full or a folder, and where the program is killed:
+each ends by an exact status with one line that names what failed, and none shows where in its code it was. A word of the tables
+of dvbemu.cli that has no line here fails. The program's place is taken by one that ends by each signal that ends a process."""
 import os
 import random
 import re
@@ -17,11 +17,13 @@ from dvbemu.commands import test as tests_word
 
 SOURCE = str(ROOT / "python" / "src")
 # What a run of `serve` as root begins with on standard error, and what it ends with where no program opened the adapter.
-ROOT_LINE, UNOPENED = re.compile("dvbemu serve: started by root: .*\n"), re.compile("dvbemu serve: no program opened the adapter; .*\n")
+ROOT_LINE, UNOPENED = re.compile("dvbemu serve: started by root: .*\n"), re.compile("dvbemu serve: no program opened the "
+                                                                                    "adapter; .*\n")
 # A line of each word that exited with status 0 and has written something.
 LINES = {
     "steps": "steps session", "run": "run session", "check": "check report session", "make": "make 7", "selftest": "selftest 7",
-    "serve": "serve --help", "explain": "explain report", "beside": "beside session", "picture": "picture report", "page": "page report",
+    "serve": "serve --help", "explain": "explain report", "beside": "beside session", "picture": "picture report",
+    "page": "page report",
     "json": "json report", "bytes": "bytes report", "session": "session served recording", "fuzz": "fuzz --help",
     "test": "test tests", "words": "words session", "packet": "packet 0 0 payload 00", "pace": "pace --rate 1000 stream",
     "calls": "calls true", "merge": "merge kept", "build": "build dvbemu", "--help": "--help", "--version": "--version",
@@ -37,12 +39,14 @@ OTHERS = "<&-", "</tmp", "2>/dev/full", "2>&-", "<&- 2>&-", "</tmp 2>&-", "2</tm
 # The words that read standard input, and what that is called where it can't be read.
 READS = {
     "steps -": "dvbemu: standard input", "run -": "dvbemu: standard input", "check - session": "dvbemu: standard input",
-    "check report -": "dvbemu: standard input", "explain": "dvbemu explain: standard input", "picture": "dvbemu picture: standard input",
+    "check report -": "dvbemu: standard input", "explain": "dvbemu explain: standard input",
+    "picture": "dvbemu picture: standard input",
     "page": "dvbemu page: standard input", "json": "dvbemu json: standard input", "json --back": "dvbemu json: standard input",
-    "explain - session": "dvbemu explain: standard input", "explain report -": "dvbemu explain: standard input", "bytes": "dvbemu bytes: standard input",
-    "words": "dvbemu words: standard input",
+    "explain - session": "dvbemu explain: standard input", "explain report -": "dvbemu explain: standard input",
+    "bytes": "dvbemu bytes: standard input", "words": "dvbemu words: standard input",
     "session - session": "dvbemu session: standard input", "session report -": "dvbemu session: standard input",
-    "pace": "dvbemu pace: standard input", "beside": "dvbemu beside: standard input", "beside report -": "dvbemu beside: standard input",
+    "pace": "dvbemu pace: standard input", "beside": "dvbemu beside: standard input",
+    "beside report -": "dvbemu beside: standard input",
 }  # fmt: skip
 UNREADABLE = {"</tmp": "Is a directory", "<&-": "it is closed"}
 # Statuses of a program, and the signals that don't end a process, and those by which a command ends quietly too.
@@ -121,7 +125,8 @@ def shell(files_room, stand_in):
 
     def run(line, ends="", program=None, folder=files_room.folder, **more):
         program = program or (stand_in("writes") if line in PASSED else PROGRAM)
-        ran = subprocess.run(["sh", "-c", f"\"$0\" {line} {ends}\nexit $?", program], cwd=folder, stdin=subprocess.DEVNULL, capture_output=True,
+        ran = subprocess.run(["sh", "-c", f"\"$0\" {line} {ends}\nexit $?", program], cwd=folder, stdin=subprocess.DEVNULL,
+                             capture_output=True,
                              check=False, timeout=ENDS, env={**os.environ, **more})  # fmt: skip
         return ran.returncode, ran.stdout, ran.stderr.decode()
 
@@ -170,7 +175,8 @@ def test_input(shell, line, named, ends, why):
 @pytest.mark.parametrize("number", sorted(set(range(1, 65)) - HARMLESS))
 @pytest.mark.parametrize("line", ASKED)
 def test_killed(shell, stand_in, line, number):
-    """A program that a signal has ended: 128 and its number as a shell sees it, and a line; but none for Ctrl-C, and a reader that goes."""
+    """A program that a signal has ended: 128 and its number as a shell sees it, and a line; but none for Ctrl-C, and a reader
+    that goes."""
     told = "" if number in QUIET else f"dvbemu: the program was killed by signal {number}\n"
     assert shell(line, "", stand_in("killed"), ENDS_BY=str(number), REAL="/bin/true") == (128 + number, b"", told)
 
@@ -227,7 +233,8 @@ def test_a_reader_that_goes(files_room, line):
 
 
 def test_a_hang_up_behind_the_end():
-    ran = subprocess.run([sys.executable, "-c", HUNG_UP], capture_output=True, check=False, timeout=ENDS, env={**os.environ, "PYTHONPATH": SOURCE})
+    ran = subprocess.run([sys.executable, "-c", HUNG_UP], capture_output=True, check=False, timeout=ENDS,
+                         env={**os.environ, "PYTHONPATH": SOURCE})
     assert (ran.returncode, ran.stderr) == (-signal.SIGHUP, b"")
 
 
@@ -238,7 +245,6 @@ def told_by(child):
     except subprocess.TimeoutExpired:
         os.killpg(child.pid, signal.SIGKILL)
         raise
-
 
 
 @pytest.mark.parametrize("number", range(24))
@@ -253,9 +259,11 @@ def test_a_signal_of_a_group(files_room, number):
     assert child.returncode in (-name, 0) and told == b""
 
 
-@pytest.mark.parametrize("name", [signal.SIGHUP, signal.SIGTERM, signal.SIGUSR1, signal.SIGALRM, signal.SIGPWR], ids=lambda name: name.name)
+@pytest.mark.parametrize("name", [signal.SIGHUP, signal.SIGTERM, signal.SIGUSR1, signal.SIGALRM, signal.SIGPWR],
+                         ids=lambda name: name.name)
 def test_a_signal_of_the_wrapper(files_room, name):
-    """A signal that ends the wrapper alone, while it waits for more of its input: the program doesn't take what came for the whole."""
+    """A signal that ends the wrapper alone, while it waits for more of its input: the program doesn't take what came for the
+    whole."""
     with subprocess.Popen([PROGRAM, "steps", "-"], cwd=files_room.folder, stdin=subprocess.PIPE, stdout=subprocess.PIPE,
                           stderr=subprocess.PIPE) as child:  # fmt: skip
         child.stdin.write(b"c0 open n0\nstream\n")
@@ -281,7 +289,8 @@ def test_signals_that_are_passed_over(files_room):
 
 
 def test_nohup(files_room):
-    with subprocess.Popen(["nohup", PROGRAM, "check", "-", "session"], cwd=files_room.folder, stdin=subprocess.PIPE, stdout=subprocess.PIPE,
+    with subprocess.Popen(["nohup", PROGRAM, "check", "-", "session"], cwd=files_room.folder, stdin=subprocess.PIPE,
+                          stdout=subprocess.PIPE,
                           stderr=subprocess.PIPE) as child:  # fmt: skip
         time.sleep(0.5)
         child.send_signal(signal.SIGHUP)
@@ -289,21 +298,24 @@ def test_nohup(files_room):
     assert (child.returncode, out) == (0, b"yes\n")
 
 
-# ------ what a command doesn't look after itself is one line and a status, whatever the ends are; an end that doesn't wait is waited for
+# ------ what a command doesn't look after itself is one line and a status, whatever the ends are; an end that doesn't wait is
+# waited for
 
 
 @pytest.mark.parametrize("ends", ["", "2>&-", ">&-", "<&- >/dev/full 2>/dev/full"])
 @pytest.mark.parametrize("fault, status, told", FAULTS)
 def test_faults(fault, status, told, ends):
     words, place = ["sh", "-c", f"exec \"$0\" -c \"$1\" {ends}", sys.executable, FAULTY.format(fault)], {"PYTHONPATH": SOURCE}
-    ran = subprocess.run(words, stdin=subprocess.DEVNULL, capture_output=True, text=True, check=False, env={**os.environ, **place})
+    ran = subprocess.run(words, stdin=subprocess.DEVNULL, capture_output=True, text=True, check=False,
+                         env={**os.environ, **place})
     assert (ran.returncode, ran.stdout, ran.stderr) == (status, "", "" if "2" in ends else f"dvbemu it: {told}\n")
 
 
 def test_a_pipe_that_does_not_wait():
     reader, writer = os.pipe()
     os.set_blocking(writer, False)
-    with subprocess.Popen([PROGRAM, "json", EXAMPLES / "programs" / "recording.report"], stdout=writer, stderr=subprocess.PIPE) as child:
+    with subprocess.Popen([PROGRAM, "json", EXAMPLES / "programs" / "recording.report"], stdout=writer,
+                          stderr=subprocess.PIPE) as child:
         os.close(writer)
         time.sleep(0.5)
         with open(reader, "rb") as pipe:
@@ -355,7 +367,8 @@ def test_serve_input(served):
     assert (status, told) == (0, "") and b"\nend\n" in out
 
 
-# ------ --version tells what the program is that runs: a proved one, or where none is built and it is to be hurried, one that isn't
+# ------ --version tells what the program is that runs: a proved one, or where none is built and it is to be hurried, one that
+# isn't
 
 NUMBER, PROVED = (ROOT / "VERSION").read_text().splitlines()[:2]
 HASTY = "not proved: built with DVBEMU_UNPROVED"

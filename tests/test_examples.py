@@ -1,4 +1,5 @@
-"""The pictures and explanations of all reports of examples/, those that stand there byte for byte, and texts that are no reports."""
+"""The pictures and explanations of all reports of examples/, those that stand there byte for byte, and texts that are no
+reports."""
 import subprocess
 import xml.dom.minidom
 

@@ -132,7 +132,8 @@ def test_small_memory(large, command):
     assert (told(child), child.stdout) == (MEMORY, b"")
 
 
-# Starts a program from a small process, since what starts it counts as its memory, and writes its status and the KiB that it took.
+# Starts a program from a small process, since what starts it counts as its memory, and writes its status and the KiB that it
+# took.
 STARTER = "import os, sys; _, status, used = os.wait4(os.spawnv(os.P_NOWAIT, sys.argv[1], sys.argv[1:]), 0); " \
     "print(os.waitstatus_to_exitcode(status), used.ru_maxrss, file=sys.stderr)"
 
@@ -234,8 +235,9 @@ def run_slowly(session, packets, pause, behind):
 
 
 def test_woken():
-    """Each packet that passes after the filter's start is read soon after its pass: the median time counts, since a loaded machine
-    makes some of them long. There a packet or two may pass before the client has set its filter, and nobody reads those."""
+    """Each packet that passes after the filter's start is read soon after its pass: the median time counts, since a loaded
+    machine makes some of them long. There a packet or two may pass before the client has set its filter, and nobody reads
+    those."""
     packets = [packet(256, place) for place in range(COUNT)]
     report, _ = run_slowly(TAPPED + COUNT * b"c0 readw n1 188\n" + b"stream\n", packets, PAUSE, 0)
     entries = Report.parse(report).node("n1").entries
@@ -382,14 +384,40 @@ def run_each(words, given, name, env):
         yield child
 
 
+def refused_each(words, given, env):
+    """The same where allocations are refused, of which there is one at least."""
+    children = list(run_each(words, given, "REFUSE", env))
+    if len(children) == 1 and b"__asan_init" in BUILT.read_bytes():
+        pytest.skip("the sanitizer of an unproved program allocates by itself, so no allocation is refused")
+    assert len(children) > 1
+    return children
+
+
 def test_each_allocation_is_refused(attempt, library, tried):
     """Want of memory and nothing written, or the whole report."""
     words, given, is_report = attempt
-    for child in tried(run_each(words, given, "REFUSE", library)):
+    for child in tried(refused_each(words, given, library)):
         if child.returncode == 0:
             assert child.stderr == b"" and is_report(child.stdout)
         else:
             assert (told(child), child.stdout) == (MEMORY, b"")
+
+
+# Sessions for `run`: of examples, and some whose clients read with a wait, which would never end if the stream came behind them.
+UNTHREADED = {**{name: example(name).session for name in REFUSED}, **{
+    node: session + b"".join(packet(256, place) for place in range(COUNT)) for node, session in WAITING.items()}}  # fmt: skip
+
+
+@pytest.mark.parametrize("name", UNTHREADED)
+def test_no_thread_can_be_made(library, name):
+    """The clients come behind the stream: on each node the feeder's entries stand in front of theirs, and the report is right."""
+    child, was = run_told(["run", "--batch", "1"], UNTHREADED[name], {**library, "NO_THREAD": "1"})
+    assert (child.returncode, child.stderr, was) == (0, b"", True)
+    assert judge.judge(UNTHREADED[name], 1, child.stdout) is None
+    assert ran(["check"], BUILT, input=asked_of(child.stdout, UNTHREADED[name])).stdout == b"yes\n"
+    for node in Report.parse(child.stdout).nodes:
+        callers = [entry.who for entry in node]
+        assert callers == sorted(callers, key=lambda who: who != "feed"), node.name
 
 
 @pytest.mark.parametrize("more", [{"INTERRUPT": "1"}, {"SHORTEN": "1"}, {"SHORTEN": "1000"}])
@@ -404,7 +432,7 @@ def test_calls_that_are_interrupted_or_short(attempt, library, more):
 def test_each_allocation_behind_a_fault_is_refused(library, tried):
     """Want of memory, or the fault's line, and the line behind it or none."""
     script, line, more = BYTES
-    for child in tried(run_each(["steps"], script, "REFUSE", library)):
+    for child in tried(refused_each(["steps"], script, library)):
         lines = [f"dvbemu: script line {line}", f"  {more}"]
         assert (child.returncode, child.stderr.decode().splitlines()) in [(3, lines), (3, lines[:1]), (7, [MEMORY[1]])]
         assert child.stdout == b""
@@ -433,7 +461,7 @@ def test_each_allocation_of_check_is_refused(library, tried, output, given):
     """Want of memory and nothing written, or the answer, behind `no` without what was expected where there is no memory to write
     it."""
     whole = ran(["check"], BUILT, input=given).stderr
-    for child in tried(run_each(["check"], given, "REFUSE", library)):
+    for child in tried(refused_each(["check"], given, library)):
         if child.returncode == 0:
             assert child.stdout == output and child.stderr in (whole, whole.partition(b"expected ")[0])
         else:

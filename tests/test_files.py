@@ -1,8 +1,8 @@
 """The words of `dvbemu` that take files: steps, run, check, bytes and test.
 
-Over the sessions of examples/, cut into a script and a stream in each way, what comes of the files is what comes of the session. A file that
-is broken is named, and nothing is written; a script's fault that `words` knows is told so. `bytes` writes what a script of one
-read gives, and `test` tells what differs."""
+Over the sessions of examples/, cut into a script and a stream in each way, what comes of the files is what comes of the session.
+A file that is broken is named, and nothing is written; a script's fault that `words` knows is told so. `bytes` writes
+what a script of one read gives, and `test` tells what differs."""
 import io
 import os
 import re
@@ -28,10 +28,13 @@ FAULTS = [
     (b"Stream\n", "`dvbemu words script` translates it to 'stream'"),
     (b"c0 open n0\n" + PACKET + b"\n", "a packet begins with G, 0x47: is the line `stream` missing in front of it?"),
     (PACKET, "script: a script comes first, and then the streams: dvbemu WORD SCRIPT script"),
-    (b"dvbemu 1\npackets=0 skipped=0 rest=0\nend\n", "script: this is a report, not a script: `dvbemu explain script` explains it"),
+    (b"dvbemu 1\npackets=0 skipped=0 rest=0\nend\n",
+     "script: this is a report, not a script: `dvbemu explain script` explains it"),
     (b"c0 section n0 0 5 0=00/ff/00\n", "the line is cK section T PID TIMEOUT FLAGS BYTE..; it seems that TIMEOUT is missing"),
-    (b"c0 section n0 0 table_id=2\n", "the line is cK section T PID TIMEOUT FLAGS BYTE..; it seems that TIMEOUT and FLAGS are missing"),
-    (b"sleep 1\n", "time passes by `tick 1000`, in milliseconds"), (b"sleep 0.25\n", "time passes by `tick 250`, in milliseconds"),
+    (b"c0 section n0 0 table_id=2\n",
+     "the line is cK section T PID TIMEOUT FLAGS BYTE..; it seems that TIMEOUT and FLAGS are missing"),
+    (b"sleep 1\n", "time passes by `tick 1000`, in milliseconds"),
+    (b"sleep 0.25\n", "time passes by `tick 250`, in milliseconds"),
     (b"usleep 5\n", "time passes by `tick N`, in milliseconds"), (b"fed 3\n", "did you mean feed?"),
     (b"c0 opne n0\n", "did you mean open?"), (b"c0 strat n0\n", "did you mean start?"), (b"c0 xyz n0\n", None),
     (b"c0 add n0 0x1g\n", None), (b"c0 size n0\n", None), (b"c0 open n0 n1\n", None),
@@ -39,7 +42,8 @@ FAULTS = [
 
 STREAMS = sorted(EXAMPLES.glob("*/*.ts"))
 # The files of a session, and what stands on standard input: `session`, or a part of the stream, or of the script.
-WAYS = [("session", ""), ("script one two", ""), ("bare one two", ""), ("whole one two", ""), ("cut one two", ""), ("-", "session"),
+WAYS = [("session", ""), ("script one two", ""), ("bare one two", ""), ("whole one two", ""), ("cut one two", ""),
+        ("-", "session"),
         ("script one -", "two"), ("- one two", "script")]  # fmt: skip
 
 
@@ -58,7 +62,8 @@ def test_recording_is_the_stream_of_its_session(path):
 
 @pytest.mark.parametrize("number, name", enumerate(examples(".session")))
 def test_session(room, number, name):
-    """A session in one file, in two, without its line `stream`, with streams in pieces, and by standard input: a way for each in turn."""
+    """A session in one file, in two, without its line `stream`, with streams in pieces, and by standard input: a way for each in
+    turn."""
     case, (way, given) = example(name), WAYS[number % len(WAYS)]
     write_parts(room, case.session)
     assert room.run(f"{' '.join(case.words)} {way}", room.read(given) if given else b"") == (0, case.report, "")
@@ -176,7 +181,8 @@ def test_broken(room, fails, line):
     assert (str(fault.value), taken.getvalue()) == (f"{path}: {line}", SCRIPT + b"stream\n" + (10 * PACKET)[:500])
 
 
-@pytest.mark.parametrize("line", ["steps script stream /proc/self/mem", "run script /proc/self/mem", "check stream script /proc/self/mem"])
+@pytest.mark.parametrize("line", ["steps script stream /proc/self/mem", "run script /proc/self/mem",
+                                  "check stream script /proc/self/mem"])
 def test_unreadable(room, line):
     room.write({"script": SCRIPT, "stream": 10 * PACKET})
     assert room.run(line) == (1, b"", "dvbemu: /proc/self/mem: reading failed after 0 bytes: Input/output error\n")
@@ -191,7 +197,8 @@ def test_unwritable(room, line, ends):
     assert (ran.returncode, ran.stderr) == (6, b"dvbemu: write failed\n")
 
 
-@pytest.mark.parametrize("line, report", [("steps - -", b""), ("explain - -", SERVED.read_bytes()), ("session - -", SERVED.read_bytes())])
+@pytest.mark.parametrize("line, report",
+                         [("steps - -", b""), ("explain - -", SERVED.read_bytes()), ("session - -", SERVED.read_bytes())])
 def test_standard_input_twice(room, line, report):
     teller = "dvbemu" if line.startswith("steps") else f"dvbemu {line.partition(' ')[0]}"
     assert room.run(line, report) == (1, b"", f"{teller}: -: standard input can be given only once\n")
@@ -203,14 +210,16 @@ MORE = "`dvbemu explain` says more"
 TS_TAP = b"c0 open dvr\nc0 open n0\nc0 pes n0 256 frontend ts_tap 20 4\nc0 add n0 257\nc0 add n0 256\nc0 drain dvr 4096\n"
 TWO = SCRIPT.replace(b"100", b"5") + b"c1 open n1\nc1 pes n1 256 frontend tap 20 4\nfeed 5\nc1 read n1 4096\n"
 ALL_LOST = "dvbemu bytes: n0: 1,880 bytes are lost after byte 0 (place {}: overflow 0..1880 item=1 need=188 room=11)\n"
-REFUSED_PID = "dvbemu bytes: n0: refused, and not among these bytes: add 257 (place 2: EINVAL: only TSDEMUX_TAP takes more than one PID)\n"
+REFUSED_PID = ("dvbemu bytes: n0: refused, and not among these bytes: "
+               "add 257 (place 2: EINVAL: only TSDEMUX_TAP takes more than one PID)\n")
 # A script over ten packets, the words, and what is written and told.
 BYTES = [
     (SCRIPT, "bytes", (0, 10 * PACKET, "")),
     (SCRIPT, "bytes --node demux0", (0, 10 * PACKET, "")),
     (SCRIPT, "bytes --node 1", (1, b"", "dvbemu bytes: no client called n1\n")),
     (b"c0 open n0\nc0 read n0 10\n", "bytes", (1, b"", f"dvbemu bytes: no byte was read; {MORE}\n")),
-    (SCRIPT.replace(b"c0 pes", b"c0 size n0 200\nc0 pes"), "bytes", (1, b"", f"{ALL_LOST}dvbemu bytes: no byte was read; {MORE}\n")),
+    (SCRIPT.replace(b"c0 pes", b"c0 size n0 200\nc0 pes"), "bytes",
+     (1, b"", f"{ALL_LOST}dvbemu bytes: no byte was read; {MORE}\n")),
     (TS_TAP, "bytes --node dvr", (0, 10 * PACKET, REFUSED_PID)),
     (TWO, "bytes", (1, b"", "dvbemu bytes: n0, n1 were read; choose one with --node\n")),
 ]
@@ -263,7 +272,8 @@ def tests(room):
     """The folder `t`, and the right report of its two sessions."""
     _, session, report, *_ = example("rules/overflow")
     room.write({"t/right.session": session, "t/right.words": b"steps --batch 1\n", "t/right.report": report,
-                "t/wrong.session": session, "t/wrong.words": b"steps --batch=1", "t/wrong.report": report.replace(b"item=2", b"item=1"),
+                "t/wrong.session": session, "t/wrong.words": b"steps --batch=1",
+                "t/wrong.report": report.replace(b"item=2", b"item=1"),
                 "t/threads.script": SCRIPT, "t/threads.ts": 9 * PACKET, "t/threads.words": b"run --batch 1",
                 "t/faulty.script": b"c0 strat n0\nstream\n", "t/faulty.report": b"x"})  # fmt: skip
     return report

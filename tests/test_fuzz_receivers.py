@@ -5,7 +5,6 @@ A), bit by bit.
 """
 import os
 import re
-import shutil
 import signal
 import subprocess
 import sys
@@ -13,9 +12,7 @@ import time
 
 import pytest
 from conftest import EXAMPLES, PROGRAM, ROOT, comes
-from dvbemu import Report
 from dvbemu.fuzz import grammar, mutate, reduce
-from dvbemu.fuzz.found import Folder, Hunt, Options
 from dvbemu.fuzz.mutate import Draw, Item
 from dvbemu.fuzz.right import PROGRAMS, RIGHT, tables_of
 from dvbemu.psi.descriptors import NAMES, texts_of
@@ -24,6 +21,7 @@ from dvbemu.stream.packets import PACKET, counter_of, pcr_of, pid_of
 from dvbemu.stream.sections import sections_of
 
 RECORDING = str(EXAMPLES / "programs" / "scan.ts")
+SOURCE = str(ROOT / "python" / "src")
 # Of each fault the seed and the number of a stream that meets it, the kind of failure, and the cause where gdb isn't needed for
 # it.
 FAULTS = {
@@ -141,17 +139,17 @@ def test_changes(change):
 
 STREAMS = """
 import hashlib, sys
-sys.path.insert(0, sys.argv[1])
 from dvbemu.fuzz import mutate
-items = mutate.items_of(mutate.packets_in(sys.argv[2]))
+items = mutate.items_of(mutate.packets_in(sys.argv[1]))
 print([hashlib.sha256(mutate.stream_of(mutate.mutated(mutate.Draw(7, number), items, {17, 4096, 0})[0])).hexdigest() for number in range(40)])
 """
 
 
 def test_one_seed_one_stream():
     """The streams of a seed are the same wherever they are drawn, and each is another one."""
-    words = [sys.executable, "-B", "-c", STREAMS, str(ROOT / "python" / "src"), RECORDING]
-    first, second = (subprocess.run(words, capture_output=True, check=True, env={"PYTHONHASHSEED": seed}).stdout for seed in ("1", "2"))
+    words = [sys.executable, "-B", "-c", STREAMS, RECORDING]
+    more = [{"PYTHONPATH": SOURCE, "PYTHONHASHSEED": seed} for seed in ("1", "2")]
+    first, second = (subprocess.run(words, capture_output=True, check=True, env=env).stdout for env in more)
     assert first == second and len(set(first.split())) > 35
 
 
@@ -269,12 +267,11 @@ def test_no_fault(tmp_path, planted):
 # kept.
 ONE = """
 import sys
-sys.path.insert(0, sys.argv[1])
 from dvbemu.build import build_preload, built_server
 from dvbemu.fuzz.run import Limits, Plan, Runner
 from dvbemu.stream.packets import NULL_PACKET
 build_preload()
-runner = Runner(Plan(sys.argv[4:], 3000, Limits(float(sys.argv[2]), int(sys.argv[3])), server=built_server()), 1)
+runner = Runner(Plan(sys.argv[3:], 3000, Limits(float(sys.argv[1]), int(sys.argv[2])), server=built_server()), 1)
 ran = runner.one(NULL_PACKET)
 print(ran.kind(runner.plan), ran.ended.number, len(ran.output), ran.output[:40].decode(), ran.output[-40:].decode())
 """
@@ -291,8 +288,9 @@ def one(room, server):
     """How a shell's script ends before a stream of nothing, within these limits; and those of its processes that are left."""
 
     def run(script, seconds=20, memory=1 << 30):
-        words = [sys.executable, "-B", "-c", ONE, str(ROOT / "python" / "src"), str(seconds), str(memory), "/bin/sh", "-c", script]
-        ran = subprocess.run(words, cwd=room.folder, capture_output=True, text=True, check=False, env={**os.environ, "FUZZ_MARK": str(room.folder)})
+        words = [sys.executable, "-B", "-c", ONE, str(seconds), str(memory), "/bin/sh", "-c", script]
+        env = {**os.environ, "PYTHONPATH": SOURCE, "FUZZ_MARK": str(room.folder)}
+        ran = subprocess.run(words, cwd=room.folder, capture_output=True, text=True, check=False, env=env)
         assert ran.returncode == 0, ran.stderr
         return ran.stdout[:-1], marked(room.folder)
 

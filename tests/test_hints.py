@@ -44,18 +44,22 @@ SESSIONS = [
     ("a read behind a Start", "c0 open n0|c0 section n0 256 0 0|c0 start n0|feed 1|c0 read n0 9", SECTIONS, []),
     ("reads before the first packet", "c0 open n0|c0 section n0 256 0 0|c0 start n0|c0 read n0 9|c0 poll n0|c0 read n0 9",
      SECTIONS, [("no feed", 0, 0, [4, 6])]),
-    ("a read before the first packet and one behind it", "c0 open n0|c0 section n0 256 0 4|c0 read n0 9|feed 1|c0 read n0 9", SECTIONS, []),
+    ("a read before the first packet and one behind it", "c0 open n0|c0 section n0 256 0 4|c0 read n0 9|feed 1|c0 read n0 9",
+     SECTIONS, []),
     ("reads before the first packet of `run`", "tick 7|c0 open n0|c0 section n0 256 0 4|c0 read n0 9", SECTIONS, []),
     ("polls alone before the first packet", "c0 open n0|c0 section n0 256 0 4|c0 poll n0", SECTIONS, []),
     ("a wait before the first packet", "c0 open n0|c0 section n0 256 0 4|c0 readw n0 9", SECTIONS, []),
-    ("another table_id", "c0 open n0|c0 section n0 256 0 4 0=43/ff/00|feed 4|c0 read n0 9", SECTIONS, [("selects nothing", 0, 0, [2])]),
+    ("another table_id", "c0 open n0|c0 section n0 256 0 4 0=43/ff/00|feed 4|c0 read n0 9", SECTIONS,
+     [("selects nothing", 0, 0, [2])]),
     ("the table_id of the sections", "c0 open n0|c0 section n0 256 0 4 0=42/ff/00|feed 4|c0 read n0 9", SECTIONS, []),
     ("another table_id, and nobody looks", "c0 open n0|c0 section n0 256 0 4 0=43/ff/00", SECTIONS, []),
     ("another table_id, told by a close", "c0 open n0|c0 section n0 256 0 4 0=43/ff/00|feed 4|c0 close n0", SECTIONS,
      [("selects nothing", 0, 0, [2])]),
-    ("a mask on the byte before", "c0 open n0|c0 section n0 256 0 4 1=02/ff/00|feed 4|c0 read n0 9", PMTS, [("selects nothing", 0, 0, [2])]),
+    ("a mask on the byte before", "c0 open n0|c0 section n0 256 0 4 1=02/ff/00|feed 4|c0 read n0 9", PMTS,
+     [("selects nothing", 0, 0, [2])]),
     ("a mask on the byte", "c0 open n0|c0 section n0 256 0 4 2=02/ff/00|feed 4|c0 read n0 99", PMTS, []),
-    ("a byte two places off", "c0 open n0|c0 section n0 256 0 4 5=c1/ff/00|feed 4|c0 read n0 9", PMTS, [("selects nothing", 0, 0, [2])]),
+    ("a byte two places off", "c0 open n0|c0 section n0 256 0 4 5=c1/ff/00|feed 4|c0 read n0 9", PMTS,
+     [("selects nothing", 0, 0, [2])]),
     ("the byte at its place", "c0 open n0|c0 section n0 256 0 4 3=c1/ff/00|feed 4|c0 read n0 99", PMTS, []),
     ("a wrong CRC", "c0 open n0|c0 section n0 256 0 5|feed 4|c0 read n0 9", WRONG, [("selects nothing", 0, 0, [2])]),
     ("a wrong CRC without flag 1", "c0 open n0|c0 section n0 256 0 4|feed 4|c0 read n0 99", WRONG, []),
@@ -66,7 +70,8 @@ SESSIONS = [
      [("packets as sections", 0, 0, [4])]),
     ("a PES filter on PES packets", "c0 open n0|c0 pes n0 256 frontend tap 20 4|feed 4|c0 read n0 4096", PES, []),
     ("nobody writes", f"c0 open dvr|c0 open n0|c0 pes n0 256 {PLAYED} 4|c0 read n0 9", b"", [("nothing written", 0, 0, [3])]),
-    ("somebody writes", f"c0 open dvr|c0 open n0|c0 pes n0 256 {PLAYED} 4|c0 write dvr {PLAIN[:188].hex()}|c0 read n0 188", b"", []),
+    ("somebody writes", f"c0 open dvr|c0 open n0|c0 pes n0 256 {PLAYED} 4|c0 write dvr {PLAIN[:188].hex()}|c0 read n0 188", b"",
+     []),
     ("somebody writes another PID",
      f"c0 open dvr|c0 open n0|c0 pes n0 257 {PLAYED} 4|c0 write dvr {PLAIN[:188].hex()}|c0 read n0 188", b"",
      [("nothing written", 0, 0, [3])]),
@@ -90,7 +95,8 @@ SESSIONS = [
     ("the first size", f"c0 open n0|c0 pes n0 256 {WHOLE} 4|feed 44|c0 read n0 9", PLAIN, [("first size", 0, 0, [4])]),
     ("the first size of the dvr node", f"c0 open dvr|c0 open n0|c0 pes n0 256 {TAP} 4|feed 10240|c0 read dvr 9",
      PLAIN[: 48 * 188] * 214, [("first size", 0, 32, [5])]),
-    ("another size", f"c0 open n0|c0 size n0 8000|c0 pes n0 256 {WHOLE} 4|feed 44|c0 read n0 9", PLAIN, [("overflow", 0, 0, [5])]),
+    ("another size", f"c0 open n0|c0 size n0 8000|c0 pes n0 256 {WHOLE} 4|feed 44|c0 read n0 9", PLAIN,
+     [("overflow", 0, 0, [5])]),
     ("another size that is enough", f"c0 open n0|c0 size n0 8273|c0 pes n0 256 {WHOLE} 4|feed 44|c0 read n0 9", PLAIN, []),
     ("up to the first size", f"c0 open n0|c0 pes n0 256 {WHOLE} 4|feed 43|c0 read n0 9", PLAIN, []),
     ("a break of sections", "c0 open n0|c0 section n0 256 0 4|feed 9", BREAK, [("break of sections", 0, 0, [2])]),
@@ -117,7 +123,8 @@ SESSIONS = [
      [("read of ts_tap", 0, 0, [5])]),
     ("a part", "c0 open n0|c0 section n0 256 0 4|feed 1|c0 read n0 3|c0 read n0 9", SECTIONS, [("part", 0, 0, [4])]),
     ("all but a byte", "c0 open n0|c0 section n0 256 0 4|feed 1|c0 read n0 7", SECTIONS, [("part", 0, 0, [4])]),
-    ("parts of one byte", "c0 open n0|c0 section n0 256 0 4|feed 1|c0 read n0 1|c0 read n0 1", SECTIONS, [("part", 0, 0, [4, 5])]),
+    ("parts of one byte", "c0 open n0|c0 section n0 256 0 4|feed 1|c0 read n0 1|c0 read n0 1", SECTIONS,
+     [("part", 0, 0, [4, 5])]),
     ("a whole section", "c0 open n0|c0 section n0 256 0 4|feed 1|c0 read n0 8", SECTIONS, []),
     ("a slot without a node", "c0 open h0|c0 read h1 9", SECTIONS, [("unbound", 0, None, [2])]),
     ("set behind End", "feed 5|c0 open n0|c0 section n0 256 0 4", SECTIONS, [("late", 0, 0, [3])]),
@@ -145,14 +152,16 @@ SESSIONS = [
      "feed 12|c0 open n0|c0 section n0 256 0 4 0=43/ff/00|feed 12|c0 poll n0|feed 12|c0 poll n0", MIXED,
      [("selects nothing", 0, 0, [3])]),
     ("reads of the dvr node without a tap", "c0 open dvr|feed 2|c0 read dvr 9|c0 read dvr 9", PLAIN, [("no tap", 0, 32, [3, 4])]),
-    ("a read of the dvr node before the tap", f"c0 open dvr|feed 1|c0 read dvr 9|c0 open n0|c0 pes n0 256 {TAP} 4|feed 1|c0 read dvr 9", PLAIN, []),
+    ("a read of the dvr node before the tap",
+     f"c0 open dvr|feed 1|c0 read dvr 9|c0 open n0|c0 pes n0 256 {TAP} 4|feed 1|c0 read dvr 9", PLAIN, []),
     ("a tap that is attached before the dvr node is open", f"c0 open n0|c0 pes n0 300 {TAP} 4|c0 open dvr|feed 2|c0 read dvr 9",
      PLAIN + packet(300, 0), []),
     ("an open dvr node that nobody reads", "c0 open dvr|feed 2|c0 poll dvr", PLAIN, []),
     ("a tap and dvr, which is read", f"c0 open n0|c0 pes n0 256 {TAP} 4|feed 2|c0 open dvr|feed 1|c0 read dvr 188", PLAIN, []),
     ("a call before the open", "c0 section n0 256 0 4|c0 open n0|c0 start n0", SECTIONS, [("not open", 0, 0, [1])]),
     ("a section filter of PID 9000", "c0 open n0|c0 section n0 9000 0 4", SECTIONS, [("large pid", 0, 0, [2])]),
-    ("a section filter of PID 8191", "c0 open n0|c0 section n0 8191 0 4|feed 1|c0 read n0 9", packet(8191, 0, bytes.fromhex("004200050102030405"), True), []),
+    ("a section filter of PID 8191", "c0 open n0|c0 section n0 8191 0 4|feed 1|c0 read n0 9",
+     packet(8191, 0, bytes.fromhex("004200050102030405"), True), []),
     ("a section filter of PID 8192", "c0 open n0|c0 section n0 8192 0 4", SECTIONS, [("large pid", 0, 0, [2])]),
     ("a PES filter of PID 8193", f"c0 open n0|c0 pes n0 8193 {WHOLE} 4", PLAIN, [("large pid", 0, 0, [2])]),
     ("a PES filter of PID 8192", f"c0 open n0|c0 pes n0 8192 {WHOLE} 4", PLAIN, []),
@@ -186,80 +195,100 @@ READ_AS = [
 
 # What a hint says: a script, a stream, and words that must stand in it and mustn't.
 SAID = [
-    ("c0 open n0|c0 pes n0 100 frontend tap 20 4", PLAIN, ["100 read as hexadecimal is 256 (0x100), of which it has 50 packets"], ["wrote"]),
-    ("c0 open n0|c0 pes n0 101 frontend tap 20 4", PLAIN, ["PID 101 (0x65), of which the stream has no packet"], ["hexadecimal is"]),
+    ("c0 open n0|c0 pes n0 100 frontend tap 20 4", PLAIN, ["100 read as hexadecimal is 256 (0x100), of which it has 50 packets"],
+     ["wrote"]),
+    ("c0 open n0|c0 pes n0 101 frontend tap 20 4", PLAIN, ["PID 101 (0x65), of which the stream has no packet"],
+     ["hexadecimal is"]),
     (
         f"c0 open dvr|c0 open n0|c0 section n0 300 0 4|c0 write dvr {packet(300, 0).hex()}|c0 read n0 9",
         PLAIN,
-        ["PID 300 (0x12C), of which the stream has no packet; 1 packet that clients wrote to the dvr device passed, which only a PES filter"],
+        ["PID 300 (0x12C), of which the stream has no packet; 1 packet that clients wrote to the dvr device passed, which only a "
+         "PES filter"],
         [],
     ),
     (
         "c0 open n0|c0 section n0 256 0 5 0=43/ff/00 3=06/3e/00|feed 4|c0 read n0 9",
         SECTIONS,
-        ["4 packets of PID 256 (0x100) passed", "its filter bytes 0 and 3 or flag 1,", "`c0 section n0 256 0 4`", "dvbemu explain REPORT SESSION"],
+        ["4 packets of PID 256 (0x100) passed", "its filter bytes 0 and 3 or flag 1,", "`c0 section n0 256 0 4`",
+         "dvbemu explain REPORT SESSION"],
         ["at least"],
     ),
     ("feed 1|c0 open n0|c0 section n0 256 0 0 0=43/ff/00|c0 start n0|feed 3|c0 read n0 9",
-     SECTIONS + packet(300, 0) + packet(300, 1), ["at least 1 packet of PID 256 (0x100) passed", "the cause may be its filter byte 0; try"],
+     SECTIONS + packet(300, 0) + packet(300, 1),
+     ["at least 1 packet of PID 256 (0x100) passed", "the cause may be its filter byte 0; try"],
      ["flag 1"]),
     (
         "feed 12|c0 open n0|c0 section n0 256 0 4 0=43/ff/00|feed 24|c0 poll n0",
         MIXED,
-        ["about 12 packets of PID 256 (0x100), by their share of the stream, passed while this filter ran, and it selected no section"],
+        ["about 12 packets of PID 256 (0x100), by their share of the stream, passed while this filter ran, and it selected no "
+         "section"],
         [],
     ),
     ("c0 open n0|c0 section n0 9000 0 4", PLAIN, ["PID 9000 is above 8191 (13 bits); SetFilter sets no filter"], []),
     ("c0 open n0|c0 section n0 256 0 4|feed 9|c0 read n0 9", PLAIN, ["though it takes every section"], ["try it"]),
-    ("c0 open n0|c0 section n0 256 0 4|feed 4|c0 read n0 4096", PES, ["begins with 00 00 01 e0,", "PID 256 (0x100) carries a stream"], []),
+    ("c0 open n0|c0 section n0 256 0 4|feed 4|c0 read n0 4096", PES,
+     ["begins with 00 00 01 e0,", "PID 256 (0x100) carries a stream"], []),
     ("c0 open n0|c0 section n0 300 0 5|c0 open n1|c0 section n1 256 0 4 0=42/ff/00|c0 drain n0 99|c0 drain n1 99",
      packet(300, 0, b"\0" + PROGRAM, True) + PES,
      ["by the PMT that was read the PID carries MPEG-2 video (stream_type 0x02), which `pes` takes"], ["try it"]),
     (f"c0 open n0|c0 pes n0 256 {TAP} 4|c0 readw n0 9|c0 drain n0 9", PLAIN + packet(300, 0) * 9,
      [", and 50 packets of PID 256 (0x100) passed it then"], ["59"]),
     (f"c0 open n0|c0 pes n0 256 {TAP} 4|feed 20|c0 open dvr", PLAIN + packet(300, 0) * 9, ["up to 20 packets of PID 256"], []),
-    ("c0 open n0|c0 section n0 256 0 4|c0 read n0 9", SECTIONS, ["all reads after line 2 came before a packet passed, with 4 packets"], []),
+    ("c0 open n0|c0 section n0 256 0 4|c0 read n0 9", SECTIONS,
+     ["all reads after line 2 came before a packet passed, with 4 packets"], []),
 ]
 # What explain says of what was lost: a script, a stream, and the words.
 LOST = [
-    (f"c0 open n0|c0 size n0 377|c0 pes n0 256 {WHOLE} 4|feed 3|c0 read n0 188", PLAIN, "564 bytes, 0..564 of the capture, 3 packets, "
+    (f"c0 open n0|c0 size n0 377|c0 pes n0 256 {WHOLE} 4|feed 3|c0 read n0 188", PLAIN,
+     "564 bytes, 0..564 of the capture, 3 packets, "
      "the stream's packets 0 to 2, everything unread"),
-    (f"c0 open n0|c0 size n0 377|c0 pes n0 256 {WHOLE} 4|feed 1|c0 read n0 999|feed 4|c0 read n0 188", PLAIN, "752 bytes, 188..940 of the "
+    (f"c0 open n0|c0 size n0 377|c0 pes n0 256 {WHOLE} 4|feed 1|c0 read n0 999|feed 4|c0 read n0 188", PLAIN,
+     "752 bytes, 188..940 of the "
      "capture, 4 packets, the stream's packets 1 to 4, everything"),
-    (f"c0 open n0|c0 size n0 377|c0 pes n0 256 {WHOLE} 260|feed 3|c0 readw n0 376|c0 read n0 188", PLAIN, "188 bytes, 376..564 of the "
+    (f"c0 open n0|c0 size n0 377|c0 pes n0 256 {WHOLE} 260|feed 3|c0 readw n0 376|c0 read n0 188", PLAIN,
+     "188 bytes, 376..564 of the "
      "capture, 1 packet, the stream's packet 2, all items from 2 on"),
-    ("c0 open n0|c0 size n0 17|c0 section n0 256 0 4|feed 1|c0 read n0 8|feed 3|c0 read n0 8", SECTIONS, "24 bytes, 8..32 of the capture, "
+    ("c0 open n0|c0 size n0 17|c0 section n0 256 0 4|feed 1|c0 read n0 8|feed 3|c0 read n0 8", SECTIONS,
+     "24 bytes, 8..32 of the capture, "
      "at least 3 sections, brought by packets among the stream's packets 0 to 3, everything"),
-    ("c0 open n0|c0 size n0 377|c0 pes n0 256 frontend tap 20 4|feed 3|c0 read n0 188", PLAIN, "552 bytes, 0..552 of the capture, brought by "
+    ("c0 open n0|c0 size n0 377|c0 pes n0 256 frontend tap 20 4|feed 3|c0 read n0 188", PLAIN,
+     "552 bytes, 0..552 of the capture, brought by "
      "packets among the stream's packets 0 to 2, everything"),
-    (f"c0 open dvr|c0 size dvr 377|c0 open n0|c0 pes n0 256 {TAP} 4|feed 3|c0 read dvr 188", PLAIN, "564 bytes, 0..564 of the capture, 3 "
+    (f"c0 open dvr|c0 size dvr 377|c0 open n0|c0 pes n0 256 {TAP} 4|feed 3|c0 read dvr 188", PLAIN,
+     "564 bytes, 0..564 of the capture, 3 "
      "packets, the stream's packets 0 to 2, everything"),
-    (f"c0 open n0|c0 size n0 377|c0 pes n0 256 {WHOLE} 4|feed 9|c0 read n0 188", packet(300, 0) + PLAIN, "8 packets, among the stream's "
+    (f"c0 open n0|c0 size n0 377|c0 pes n0 256 {WHOLE} 4|feed 9|c0 read n0 188", packet(300, 0) + PLAIN,
+     "8 packets, among the stream's "
      "packets 0 to 8, everything"),
-    (f"c0 open dvr|c0 open n0|c0 size n0 377|c0 pes n0 256 {PLAYED} 4|feed 9|c0 write dvr {PLAIN[:564].hex()}|c0 read n0 188", PLAIN,
-     "564 bytes, 0..564 of the capture, 3 packets, everything unread"),
-    ("c0 open n0|c0 size n0 2|c0 pes n0 256 frontend tap 20 260|feed 2|c0 read n0 9|c0 read n0 9", SINGLE, "line 6, n0: 1 byte, 1..2 of the "
+    (f"c0 open dvr|c0 open n0|c0 size n0 377|c0 pes n0 256 {PLAYED} 4|feed 9|c0 write dvr {PLAIN[:564].hex()}|c0 read n0 188",
+     PLAIN, "564 bytes, 0..564 of the capture, 3 packets, everything unread"),
+    ("c0 open n0|c0 size n0 2|c0 pes n0 256 frontend tap 20 260|feed 2|c0 read n0 9|c0 read n0 9", SINGLE,
+     "line 6, n0: 1 byte, 1..2 of the "
      "capture, brought by packets among the stream's packets 0 to 1, all items from 1 on"),
 ]  # fmt: skip
-# Sessions with Overflows, to which the hint tells a size that would have held what came, and the batch: it has to, and one of a byte less
-# mustn't.
+# Sessions with Overflows, to which the hint tells a size that would have held what came, and the batch: it has to, and one of a
+# byte less mustn't.
 BLOCKS = b"".join(packet(256 if kept else 300, 0) for kept in (1, 1, 1, 0, 1, 1, 1, 1, 0, 0, 1, 1))
 HELD = [
     (f"c0 open n0|c0 size n0 377|c0 pes n0 256 {WHOLE} 4|feed 1|c0 read n0 100|feed 3|c0 read n0 188", PLAIN, 1),
     (f"c0 open n0|c0 size n0 8192|c0 pes n0 256 {WHOLE} 4|feed 44|c0 read n0 9", PLAIN, 1),
     ("c0 open n0|c0 size n0 17|c0 section n0 256 0 4|feed 1|c0 read n0 8|feed 3|c0 read n0 8", SECTIONS, 1),
     ("c0 open n0|c0 size n0 185|c0 pes n0 256 frontend tap 20 4|feed 2|c0 read n0 188", PLAIN, 1),
-    (f"c0 open n0|c0 size n0 377|c0 pes n0 256 {WHOLE} 4|feed 3|c0 read n0 188|feed 1|c0 read n0 188|feed 3|c0 read n0 188", PLAIN, 1),
+    (f"c0 open n0|c0 size n0 377|c0 pes n0 256 {WHOLE} 4|feed 3|c0 read n0 188|feed 1|c0 read n0 188|feed 3|c0 read n0 188",
+     PLAIN, 1),
     (f"c0 open n0|c0 size n0 377|c0 pes n0 256 {WHOLE} 4|c0 drain n0 9999", BLOCKS, 4),
 ]
 # What the hint says of several Overflows, by the words of the script, the batch, and the words that must stand in it and mustn't.
 PACED = [
     (HELD[4][0], 1, "one of 941 would have held all that came, at 2 Overflows; `dvbemu explain", "passes at once"),
-    (HELD[5][0], 4, "one of 753 would have held all that came, at 2 Overflows; a batch of up to 4 packets passes at once, and no client reads "
+    (HELD[5][0], 4,
+     "one of 753 would have held all that came, at 2 Overflows; a batch of up to 4 packets passes at once, and no client reads "
      "in between: set that size, or try `--batch 1`", "none is told"),
-    (HELD[5][0].replace("c0 drain", "feed 4|c0 drain"), 4, "one of 753 would have held all that came, at 2 Overflows; `dvbemu explain", "at once"),
+    (HELD[5][0].replace("c0 drain", "feed 4|c0 drain"), 4,
+     "one of 753 would have held all that came, at 2 Overflows; `dvbemu explain", "at once"),
 ]  # fmt: skip
-# A report of `serve` of a recording that has begun again twice: breaks in place of @, of the third PID; and whether these are all the loop's.
+# A report of `serve` of a recording that has begun again twice: breaks in place of @, of the third PID; and whether these are all
+# the loop's.
 LOOPED = """dvbemu 1
 packets=9 skipped=0 rest=0
 pid 16 packets=3 breaks=2 duplicates=0 errors=0
@@ -370,20 +399,26 @@ def test_pace(report_of, script, batch, there, absent):
 
 # Sections of 8 bytes and of 16, all of PID 256.
 LONG_AND_SHORT = b"".join(section(counter) if counter % 3 else packet(256, counter, b"\0" + PMT, True) for counter in range(60))
-# Scripts where a size was named that is too small, and their batch: the Overflows of a node are of several kinds, or reads wait behind one.
+# Scripts where a size was named that is too small, and their batch: the Overflows of a node are of several kinds, or reads wait
+# behind one.
 ONCE_TOO_SMALL = [
-    ("c0 open n0|c0 size n0 13|c0 section n0 256 0 4|feed 4|c0 poll n0|feed 1|feed 3|c0 read n0 23|c0 drain n0 46|c0 read n0 45|feed 1", 4),
-    ("c0 open n0|c0 size n0 543|c0 pes n0 256 frontend tap 20 4|c0 poll n0|c0 readw n0 564|feed 3|feed 2|c0 readw n0 10|c0 readw n0 812|feed 5|"
-     "c0 poll n0|feed 3|feed 3|c0 readw n0 345", 1),
-    (f"c0 open n0|c0 size n0 671|c0 pes n0 256 {WHOLE} 4|c0 read n0 29|feed 4|c0 read n0 16|c0 poll n0|c0 poll n0|c0 readw n0 679|feed 4|"
+    ("c0 open n0|c0 size n0 13|c0 section n0 256 0 4|feed 4|c0 poll n0|feed 1|feed 3|c0 read n0 23|c0 drain n0 46|c0 read n0 45|"
+     "feed 1", 4),
+    ("c0 open n0|c0 size n0 543|c0 pes n0 256 frontend tap 20 4|c0 poll n0|c0 readw n0 564|feed 3|feed 2|c0 readw n0 10|c0 readw "
+     "n0 812|feed 5|c0 poll n0|feed 3|feed 3|c0 readw n0 345", 1),
+    (f"c0 open n0|c0 size n0 671|c0 pes n0 256 {WHOLE} 4|c0 read n0 29|feed 4|c0 read n0 16|c0 poll n0|c0 poll n0|c0 readw n0 "
+     f"679|feed 4|"
      "c0 read n0 669|c0 poll n0|feed 3|feed 1", 1),
-    (f"c0 open n0|c0 size n0 516|c0 pes n0 256 {WHOLE} 4|c0 read n0 341|feed 5|c0 poll n0|feed 4|c0 read n0 634|c0 readw n0 461|feed 1|feed 3|"
+    (f"c0 open n0|c0 size n0 516|c0 pes n0 256 {WHOLE} 4|c0 read n0 341|feed 5|c0 poll n0|feed 4|c0 read n0 634|c0 readw n0 461|"
+     f"feed 1|feed 3|"
      "c0 readw n0 63|feed 3|c0 poll n0|c0 readw n0 657", 1),
 ]  # fmt: skip
-# Reads that wait behind an Overflow, and then a capture that begins at other packets than without it, or another node whose reads wait.
+# Reads that wait behind an Overflow, and then a capture that begins at other packets than without it, or another node whose reads
+# wait.
 BEHIND = [
     f"c0 open n0|c0 size n0 579|c0 pes n0 256 {WHOLE} 4|feed 8|c0 read n0 749|c0 readw n0 264|c0 start n0|feed 9|c0 read n0 549",
-    f"c1 open n1|c1 size n1 377|c1 pes n1 256 {WHOLE} 4|c0 open n0|c0 size n0 579|c0 pes n0 256 {WHOLE} 4|feed 8|c0 read n0 749|c0 readw n0 264|"
+    f"c1 open n1|c1 size n1 377|c1 pes n1 256 {WHOLE} 4|c0 open n0|c0 size n0 579|c0 pes n0 256 {WHOLE} 4|feed 8|c0 read n0 749|"
+    f"c0 readw n0 264|"
     "c1 read n1 9|c1 readw n1 188",
 ]
 
@@ -397,7 +432,8 @@ def drawn(chosen, most):
         count = chosen.randrange(1, 50) if few else chosen.randrange(1, 900)
         words = chosen.choice(("read", most, "drain" if chosen.random() < 0.1 else most))
         again = chosen.choice((f"c0 {kind} 4", "c0 start n0")) if chosen.random() < 0.1 else "c0 poll n0"
-        calls.append(chosen.choice((f"feed {chosen.randrange(1, 6)}", f"feed {chosen.randrange(1, 6)}", f"c0 {words} n0 {count}", again)))
+        calls.append(chosen.choice((f"feed {chosen.randrange(1, 6)}", f"feed {chosen.randrange(1, 6)}", f"c0 {words} n0 {count}",
+                                    again)))
     return "|".join(calls), chosen.randrange(1, 5)
 
 

@@ -1,7 +1,7 @@
-"""`dvbemu test --jobs` over logs of GNU parallel that stand here, and over what it writes: of two jobs, and of a script over recordings by
-two logins, stopped in the middle, gone on with, and one done again that failed. The logins are of this machine, by a server of ssh that each
-of them starts for itself, at no port; where that isn't possible they are `:` twice. A job array of Slurm is tried by its command alone, as
-docs/EVERYWHERE.md shows it, a number at a time.
+"""`dvbemu test --jobs` over logs of GNU parallel that stand here, and over what it writes: of two jobs, and of a script over
+recordings by two logins, stopped in the middle, gone on with, and one done again that failed. The logins are of this machine, by
+a server of ssh that each of them starts for itself, at no port; where that isn't possible they are `:` twice. A job array of
+Slurm is tried by its command alone, as docs/EVERYWHERE.md shows it, a number at a time.
 """
 import os
 import re
@@ -37,13 +37,15 @@ Host one two
 """
 
 # Two hosts; job 2 has failed and was done again, job 3 was ended by SIGKILL; of job 4 the line is still written.
-LOG = f"{joblog.HEAD}\n2\tone\t1.5\t0.1\t0\t0\t1\t0\ttest b\n1\ttwo\t1.0\t0.2\t0\t7\t0\t0\ttest a\tand more\n3\tone\t1.9\t0.3\t0\t0\t0\t9\ttest c\n"
+LOG = (f"{joblog.HEAD}\n2\tone\t1.5\t0.1\t0\t0\t1\t0\ttest b\n"
+       "1\ttwo\t1.0\t0.2\t0\t7\t0\t0\ttest a\tand more\n3\tone\t1.9\t0.3\t0\t0\t0\t9\ttest c\n")
 AGAIN = "2\ttwo\t2.5\t0.1\t0\t0\t0\t0\ttest b\n4\ttwo\t2.6\t0.1"
 TOLD = "1..3\nok 1 - test a\tand more\n{}ok 2 - test b\n{}not ok 3 - test c\n# ended by the signal 9, on one\n# {} of 3 failed\n"
 # Texts that are no logs, and what is told of each.
 WRONG = {
     "": "line 1: expected the head", "Seq\tHost\n": "line 1: expected the head", joblog.HEAD: "line 1: expected the head",
-    f"{joblog.HEAD}\n1\ttwo\t1.0\t0.2\t0\t7\t0\ttest\n": "line 2: expected a job", f"{joblog.HEAD}\nx\ta\t1\t1\t0\t0\t0\t0\ttest\n": "line 2: expected a job",
+    f"{joblog.HEAD}\n1\ttwo\t1.0\t0.2\t0\t7\t0\ttest\n": "line 2: expected a job",
+    f"{joblog.HEAD}\nx\ta\t1\t1\t0\t0\t0\t0\ttest\n": "line 2: expected a job",
 }  # fmt: skip
 
 LOGS = [
@@ -79,7 +81,8 @@ def test_no_log(told_of, text, wanted):
 def test_log_of_parallel(cli, tmp_path):
     needs("parallel")
     path = str(tmp_path / "written")
-    subprocess.run(["parallel", "--will-cite", "--joblog", path, "{}", ":::", "true", "exit 3"], stdin=subprocess.DEVNULL, check=False)
+    subprocess.run(["parallel", "--will-cite", "--joblog", path, "{}", ":::", "true", "exit 3"], stdin=subprocess.DEVNULL,
+                   check=False)
     wanted = "1..2\nok 1 - true\nnot ok 2 - exit 3\n# ended with the status 3, on :\n# 1 of 2 failed\n"
     assert cli("test", "--jobs", path)[:2] == (1, wanted)
 
@@ -93,7 +96,8 @@ def logins_in(folder):
         for name in "host", "user":
             subprocess.run(["ssh-keygen", "-q", "-t", "ed25519", "-N", "", "-f", folder / name], check=True)
         words = ["ssh", "-F", str(folder / "logins")]
-        if not subprocess.run([*words, "one", "true"], stdin=subprocess.DEVNULL, stderr=subprocess.DEVNULL, check=False).returncode:
+        if not subprocess.run([*words, "one", "true"], stdin=subprocess.DEVNULL, stderr=subprocess.DEVNULL,
+                              check=False).returncode:
             return ["--ssh", " ".join(words), "--sshlogin", "8/one,8/two"], {"one", "two"}
     warnings.warn("ssh to this machine isn't possible; `:` is taken twice")
     return ["--sshlogin", "8/:,8/:"], {":"}
@@ -118,7 +122,8 @@ class Spread:
 
     def told(self, command):
         """The status and the lines that are told of the jobs, once the command has run."""
-        subprocess.run(f"{self.words} {command}", shell=True, cwd=self.folder, stdin=subprocess.DEVNULL, stdout=subprocess.DEVNULL,
+        subprocess.run(f"{self.words} {command}", shell=True, cwd=self.folder, stdin=subprocess.DEVNULL,
+                       stdout=subprocess.DEVNULL,
                        stderr=subprocess.DEVNULL, check=False)  # fmt: skip
         done = self.cli("test", "--jobs", str(self.folder / "jobs"))
         return done.status, done.out.split("\n")[:-1]

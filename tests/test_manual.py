@@ -1,5 +1,6 @@
-"""The pages of the manual and the completion of shells, which are made of the words' help (`dvbemu.manual`): each page has its sections, all
-options of its word, its statuses and its example, in 80 columns; and a shell finds words, options, and values that are known."""
+"""The pages of the manual and the completion of shells, which are made of the words' help (`dvbemu.manual`): each page has its
+sections, all options of its word, its statuses and its example, in 80 columns; and a shell finds words, options, and values that
+are known."""
 import os
 import re
 import subprocess
@@ -12,9 +13,12 @@ WORDS = [*cli.PROVED, *cli.TOOLS]
 SECTIONS = ["NAME", "SYNOPSIS", "DESCRIPTION", "OPTIONS", "INPUT", "OUTPUT", "EXIT STATUS", "EXAMPLES", "SEE ALSO"]
 # What is typed, the last word of it in part, and what a shell finds.
 TYPED = {
-    "expl": "explain", "st": "steps", "--v": "--version", "steps --ba": "--batch", "steps --packet ": "188 204", "run --batch 1 --packet 2": "204",
-    "explain --node d": "dvr", "explain --node n3": "n3 n30 n31", "explain --client ": "c0 c1 c2 c3 c4 c5 c6 c7", "serve --keep ": "all none",
-    "serve --ke": "--keep", "packet 0 0 s": "section", "build dvb": "dvbemu dvb_serve", "steps my": "", "json --b": "--back", "nothing --b": "",
+    "expl": "explain", "st": "steps", "--v": "--version", "steps --ba": "--batch", "steps --packet ": "188 204",
+    "run --batch 1 --packet 2": "204",
+    "explain --node d": "dvr", "explain --node n3": "n3 n30 n31", "explain --client ": "c0 c1 c2 c3 c4 c5 c6 c7",
+    "serve --keep ": "all none",
+    "serve --ke": "--keep", "packet 0 0 s": "section", "build dvb": "dvbemu dvb_serve", "steps my": "", "json --b": "--back",
+    "nothing --b": "",
 }  # fmt: skip
 ASK = ". \"$0\"; COMP_WORDS=(dvbemu \"$@\") COMP_CWORD=$#; _dvbemu; echo \"${COMPREPLY[*]}\""
 

@@ -1,5 +1,5 @@
-"""`dvbemu merge` over folders that are made of reports: of served.report, and of one of two programs that was worked out by hand. Each
-becomes the same report again, byte for byte; folders with a line too few, torn or wrong are told."""
+"""`dvbemu merge` over folders that are made of reports: of served.report, and of one of two programs that was worked out by hand.
+Each becomes the same report again, byte for byte; folders with a line too few, torn or wrong are told."""
 import io
 import os
 import re
@@ -11,26 +11,29 @@ from dvbemu import reports
 DONE = "done drop=0..0 tap=keep"
 PASS = "{} feed {} pass input=frontend first={} count={} at={} = passed\n"
 END = "{} feed {} end = passed\n"
-# Two programs: one finds the second node free, records by the dvr node, and finds none free in the end; the third seat has had none.
+# Two programs: one finds the second node free, records by the dvr node, and finds none free in the end; the third seat has had
+# none.
 HEAD = "dvbemu 1\npackets=65 skipped=0 rest=0\npid 256 packets=65 breaks=0 duplicates=0 errors=0\n"
 CLIENTS = (
     "client 0\nline 1 steps 0..1 done\nline 2 steps 1..2 done\n"
-    "client 1\nline 1 steps 0..2 done\nline 2 steps 2..3 done\nline 3 steps 3..5 done\nline 4 steps 5..6 done\nline 5 steps 6..8 done\n"
-    "client 2\n"
+    "client 1\nline 1 steps 0..2 done\nline 2 steps 2..3 done\nline 3 steps 3..5 done\nline 4 steps 5..6 done\nline 5 steps 6..8 "
+    "done\nclient 2\n"
 )
 NODE_0 = ("node 0\n0 c0 0 open = " + DONE + "\n1 c1 0 open = busy owner=c0\n" + PASS.format(2, 0, 0, 64, 100)
           + "3 c0 1 close = " + DONE + "\n" + PASS.format(4, 1, 64, 1, 145) + END.format(5, 2))  # fmt: skip
 NODE_1 = ("node 1\n0 c1 1 open = " + DONE + "\n" + PASS.format(1, 0, 0, 64, 100)
           + "2 c1 3 pes pid=256 input=frontend output=ts_tap type=20 flags=4 at=101 = done drop=0..0 tap=attach:256\n"
           + PASS.format(3, 1, 64, 1, 145) + "4 c1 6 close = done drop=0..0 tap=detach\n" + END.format(5, 2))  # fmt: skip
-NODE_DVR = ("node dvr\n" + PASS.format(0, 0, 0, 64, 100) + "1 c1 2 open = " + DONE + "\n2 c1 4 attach node=1 pids=256 = " + DONE + "\n"
+NODE_DVR = ("node dvr\n" + PASS.format(0, 0, 0, 64, 100) + "1 c1 2 open = " + DONE + "\n2 c1 4 attach node=1 pids=256 = " + DONE
+            + "\n"
             + PASS.format(3, 1, 64, 1, 145) + "4 c1 5 read 188 at=146 = data 4701\n5 c1 7 detach node=1 = " + DONE + "\n"
             + END.format(6, 2))  # fmt: skip
 TWO = HEAD + CLIENTS + NODE_0 + NODE_1 + NODE_DVR + "end\n"
 # A program that finds all demux nodes busy.
 FULL = ("dvbemu 1\npackets=0 skipped=0 rest=0\nclient 0\nline 1 steps 0..32 EMFILE\nline 2 steps 32..33 done\n"
         + "".join(f"node {node}\n0 c0 {node} open = busy owner=c1\n"
-                  + (f"1 c0 32 open = {DONE}\n" if node == 0 else "") + END.format(2 if node == 0 else 1, 0) for node in range(32))
+                  + (f"1 c0 32 open = {DONE}\n" if node == 0 else "") + END.format(2 if node == 0 else 1, 0)
+                  for node in range(32))
         + "fault read\n")  # fmt: skip
 
 

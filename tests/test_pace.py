@@ -1,7 +1,7 @@
-"""The pace of a stream: when packets are due, worked out by hand (ISO/IEC 13818-1, 2.4.2.2: between two PCRs the bytes come evenly; 27,000,000
-ticks are a second), for `dvbemu pace` and for a recording that is served alike; and what `pace` writes over the stream of examples/programs,
-compared with the PCRs that stand there. No packet may come before it is due; how late one may come is asked loosely, since the machine may be
-busy."""
+"""The pace of a stream: when packets are due, worked out by hand (ISO/IEC 13818-1, 2.4.2.2: between two PCRs the bytes come
+evenly; 27,000,000 ticks are a second), for `dvbemu pace` and for a recording that is served alike; and what `pace` writes over
+the stream of examples/programs, compared with the PCRs that stand there. No packet may come before it is due; how late one may
+come is asked loosely, since the machine may be busy."""
 import os
 import subprocess
 import time
@@ -40,8 +40,10 @@ DUE = [
     ("a leap by more than ten seconds, one back",
      [with_pcr(99 * SECOND), with_pcr(99 * SECOND + TENTH), with_pcr(0), with_pcr(SECOND)], None, [0, 0.1, 0.2, 1.2]),
     ("the first PID's clock", [with_pcr(0), with_pcr(5, 257), with_pcr(SECOND), with_pcr(6, 257)], None, [0, 0.5, 1, 1.5]),
-    ("the clock of a PID that is named", [with_pcr(0), with_pcr(5, 257), plain(), with_pcr(5 + SECOND, 257)], 257, [-0.5, 0, 0.5, 1]),
-    ("a clock that stands still", [with_pcr(0), with_pcr(TENTH), with_pcr(TENTH), plain(), with_pcr(2 * TENTH)], None, [0, 0.1, 0.2, 0.25, 0.3]),
+    ("the clock of a PID that is named", [with_pcr(0), with_pcr(5, 257), plain(), with_pcr(5 + SECOND, 257)], 257,
+     [-0.5, 0, 0.5, 1]),
+    ("a clock that stands still", [with_pcr(0), with_pcr(TENTH), with_pcr(TENTH), plain(), with_pcr(2 * TENTH)], None,
+     [0, 0.1, 0.2, 0.25, 0.3]),
     ("in front of the first step of a clock",
      [plain(), with_pcr(0), with_pcr(99 * SECOND), plain(), with_pcr(99 * SECOND + SECOND)], None, [-0.5, 0, 0.5, 1, 1.5]),
     ("bytes between packets take time", [with_pcr(0), bytes(188), plain(), bytes(188), with_pcr(SECOND)], None,
@@ -107,7 +109,8 @@ def test_due(stream, pid, wanted):
 
 
 def length_by(wanted):
-    """The seconds from the first packet of a row to the end of the last, which takes as long as the one before, or is one of two alone."""
+    """The seconds from the first packet of a row to the end of the last, which takes as long as the one before, or is one of two
+    alone."""
     return None if wanted is None else round(wanted[-1] - wanted[0] + wanted[-1] - wanted[-2], 9)
 
 

@@ -1,9 +1,10 @@
-"""What `make install`, `make tar` and `dpkg-buildpackage` make, over the programs that are built here. The package of Debian is unpacked, and
-README's first commands are run from it as another user, in an empty environment and folder, without the repository, with coreutils and python3
-alone in the PATH, and so is each word; it is installed below a folder by dpkg, used, and removed again; apt finds what it needs; the same
-tree as a tar, and below a prefix; the manual; completion; lintian; the programs' libraries; the module; what the packed pages link to and name
-in commands. A job of continuous integration, as docs/EVERYWHERE.md shows it, fetches and caches the package, with stand-ins for apt-get and
-pytest. A gate that has failed, has not ended or was one over another commit is refused.
+"""What `make install`, `make tar` and `dpkg-buildpackage` make, over the programs that are built here. The package of Debian is
+unpacked, and README's first commands are run from it as another user, in an empty environment and folder, without the repository,
+with coreutils and python3 alone in the PATH, and so is each word; it is installed below a folder by dpkg, used, and removed
+again; apt finds what it needs; the same tree as a tar, and below a prefix; the manual; completion; lintian; the programs'
+libraries; the module; what the packed pages link to and name in commands. A job of continuous integration, as docs/EVERYWHERE.md
+shows it, fetches and caches the package, with stand-ins for apt-get and pytest. A gate that has failed, has not ended or was one
+over another commit is refused.
 """
 import glob
 import hashlib
@@ -42,7 +43,8 @@ for word in explain picture page json; do dvbemu $word out/r > told; test -s tol
 dvbemu explain out/r @/share/doc/dvbemu/examples/programs/scan.ts > told || echo explain: $?
 """
 # The pages of the manual, and a word of each.
-PAGES = {"dvbemu.1": "explain", "dvbemu-serve.1": "--packets", "dvbemu-json.1": "--back", "dvbemu-script.5": "drain", "dvbemu-report.5": "overflow"}
+PAGES = {"dvbemu.1": "explain", "dvbemu-serve.1": "--packets", "dvbemu-json.1": "--back", "dvbemu-script.5": "drain",
+         "dvbemu-report.5": "overflow"}
 COMPLETE = """\
 . @/share/bash-completion/completions/dvbemu
 COMP_WORDS=(dvbemu expl) COMP_CWORD=1; _dvbemu; echo "${COMPREPLY[*]}"
@@ -80,7 +82,8 @@ NO_GATES = [
 
 
 def test_lines_of_a_gate():
-    told = ["rt ci: 124 passed, 0 failed (7 kept)", *(f"{name}: {number} passed, 0 failed" for number, name in enumerate(CHECKS, 3))]
+    told = ["rt ci: 124 passed, 0 failed (7 kept)",
+            *(f"{name}: {number} passed, 0 failed" for number, name in enumerate(CHECKS, 3))]
     assert CHECKS == ["tests/run"]
     assert proof.gate_lines(WHOLE, COMMIT) == told
 
@@ -117,13 +120,15 @@ def folder():
 
 @pytest.fixture(scope="module")
 def source(folder):
-    """The repository's files and the programs that are built here, in a folder of their own; the programs aren't built anew (`make -o all`)."""
+    """The repository's files and the programs that are built here, in a folder of their own; the programs aren't built anew
+    (`make -o all`)."""
     if not all((ROOT / name).exists() for name in OUT):
         pytest.skip("the programs aren't built")
     if not (ROOT / PRELOAD).exists():
         subprocess.run([ROOT / "dvbemu-serve", "--packets", "3000", "--keep", "none", STREAM, "--", "true"], check=True)
     made = Path(folder, "build", "source")
-    names = subprocess.run(["git", "-C", ROOT, "ls-files", "-z"], stdout=subprocess.PIPE, text=True, check=True).stdout.split("\0")
+    names = subprocess.run(["git", "-C", ROOT, "ls-files", "-z"], stdout=subprocess.PIPE, text=True,
+                           check=True).stdout.split("\0")
     for name in [*filter(None, names), *OUT, PRELOAD]:
         if (ROOT / name).exists():
             (made / name).parent.mkdir(parents=True, exist_ok=True)
@@ -269,7 +274,8 @@ def plain_path(folder):
     path = os.path.join(folder, "path")
     os.makedirs(path)
     listed = subprocess.run(["dpkg", "-L", "coreutils"], stdout=subprocess.PIPE, text=True, check=True).stdout.split()
-    for name in [*(one for one in listed if "/bin/" in one), "/bin/sh", "/bin/sed", "/bin/grep", *filter(None, [shutil.which(SCANNER)])]:
+    for name in [*(one for one in listed if "/bin/" in one), "/bin/sh", "/bin/sed", "/bin/grep",
+                 *filter(None, [shutil.which(SCANNER)])]:
         os.symlink(name, os.path.join(path, os.path.basename(name)))
     os.symlink("/usr/bin/python3", os.path.join(path, "python3"))
     return path
@@ -305,7 +311,8 @@ def as_another(hiding, plain_path, unpacked, folder):
 
 
 def first_commands():
-    """README's first commands, as they are where dvbemu is installed. In the place of a scanner that isn't there a reader opens a node."""
+    """README's first commands, as they are where dvbemu is installed. In the place of a scanner that isn't there a reader opens a
+    node."""
     block = re.search(rf"^```console {SCANNER}\n(.*?)^```$", (ROOT / "README.md").read_text(), re.M | re.S)[1]
     commands = "\n".join(line[2:] for line in block.split("\n") if line.startswith("$ "))
     commands = commands.replace("./dvbemu", "dvbemu").replace("examples/", "@/share/doc/dvbemu/examples/")
@@ -419,7 +426,8 @@ def test_prefix(source, tmp_path):
     make(source, "make", "install", words)
     ran = subprocess.run([place / "bin" / "dvbemu", "--version"], capture_output=True, text=True, check=False)
     assert ran.stdout.startswith(f"dvbemu {VERSION} (commit ") and TOOLCHAIN in ran.stdout, ran
-    subprocess.run([sys.executable, "-c", "import dvbemu.explain.told"], env={"PYTHONPATH": place / LIBRARY / "python" / "src"}, check=True)
+    subprocess.run([sys.executable, "-c", "import dvbemu.explain.told"], env={"PYTHONPATH": place / LIBRARY / "python" / "src"},
+                   check=True)
     make(source, "make", "uninstall", words)
     assert files_in(place) == ["bin/other"]
 

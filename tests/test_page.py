@@ -48,7 +48,6 @@ MISSING = """(() => { const titles = (id) => [...document.querySelectorAll(id + 
   const there = new Set(titles('#strips')), all = titles('#source'); return all.length ? all.filter((one) => !there.has(one)) : ['none']; })()"""
 
 
-
 def report():
     """The report of the script above, over the recording of an example."""
     stream = second.read_script((EXAMPLES / "programs" / "scan.session").read_bytes())[1]
@@ -141,7 +140,6 @@ while more := os.read(3, 65536):
         b"Browser.close" not in one or sys.exit()
 ' "$@"
 """
-
 
 
 def test_folder_of_a_browser(tmp_path):

@@ -23,7 +23,8 @@ from typing import NamedTuple
 import pytest
 from conftest import PROGRAM, ROOT, SERVER
 
-PAGES = ("README.md", *(f"docs/{name}.md" for name in ("DEMUX", "TROUBLE", "RECIPES", "EVERYWHERE", "JSON")), "examples/README.md")
+PAGES = ("README.md", *(f"docs/{name}.md" for name in ("DEMUX", "TROUBLE", "RECIPES", "EVERYWHERE", "JSON")),
+         "examples/README.md")
 FILES = ".script", ".py", ".sh", ".conf"
 BLOCK = re.compile(r"^```([^\n]*)\n(.*?)^```$", re.M | re.S)
 # What a block without a name may not begin with, but on this page.

@@ -1,4 +1,4 @@
-"""preload/: its Makefile builds as `dvbemu serve` does, each call is taken over by all of its names, the code is formatted."""
+"""preload/: its Makefile builds as `dvbemu serve` does, each call is taken over by all of its names."""
 import re
 import shutil
 import subprocess
@@ -28,12 +28,3 @@ def test_make(tmp_path):
     symbols = set(re.findall(r" [TW] (\S+)", subprocess.run(words, stdout=subprocess.PIPE, text=True, check=True).stdout))
     wanted = {f"{name}{end}" for name in f"{TWINS} {OLD_TWINS}".split() for end in ("", "64")}
     assert wanted | {f"__{name}_chk" for name in CHECKED.split()} | set(OTHERS.split()) <= symbols
-
-
-def test_format():
-    if not shutil.which("clang-format"):
-        pytest.skip("no clang-format")
-    files = [*FOLDER.glob("*.[ch]"), *FOLDER.glob("cases/*.[ch]")]
-    assert len(files) > 20
-    ran = subprocess.run(["clang-format", "--dry-run", "--Werror", *files], capture_output=True, text=True, check=False)
-    assert (ran.returncode, ran.stderr) == (0, "")

@@ -1,5 +1,5 @@
-"""How the proved program is started: with how much stack, and over small files, which the shell script hands over itself; and how much
-memory `check` takes."""
+"""How the proved program is started: with how much stack, and over small files, which the shell script hands over itself; and how
+much memory `check` takes."""
 import re
 import subprocess
 import sys
@@ -47,14 +47,16 @@ def test_a_text_as_a_stream_is_told(cli, tmp_path):
     assert (done.status, done.err) == (0, f"dvbemu: {text}: this is text, not a transport stream\n")
 
 
-# Ends with the status of a program, and prints the most memory that it held, in KiB. What started it counts too, so it is started by a small one.
+# Ends with the status of a program, and prints the most memory that it held, in KiB. What started it counts too, so it is started
+# by a small one.
 STARTER = """
 import os, sys
 _, status, used = os.wait4(os.posix_spawn(sys.argv[1], sys.argv[1:], os.environ), 0)
 print(used.ru_maxrss)
 sys.exit(status != 0)
 """
-# Sessions with the most to keep for their bytes and those of their reports: many short calls, lines without any, and short reads of a stream.
+# Sessions with the most to keep for their bytes and those of their reports: many short calls, lines without any, and short reads
+# of a stream.
 READS = b"c0 open n0\nc0 size n0 20000\nc0 pes n0 256 frontend tsdemux_tap 20 4\nc0 drain n0 %d\nstream\n"
 HEAVY = {
     "calls": b"c0 stop n0\n" * 95_000 + b"stream\n", "lines": b"tick 0\n" * 149_000 + b"stream\n",

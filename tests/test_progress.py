@@ -1,6 +1,6 @@
-"""The line that tells how far long work is: on a terminal it comes behind the first second, with the bytes that are read, and goes before
-anything else is told; where standard error is no terminal, or the work is short, nothing comes. The second half of the input comes when the
-line is there, so that no case depends on how fast the machine is."""
+"""The line that tells how far long work is: on a terminal it comes behind the first second, with the bytes that are read, and
+goes before anything else is told; where standard error is no terminal, or the work is short, nothing comes. The second half of
+the input comes when the line is there, so that no case depends on how fast the machine is."""
 import concurrent.futures
 import os
 import pty
@@ -55,8 +55,8 @@ CASES = [
 
 
 def told_by(case, on_terminal=True, all_there=False):
-    """What a word tells on standard error, its output and its status, where the second half of its input comes when a line is there. Both its
-    ends may be one terminal."""
+    """What a word tells on standard error, its output and its status, where the second half of its input comes when a line is
+    there. Both its ends may be one terminal."""
     ours, theirs = pty.openpty() if on_terminal else os.pipe()
     process = subprocess.Popen(case.words, stdin=subprocess.PIPE, stdout=theirs if all_there else subprocess.PIPE, stderr=theirs)
     os.close(theirs)
@@ -94,7 +94,8 @@ def test_merge(room, on_terminal, says):
     room.write({"0.calls": CALLS.encode(), "batches": b"", "head": EMPTY})
     ours, theirs = pty.openpty() if on_terminal else os.pipe()
     words, place = [sys.executable, "-c", MERGE, str(room.folder)], {"PYTHONPATH": str(ROOT / "python" / "src")}
-    with subprocess.Popen(words, stdin=subprocess.DEVNULL, stdout=subprocess.PIPE, stderr=theirs, env={**os.environ, **place}) as process:
+    with subprocess.Popen(words, stdin=subprocess.DEVNULL, stdout=subprocess.PIPE, stderr=theirs,
+                          env={**os.environ, **place}) as process:
         os.close(theirs)
         out, said = process.communicate()[0], all_of(ours)
     assert re.fullmatch(says, said, re.S) and process.returncode == 0

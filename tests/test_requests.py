@@ -1,5 +1,5 @@
-"""The tables of requests against the header of Linux: numbers, lengths and places of fields in crates/dmx_abi and in dvbemu.abi, and the
-structures in the tests of crates/tests_low, are what requests.c prints, compiled over linux/dvb/dmx.h.
+"""The tables of requests against the header of Linux: numbers, lengths and places of fields in crates/dmx_abi and in dvbemu.abi,
+and the structures in the tests of crates/tests_low, are what requests.c prints, compiled over linux/dvb/dmx.h.
 
 DMX_SET_BUFFER_SIZE has no structure, so its four bytes are in no comparison.
 """
@@ -62,7 +62,8 @@ def test_line_of_the_header(header, place):
     assert header[place] in LINES
 
 
-@pytest.mark.parametrize("name", ["START", "STOP", "SET_FILTER", "SET_PES_FILTER", "SET_BUFFER_SIZE", "GET_STC", "ADD_PID", "REMOVE_PID"])
+@pytest.mark.parametrize("name",
+                         ["START", "STOP", "SET_FILTER", "SET_PES_FILTER", "SET_BUFFER_SIZE", "GET_STC", "ADD_PID", "REMOVE_PID"])
 def test_request_of_the_package(header, name):
     request = getattr(abi, name)
     argument = bytes(range(request.layout.size))

@@ -10,6 +10,7 @@ import subprocess
 
 import pytest
 from conftest import EMPTY, PROGRAM, comes
+from dvbemu import Report
 from dvbemu.build import built_server
 from dvbemu.stream.packets import NULL_PACKET
 from serving import BAD, RATE, SERVE, SLOW, at_once, packets_of, passes, ran
@@ -27,6 +28,7 @@ AHEAD, BEHIND = 6000, 10
 MANY, BLOCKS = 20_000, 8
 RINGS = """dd if=/dev/dvb/adapter0/demux0 iflag=nonblock count=1 2> read; test -s "$DVBEMU_DIR/bell.0" && echo early
 for i in $(seq 100); do test -s "$DVBEMU_DIR/bell.0" && exec echo rung; sleep 0.1; done"""
+OPENS = "exec 3< /dev/dvb/adapter0/demux0; echo opened"
 
 
 def test_one_process(served):
@@ -76,7 +78,8 @@ def test_left(served):
 @pytest.mark.parametrize("number, tell", [(signal.SIGTERM, os.kill), (signal.SIGINT, os.killpg)])
 def test_told_to_end(served, number, tell):
     """Where dvbemu-serve is told to end, or all that belongs to a terminal, its command is, and the report comes."""
-    words = [SERVE, "--packets", RATE, "--report", served.report, served.stream, "--", "sh", "-c", 'touch there; exec "$0" +wait 100']
+    words = [SERVE, "--packets", RATE, "--report", served.report, served.stream, "--", "sh", "-c",
+             'touch there; exec "$0" +wait 100']
     with subprocess.Popen([*words, served.cases], start_new_session=True, cwd=served.folder) as child:
         assert comes(served.path("there").exists)
         tell(child.pid, number)
@@ -150,6 +153,20 @@ def test_full(served):
     assert BLOCKS * 512 <= max(path.stat().st_size for path in served.path("full").iterdir()) <= BLOCKS * 1024
     merged = ran([PROGRAM, "merge", served.path("full")])
     assert merged.returncode == 1 and "has no file `head`" in merged.stdout
+
+
+def test_no_thread_can_be_made(served, compiled):
+    """Where the server can make no thread, programs are served behind the stream's end, and the report is right."""
+    library = compiled("tests/faults.c", "-shared", "-fPIC")
+    server = served.put("server", f'#!/bin/sh\nNO_THREAD=1 LD_PRELOAD={library} exec {shlex.join(built_server())} "$@" 9>told\n')
+    os.chmod(server, 0o700)
+    words = ["--once", "--packets", RATE, "--report", served.report, served.stream]
+    out, status = served.call(words, ["sh", "-c", OPENS], ["env", f"DVBEMU_SERVER={shlex.quote(server)}"])
+    assert (out, status, served.read("told")[:1]) == ("opened\n", 0, b"r")
+    entries = Report.load(str(served.report)).node("n0").entries
+    passed = sum(entry.who == "feed" for entry in entries)
+    assert [entry.who for entry in entries] == ["feed"] * passed + ["c7", "c7"] and passed > 1
+    served.is_right()
 
 
 def test_full_played(served):

@@ -99,15 +99,16 @@ def passes_alone(data, lines, places):
 # dvb_frontend_check_parameters refuses.
 SATELLITES = "--tune 11362000:DVBS2:H={0} 12188000:DVBS:V={1}"
 SYSTEMS = {
-    "DVB-T and DVB-T2, of which a recording is the stream 0": ("--tune 474000000:DVB-T2={0} 482000000:DVBT={1}",
+    "DVB-T and DVB-T2, of which a recording is the stream 0": (
+        "--tune 474000000:DVB-T2={0} 482000000:DVBT={1}",
         "474000000:16 Alpha Beta; 474000000:3 status 1; 482000000:3 Gamma Delta; 474000000:16:2:1:0 Alpha Beta; "
         "474000000:16:2:1:1 status 1"),
     "satellites": (SATELLITES, "1612000:6:1:1 Alpha Beta; 1612000:6:0:1 status 0; 1612000:5:1:1 status 1; "
-        "1588000:5:0:0 Gamma Delta; 1588000:5:0:1 status 0"),
+                   "1588000:5:0:0 Gamma Delta; 1588000:5:0:1 status 0"),
     "voltage and tone": (SATELLITES, "cable 1 1; 1612000:6 Alpha Beta; 1588000:5 status 0; cable 0 0; 1588000:5 Gamma Delta; "
-        "1612000:6 status 0; 1588000:5:0:1 status 0; 1588000:5 status 0"),
+                         "1612000:6 status 0; 1588000:5:0:1 status 0; 1588000:5 status 0"),
     "a satellite's limits": ("--tune=11362000:DVBS2={0}", "1612000:6::::999999 EINVAL; 1612000:6::::45000001 EINVAL; "
-        "1612000:5::::0 EINVAL; 949999:6 EINVAL; 2150001:6 EINVAL; 1612000:6::::1000000 Alpha Beta"),
+                             "1612000:5::::0 EINVAL; 949999:6 EINVAL; 2150001:6 EINVAL; 1612000:6::::1000000 Alpha Beta"),
 }  # fmt: skip
 CHANNELS = """# cable, ATSC and ISDB-T
 346000000:DVBC={0}
@@ -262,7 +263,8 @@ def faulty(served, air):
     ("--tune 474000000:DVBX=Alpha.ts", "DVBX isn't one of"), ("--tune Alpha.ts", "argument --tune: expected HZ"),
     ("--channels Alpha.ts", "expected lines HZ[:SYSTEM][:H|V|L|R]=FILE, but it isn't text"),
     ("--channels wrong", "=FILE, but line 2 is '474000000:DVBT a.ts'"),
-    ("--report - --adapter Alpha.ts --adapter Alpha.ts", "--report FILE"), ("--packets 0 Alpha.ts", "argument --packets: expected a number above 0"),
+    ("--report - --adapter Alpha.ts --adapter Alpha.ts", "--report FILE"),
+    ("--packets 0 Alpha.ts", "argument --packets: expected a number above 0"),
     ("", "arguments are required: STREAM"), ("--tune 474000000:DVBT:H=Alpha.ts", "has no polarisation"),
     ("--keep none --played /nowhere/p Alpha.ts", "/nowhere/p: No such file"),
     ("--keep none --played Alpha.ts Alpha.ts", "is the recording: give --played another name"),
@@ -355,7 +357,8 @@ def place():
 def test_killed(served, place):
     """Where the wrapper is killed its server ends, programs that wait are told, those that don't end are ended, and its folder
     goes."""
-    script = 'ls -d "$TMPDIR"/dvbemu-*/ > folder; "$0" hold > held; trap "" TERM; sleep 600 & echo $! > other; wait; exec sleep 600'
+    script = """ls -d "$TMPDIR"/dvbemu-*/ > folder; "$0" hold > held
+        trap "" TERM; sleep 600 & echo $! > other; wait; exec sleep 600"""
     words = [SERVE, *PACED, served.stream, "--", "sh", "-c", script, TUNER]
     with subprocess.Popen(words, cwd=served.folder, env={**os.environ, "TMPDIR": place}, start_new_session=True) as child:
         assert comes(lambda: b"held" in served.read("held"))

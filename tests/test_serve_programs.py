@@ -347,7 +347,8 @@ def test_getstream(served, heard):
 def test_mpv(served):
     """It shows pictures of a stream with more of them than a station has, of a service 1."""
     needs("mpv", "ffmpeg")
-    ran(["ffmpeg", "-v", "error", *"-f lavfi -i testsrc2=size=352x288:rate=25 -f lavfi -i sine -t 8 -c:v mpeg2video -b:v 2M -g 12 "
+    ran(["ffmpeg", "-v", "error",
+         *"-f lavfi -i testsrc2=size=352x288:rate=25 -f lavfi -i sine -t 8 -c:v mpeg2video -b:v 2M -g 12 "
          "-c:a mp2 -f mpegts -muxrate 3M".split(), served.path("film.ts")])  # fmt: skip
     served.put("channels.conf", ZAP.format("Alpha", 1))
     # (its libavformat looks at 5 MB before the first picture, where it isn't told another size)

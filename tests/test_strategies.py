@@ -10,11 +10,12 @@ from dvbemu.stream import packets, tables
 from dvbemu.stream.sections import is_intact, sections_of
 
 # Python without hypothesis.
-ALONE = "import sys; sys.path.insert(0, sys.argv[1]); sys.modules['hypothesis'] = None\nimport dvbemu.strategies"
+ALONE = "import sys; sys.modules['hypothesis'] = None\nimport dvbemu.strategies"
 
 
 def test_without_hypothesis():
-    ran = subprocess.run([sys.executable, "-B", "-c", ALONE, str(ROOT / "python" / "src")], capture_output=True, text=True, check=False)
+    env = {"PYTHONPATH": str(ROOT / "python" / "src")}
+    ran = subprocess.run([sys.executable, "-B", "-c", ALONE], capture_output=True, text=True, check=False, env=env)
     assert ran.returncode == 1
     assert ran.stderr.endswith("ImportError: dvbemu.strategies needs hypothesis (Debian: apt-get install python3-hypothesis)\n")
 
@@ -22,7 +23,8 @@ def test_without_hypothesis():
 hypothesis = pytest.importorskip("hypothesis")
 from dvbemu import strategies  # noqa: E402
 
-FEW = hypothesis.settings(max_examples=60, deadline=None, database=None, derandomize=True, suppress_health_check=list(hypothesis.HealthCheck))
+FEW = hypothesis.settings(max_examples=60, deadline=None, database=None, derandomize=True,
+                          suppress_health_check=list(hypothesis.HealthCheck))
 
 
 @FEW
@@ -54,7 +56,8 @@ def smallest(strategy, holds):
     return hypothesis.find(strategy, holds, settings=hypothesis.settings(FEW, max_examples=500))
 
 
-@pytest.mark.parametrize("holds", [lambda data: not is_intact(data), lambda data: is_intact(data) and tables.read(data) is None], ids=["CRC_32", "form"])
+@pytest.mark.parametrize("holds", [lambda data: not is_intact(data), lambda data: is_intact(data) and tables.read(data) is None],
+                         ids=["CRC_32", "form"])
 def test_broken_sections(holds):
     """Sections of each kind of wrong are found."""
     assert holds(smallest(strategies.sections(broken=True), holds))

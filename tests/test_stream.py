@@ -1,5 +1,5 @@
-"""Packets, sections and tables of dvbemu.stream: made and read as they were worked out by hand from ISO/IEC 13818-1, 2.4.3 and 2.4.4, and EN 300
-468, 5.2, and cut out of made streams as by the oracle.
+"""Packets, sections and tables of dvbemu.stream: made and read as they were worked out by hand from ISO/IEC 13818-1, 2.4.3 and
+2.4.4, and EN 300 468, 5.2, and cut out of made streams as by the oracle.
 
 The CRC of the nine digits is that of the catalogues of checksums (CRC-32/MPEG-2)."""
 import datetime
@@ -44,7 +44,8 @@ TABLES = [
     (Table(0x42, {"transport_stream_id": 2, "original_network_id": 3}, [], [
         Part({"service_id": 257, "EIT_present_following_flag": 1, "running_status": 4}, [Descriptor(0x48, HEX("010000"))])]),
      "42f0160002c10000" + "0003ff" + "0101fd8005" + "4803010000"),
-    (Table(0x4E, {"service_id": 257, "transport_stream_id": 2, "original_network_id": 3, "segment_last_section_number": 1, "last_table_id": 0x4E},
+    (Table(0x4E, {"service_id": 257, "transport_stream_id": 2, "original_network_id": 3, "segment_last_section_number": 1,
+                  "last_table_id": 0x4E},
            [], [Part({"event_id": 7, "start_time": tables.moment(TIME), "duration": 0x013000, "free_CA_mode": 1}, [])]),
      "4ef01b0101c10000" + "00020003014e" + "0007" + "ea60193015" + "013000" + "1000"),
     (Table(0x70, {"UTC_time": tables.moment(TIME)}, [], []), "707005ea60193015"),
@@ -53,7 +54,8 @@ TABLES = [
 # Lengths that lie: those of descriptors and of what is listed, which have 12 bits.
 LIES = [
     (Table(0x02, {"PCR_PID": 1, "descriptors_length": 4095}, [], []), "02b00d0000c10000" + "e001ffff"),
-    (Table(0x42, {}, [], [Part({"descriptors_length": 9}, [Descriptor(0x48, b"")])]), "42f0130000c10000" + "0000ff" + "0000fc0009" + "4800"),
+    (Table(0x42, {}, [], [Part({"descriptors_length": 9}, [Descriptor(0x48, b"")])]), "42f0130000c10000" + "0000ff" + "0000fc0009"
+     + "4800"),
     (Table(0x40, {"parts_length": 1}, [], []), "40f00d0000c10000" + "f000f001"),
 ]
 SHORT, LONG = HEX("4230020102"), HEX("42303a") + bytes(58)
@@ -97,7 +99,8 @@ def test_crc():
 
 
 @pytest.mark.parametrize("asked", [
-    lambda: packets.packet(1, 0, bytes(185)), lambda: packets.packet(1, 0, bytes(184), False, b"\0"), lambda: packets.full_packet(1, 0, b""),
+    lambda: packets.packet(1, 0, bytes(185)), lambda: packets.packet(1, 0, bytes(184), False, b"\0"),
+    lambda: packets.full_packet(1, 0, b""),
     lambda: sections.section(0x42, 0, bytes(4085)), lambda: sections.short_section(0x70, bytes(4094)),
 ])  # fmt: skip
 def test_no_room(asked):
@@ -114,7 +117,8 @@ def test_times():
 def test_sections_and_their_packets():
     """A long section ends in the packet behind, two short ones stand in one packet, and what a break parts is none."""
     stream = [
-        packets.packet(256, 0, b"\0" + SHORT * 30 + LONG[:33], True), packets.packet(256, 1, bytes([28]) + LONG[33:] + SHORT + SHORT, True),
+        packets.packet(256, 0, b"\0" + SHORT * 30 + LONG[:33], True),
+        packets.packet(256, 1, bytes([28]) + LONG[33:] + SHORT + SHORT, True),
         packets.packet(256, 2, b"\0" + LONG[:60].rjust(183, b"\xfe"), True), packets.packet(256, 4, LONG[60:]),
         packets.packet(256, 5, b"\0" + SHORT, True),
     ]  # fmt: skip
@@ -147,8 +151,10 @@ def test_as_by_the_oracle(seed):
     found = packets.cut(stream, size)
     assert found == second.cut(stream, size)
     for one in found.packets:
-        said = (packets.pid_of, packets.error_bit, packets.unit_start, packets.counter_of, packets.discontinuity, packets.payload_of, packets.pcr_of)
-        asked = (second.pid_of, second.error_bit, second.unit_start, second.counter_of, second.discontinuity, second.payload_of, second.clock_reference)
+        said = (packets.pid_of, packets.error_bit, packets.unit_start, packets.counter_of, packets.discontinuity,
+                packets.payload_of, packets.pcr_of)
+        asked = (second.pid_of, second.error_bit, second.unit_start, second.counter_of, second.discontinuity, second.payload_of,
+                 second.clock_reference)
         assert [of(one) for of in said] == [of(one) for of in asked]
     for pid in set(map(second.pid_of, found.packets)):
         mine = [one for one in found.packets if second.pid_of(one) == pid]

@@ -1,6 +1,6 @@
-"""The module of python/ installed by pip and Debian's setuptools, into environments of their own, without a network: from its folder, as a
-wheel, and so that it stays where it is (-e). What is installed is imported from another folder under `python3 -W error`, finds the programs in
-the PATH, and pytest's plugin is known; it has all files of the module; removed, nothing is left.
+"""The module of python/ installed by pip and Debian's setuptools, into environments of their own, without a network: from its
+folder, as a wheel, and so that it stays where it is (-e). What is installed is imported from another folder under `python3 -W
+error`, finds the programs in the PATH, and pytest's plugin is known; it has all files of the module; removed, nothing is left.
 """
 import os
 import shutil
@@ -29,7 +29,8 @@ print(report.node("n0").data()[:4].hex(), bool(report.check(script, sys.argv[1])
 @pytest.fixture
 def source(tmp_path):
     """The folder python/, in which pip leaves what it builds."""
-    return shutil.copytree(ROOT / "python", tmp_path / "python", ignore=shutil.ignore_patterns("__pycache__", "build", "*.egg-info"))
+    return shutil.copytree(ROOT / "python", tmp_path / "python",
+                           ignore=shutil.ignore_patterns("__pycache__", "build", "*.egg-info"))
 
 
 @pytest.fixture

@@ -1,8 +1,8 @@
 """`dvbemu words`, both ways against what `dvbemu calls` writes: a line with names is written as the command that the structure of
 linux/dvb/dmx.h with these values is, and what is plain, as each script of examples/, is written as it stands.
 
-Filters with names are held against the plain second program's matching, over each value that a field has. Words that can't be read are told
-with line and word."""
+Filters with names are held against the plain second program's matching, over each value that a field has. Words that can't be
+read are told with line and word."""
 import struct
 
 import pytest
@@ -26,16 +26,20 @@ def pes(pid, source, output, kind, flags):
     return struct.pack("<H2x4I", pid, source, output, kind, flags)
 
 
-# A line behind its target, and the request and its argument that a program in C would make for it, with the numbers of linux/dvb/dmx.h:
-# DMX_CHECK_CRC 1, DMX_ONESHOT 2, DMX_IMMEDIATE_START 4; DMX_IN_FRONTEND 0; DMX_OUT_DECODER 0 to DMX_OUT_TSDEMUX_TAP 3; DMX_PES_OTHER 20.
+# A line behind its target, and the request and its argument that a program in C would make for it, with the numbers of
+# linux/dvb/dmx.h: DMX_CHECK_CRC 1, DMX_ONESHOT 2, DMX_IMMEDIATE_START 4; DMX_IN_FRONTEND 0; DMX_OUT_DECODER 0 to
+# DMX_OUT_TSDEMUX_TAP 3; DMX_PES_OTHER 20.
 NAMED = [
     ("section {} 0x1000 0 5 0=0x02/0xFF/0x00", SET_FILTER, section(4096, 0, 5, filter="02", mask="ff")),
     ("section {} 0 500 CHECK_CRC+IMMEDIATE_START table_id=0x00", SET_FILTER, section(0, 500, 5, mask="ff")),
     ("section {} 17 0 DMX_CHECK_CRC|DMX_ONESHOT|4 table_id=66", SET_FILTER, section(17, 0, 7, filter="42", mask="ff")),
-    ("section {} 0 0 oneshot version_number!=3", SET_FILTER, section(0, 0, 2, filter="00000006", mask="0000003e", mode="0000003e")),
-    ("section {} 0 0 KEEP version_number=3 current_next_indicator=1", SET_FILTER, section(0, 0, 256, filter="00000007", mask="0000003f")),
+    ("section {} 0 0 oneshot version_number!=3", SET_FILTER,
+     section(0, 0, 2, filter="00000006", mask="0000003e", mode="0000003e")),
+    ("section {} 0 0 KEEP version_number=3 current_next_indicator=1", SET_FILTER,
+     section(0, 0, 256, filter="00000007", mask="0000003f")),
     ("section {} 18 0 0 table_id=0x50/0xf0 service_id=0x0102", SET_FILTER, section(18, 0, 0, filter="500102", mask="f0ffff")),
-    ("section {} 18 0 0 section_number=2 last_section_number=3", SET_FILTER, section(18, 0, 0, filter="000000000203", mask="00000000ffff")),
+    ("section {} 18 0 0 section_number=2 last_section_number=3", SET_FILTER,
+     section(18, 0, 0, filter="000000000203", mask="00000000ffff")),
     ("section {} 16 0 0 network_id!=12289", SET_FILTER, section(16, 0, 0, filter="003001", mask="00ffff", mode="00ffff")),
     ("pes {} 0x100 frontend tsdemux_tap OTHER 0", SET_PES, pes(256, 0, 3, 20, 0)),
     ("pes {} 256 DMX_IN_DVR DMX_OUT_TAP DMX_PES_VIDEO1 IMMEDIATE_START", SET_PES, pes(256, 1, 1, 6, 4)),
@@ -47,10 +51,13 @@ NAMED = [
     ("start {}", START, b""),
 ]
 # Ways to write the same node, and lines that are written anew.
-NODES = {"n1": "n1", "demux1": "n1", "/dev/dvb/adapter0/demux1": "n1", "H31": "h31", "dvr0": "dvr", "/dev/dvb/adapter0/dvr0": "dvr"}
+NODES = {"n1": "n1", "demux1": "n1", "/dev/dvb/adapter0/demux1": "n1", "H31": "h31", "dvr0": "dvr",
+         "/dev/dvb/adapter0/dvr0": "dvr"}
 LINES = [
-    ("c0\topen  demux0 \r", "c0 open n0"), ("C0 Open N0 # the first", "c0 open n0"), ("# 0x10 as it is", "# 0x10 as it is"), ("", ""),
-    ("   # alone", "# alone"), ("feed 0x64", "feed 100"), ("TICK 10", "tick 10"), ("c0 ioctl n0 0x6F29 -", "c0 ioctl n0 00006f29 -"),
+    ("c0\topen  demux0 \r", "c0 open n0"), ("C0 Open N0 # the first", "c0 open n0"), ("# 0x10 as it is", "# 0x10 as it is"),
+    ("", ""),
+    ("   # alone", "# alone"), ("feed 0x64", "feed 100"), ("TICK 10", "tick 10"),
+    ("c0 ioctl n0 0x6F29 -", "c0 ioctl n0 00006f29 -"),
     ("c0 write dvr0 0x47AA", "c0 write dvr 47aa"), ("c0 strat n0", "c0 strat n0"), ("c9 read n0 0x10", "c9 read n0 16"),
     ("c0 read n0 1 2", "c0 read n0 1 2"), ("c0 section n0 0", "c0 section n0 0"),
 ]  # fmt: skip
@@ -71,7 +78,8 @@ FAULTS = [
 BITS = {"table_id": (0, 8), "table_id_extension": (24, 16), "version_number": (42, 5), "current_next_indicator": (47, 1),
         "section_number": (48, 8), "last_section_number": (56, 8)}  # fmt: skip
 
-VALUES = [(field, sign, value) for field, (_, width) in BITS.items() for value in (0, 1, 2**width - 1, 2**width // 3) for sign in ("=", "!=")]
+VALUES = [(field, sign, value) for field, (_, width) in BITS.items() for value in (0, 1, 2**width - 1, 2**width // 3)
+          for sign in ("=", "!=")]
 SESSIONS = sorted(EXAMPLES.glob("*/*.session"))
 
 

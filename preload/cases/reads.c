@@ -181,15 +181,18 @@ static void *reads_many(void *pid)
 	return (void *)(intptr_t)bad;
 }
 
-CASE(many_threads)
+/* at most 16 threads side by side, each of which ends with NULL */
+static void in_threads(int count, void *(*work)(void *), const char *what)
 {
 	pthread_t threads[16];
 	void *bad;
-	for (int i = 0; i < 16; i++)
-		want(!pthread_create(&threads[i], NULL, reads_many, NULL), "threads");
-	for (int i = 0; i < 16; i++)
-		want(!pthread_join(threads[i], &bad) && !bad, "each reads its own sections");
+	for (int i = 0; i < count; i++)
+		want(!pthread_create(&threads[i], NULL, work, NULL), "threads");
+	for (int i = 0; i < count; i++)
+		want(!pthread_join(threads[i], &bad) && !bad, what);
 }
+
+CASE(many_threads) { in_threads(16, reads_many, "each reads its own sections"); }
 
 static void *opens_many(void *nothing)
 {
@@ -203,15 +206,7 @@ static void *opens_many(void *nothing)
 	return nothing;
 }
 
-CASE(threads_that_open)
-{
-	pthread_t threads[4];
-	void *bad;
-	for (int i = 0; i < 4; i++)
-		want(!pthread_create(&threads[i], NULL, opens_many, NULL), "threads");
-	for (int i = 0; i < 4; i++)
-		want(!pthread_join(threads[i], &bad) && !bad, "open and close side by side");
-}
+CASE(threads_that_open) { in_threads(4, opens_many, "open and close side by side"); }
 
 ALONE(without_bells)
 {

@@ -1,1 +1,2 @@
-"""A second reading of the rules, made from docs/BEHAVIOUR.md and docs/MADE.md alone: the program and the package are held against it."""
+"""A second reading of the rules, made from docs/BEHAVIOUR.md and docs/MADE.md alone: the program and the package are held against
+it."""

@@ -117,7 +117,8 @@ def another_moment(rng, text):
     if chosen.who != "feed":
         return with_entry(report, node, at_moment(chosen, moment)), WRONG if moment == 2**64 else OPEN
     same = ("feed", chosen.step)
-    changed = with_all(report, lambda entries: [at_moment(one, moment) if (one.who, one.step) == same else one for one in entries])
+    changed = with_all(report,
+                       lambda entries: [at_moment(one, moment) if (one.who, one.step) == same else one for one in entries])
     return changed, WRONG if moment == 2**64 else OPEN
 
 
@@ -206,8 +207,8 @@ def pass_text(first, count, moment):
 
 
 def one_batch_less(rng, text):
-    """Two batches become one, at the moment of the first. Where they are of one moment, and on no node an entry stands between them,
-    it stays right, unless there are too many packets for a batch."""
+    """Two batches become one, at the moment of the first. Where they are of one moment, and on no node an entry stands between
+    them, it stays right, unless there are too many packets for a batch."""
     report = read(text)
     passes = batches_of(report)[:-1]
     if len(passes) < 2:
@@ -236,7 +237,8 @@ def one_batch_more(rng, text):
 
 
 CHANGES = {
-    one_byte: 6, one_line_less: 1, one_line_twice: 1, cut: 1, more_behind: 1, read_fault: 1, one_client_more: 1, another_moment: 6,
+    one_byte: 6, one_line_less: 1, one_line_twice: 1, cut: 1, more_behind: 1, read_fault: 1, one_client_more: 1,
+    another_moment: 6,
     other_moments: 3, another_reply: 3, another_caller: 2, neighbours_exchanged: 6, steps_exchanged: 2, one_entry_less: 2,
     one_entry_more: 2, one_batch_less: 6, one_batch_more: 4,
 }  # fmt: skip

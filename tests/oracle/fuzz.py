@@ -88,7 +88,8 @@ class Stream:
         self.out += self.last + bytes(rng.choice([0x47, 0, rng.randrange(256)]) for _ in range(self.behind))
 
 
-KINDS = "open section section pes pes start start start stop stop add remove size size read read readw drain poll poll".split() * 3
+KINDS = 3 * ("open section section pes pes start start start stop stop add remove size size read read readw drain poll "
+             "poll").split()
 KINDS += ["close"] + ["ioctl"] * 6 + ["stc"] * 6
 
 
@@ -122,9 +123,11 @@ def command(rng, client):
         )
         return f"{head} {pid} {rng.choice([0, 0, 1, 5, 100])} {flags}{bytes_at}"
     if kind == "pes":
-        pid, output = rng.choice([*PIDS, 8192, 8193]), rng.choice(["tap", "ts_tap", "ts_tap", "tsdemux_tap", "tsdemux_tap", "decoder"])
+        pid, output = rng.choice([*PIDS, 8192, 8193]), rng.choice(["tap", "ts_tap", "ts_tap", "tsdemux_tap", "tsdemux_tap",
+                                                                   "decoder"])
         source = "dvr" if rng.random() < 0.05 else "frontend"
-        return f"{head} {pid} {source} {output} {rng.choice([0, 1, 4, 4, 9, 20, 21])} {rng.choice([0, 4, 4, 3, 8, 256, 260, 260, 512])}"
+        kind, flags = rng.choice([0, 1, 4, 4, 9, 20, 21]), rng.choice([0, 4, 4, 3, 8, 256, 260, 260, 512])
+        return f"{head} {pid} {source} {output} {kind} {flags}"
     if kind == "ioctl":
         return f"{head} {request(rng)}"
     if kind == "stc":
@@ -149,8 +152,8 @@ WRONG = [line for lines in WRONG for line in lines.split("|")] + ["c0 write dvr 
 
 
 def with_writes(seed, lines, clients):
-    """The lines of a script with writes of packets in pieces between them, most by the client that opens the dvr node, and with some
-    filters that take these. In some another client opens that node later."""
+    """The lines of a script with writes of packets in pieces between them, most by the client that opens the dvr node, and with
+    some filters that take these. In some another client opens that node later."""
     rng = random.Random(-seed)
     made = [line.replace(" frontend ", " dvr ") if " pes " in line and rng.random() < 0.5 else line for line in lines]
     streams = [Stream(rng, 0) for _ in range(clients)]
@@ -173,7 +176,8 @@ def with_writes(seed, lines, clients):
 
 
 def session(seed):
-    """A session, the batch, and what its packets are to take up: of most streams what they do. In every other one clients write."""
+    """A session, the batch, and what its packets are to take up: of most streams what they do. In every other one clients
+    write."""
     rng = random.Random(seed)
     behind = rng.choice([0, 0, 16])
     packet = 188 + behind if rng.random() < 0.9 else rng.choice([188, 204])

@@ -1,9 +1,9 @@
 """A judge of reports, by the rules of docs/BEHAVIOUR.md alone.
 
 The order in which threads come is open, and so are the batches and the moments of a report that was made elsewhere; so a report
-isn't worked out but judged. Each client's commands are done anew with the replies that the report has for it, and must ask for just
-the calls that stand there; each node is played again in the order of its entries, and must give just these replies. What is wrong is
-told by its line, what stands there and what the rules give.
+isn't worked out but judged. Each client's commands are done anew with the replies that the report has for it, and must ask for
+just the calls that stand there; each node is played again in the order of its entries, and must give just these replies. What is
+wrong is told by its line, what stands there and what the rules give.
 """
 import os
 import re
@@ -18,7 +18,8 @@ KINDS = "text", "head", "place", "feeder", "call", "left", "reply", "outcome"
 NOTHING_MORE = "nothing more of the feeder"
 # What a demux node and the dvr node are played again by.
 NODES = second.Demux, second.Dvr
-# Data of more bytes than this is told by its first byte that is wrong, and so many bytes from it on; a text of more letters is cut.
+# Data of more bytes than this is told by its first byte that is wrong, and so many bytes from it on; a text of more letters is
+# cut.
 LONG, SHOWN, WHOLE = 48, 8, 240
 
 
@@ -99,8 +100,8 @@ def wrong_head(report, wanted, where):
 
 
 class Feeding:
-    """What the feeder has done on a node so far. Its batches have 1 to 64 packets, or, where a batch is given, as many as that has,
-    the last one what is left."""
+    """What the feeder has done on a node so far. Its batches have 1 to 64 packets, or, where a batch is given, as many as that
+    has, the last one what is left."""
 
     def __init__(self, packets, batch):
         self.packets, self.batch = packets, batch
@@ -178,8 +179,8 @@ def is_of(client, asked):
 
 
 class Walk(second.Run):
-    """The commands of a client, each call with the reply that the report has for it. On each node the client's entries are taken in
-    their order."""
+    """The commands of a client, each call with the reply that the report has for it. On each node the client's entries are taken
+    in their order."""
 
     def __init__(self, lines, client, report, where):
         super().__init__([line for line in lines if is_of(client, line[1])], [], 1)
@@ -207,7 +208,8 @@ class Walk(second.Run):
     def asked(self, node, act):
         """The next call for a reader, on this node, with the line of its command."""
         line = self.lines[len(self.outcomes[self.client])][0]
-        return f"c{self.client} {self.steps[self.client]} {second.act_text(act, '..')} on {node_text(node)}, by line {line} of the script"
+        text = f"c{self.client} {self.steps[self.client]} {second.act_text(act, '..')}"
+        return f"{text} on {node_text(node)}, by line {line} of the script"
 
     def missing(self, gives):
         """A call that stands nowhere. It is told at what became of its command, or at the client, or behind the clients."""
@@ -351,8 +353,8 @@ def judge(session, batch, written, packet=188):
 
 # RULES: 8830e44b A report that is checked
 def answer(given, packet=188):
-    """What `check` gives over this input: its status, its output, and its lines on standard error; the second one but of a text that is no
-    report, for which it has forms of its own."""
+    """What `check` gives over this input: its status, its output, and its lines on standard error; the second one but of a text
+    that is no report, for which it has forms of its own."""
     first = re.match(rb"report (0|[1-9][0-9]*)\n", given[:40])
     if not first or int(first[1]) > MOST_BYTES:
         return 3, b"", b"dvbemu: script line 0: number\n"

@@ -57,7 +57,10 @@ TABLES = {0: 0x00, 512: 0x42}
 def words(state, stream):
     """PCG32 (XSH RR 64/32), seeded with a state and a stream as its reference implementation is."""
     increment = 2 * stream + 1
-    step = lambda held: (held * 6364136223846793005 + increment) % 2**64
+
+    def step(held):
+        return (held * 6364136223846793005 + increment) % 2**64
+
     held = step((step(0) + state) % 2**64)
     while True:
         mixed, turn = (held >> 18 ^ held) >> 27 & 0xFFFFFFFF, held >> 59

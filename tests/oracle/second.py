@@ -529,7 +529,8 @@ def read_request(words):
         return int.from_bytes(argument[place : place + size], "little")
 
     if command == "section":
-        return command, [field(0, 2), {i: (argument[2 + i], argument[18 + i], argument[34 + i]) for i in range(16)}, field(52, 4), field(56, 4)]
+        return command, [field(0, 2), {i: (argument[2 + i], argument[18 + i], argument[34 + i]) for i in range(16)}, field(52, 4),
+                         field(56, 4)]
     if command == "pes":
         source, output = field(4, 4), field(8, 4)
         if source > 1 or output > 3:
@@ -632,8 +633,8 @@ def act_text(act, moment):
 
 # RULES: 35bedcfc What a client writes
 class Played:
-    """What a client writes: the packets of the bytes of all its writes, and for each write the number of the first that it completes,
-    and how many these are."""
+    """What a client writes: the packets of the bytes of all its writes, and for each write the number of the first that it
+    completes, and how many these are."""
 
     def __init__(self, writes):
         self.packets = cut(b"".join(writes))[0]

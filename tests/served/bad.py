@@ -40,7 +40,8 @@ ANSWERS = [
     (IOCTL, 0, ADD, 3, EINVAL), (IOCTL, 0, SECTION, 59, EINVAL), (IOCTL, 0, SECTION, 61, EINVAL), (IOCTL, 0, START, MOST, EINVAL),
     (READ, 0, MOST, 0, 0), (READ, 0, 0, MOST, 0), (LEAVE, MOST, MOST, MOST, 0), (CLOSE, 0, 0, 0, EBADF),
 ]  # fmt: skip
-# How many wild requests there are, how many bytes of noise, how many programs in a crowd, and in how many seconds all are answered.
+# How many wild requests there are, how many bytes of noise, how many programs in a crowd, and in how many seconds all are
+# answered.
 WILD, NOISE, CROWD, SECONDS = 2000, 200_000, 100, 30
 
 

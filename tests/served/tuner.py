@@ -2,8 +2,8 @@
 """A small program that tunes: tuner.py WORD ..
 
     HZ[:SYSTEM[:VOLTAGE[:TONE[:STREAM[:RATE]]]]]
-                tunes there (kHz for a satellite), and says which services its table tells, or what the status or the error is; a number
-                that is left out isn't set, but for a rate of 22,000,000 symbols
+                tunes there (kHz for a satellite), and says which services its table tells, or what the status or the error is; a
+                number that is left out isn't set, but for a rate of 22,000,000 symbols
     cable V T   sets voltage and tone by the older calls
     adapter N   goes on with this adapter
     look        says the status, as a program beside another one sees it
@@ -61,7 +61,8 @@ def services(folder):
 
 def tune(tuner, folder, word):
     """Tunes, waits for a lock, and says what is there."""
-    numbers = zip((FREQUENCY, SYSTEM, VOLTAGE, TONE, STREAM, RATE), (int(number) if number else None for number in word.split(":")))
+    numbers = zip((FREQUENCY, SYSTEM, VOLTAGE, TONE, STREAM, RATE),
+                  (int(number) if number else None for number in word.split(":")))
     pairs = [(CLEAR, 0), (RATE, USUAL_RATE), *numbers, (TUNE, 0)]
     try:
         properties(tuner, FE_SET_PROPERTY, [pair for pair in pairs if pair[1] is not None])

@@ -22,7 +22,7 @@ except ImportError as missing:
 from .fuzz.grammar import map_of, mended
 from .fuzz.mutate import CHANGES, PACKETS, Draw, Item, bits, stream_of
 from .fuzz.right import PROGRAMS, RIGHT, Program, Right, tables_of
-from .stream.tables import FORMS, Descriptor, Table, read
+from .stream.tables import FORMS, Descriptor, read
 
 __all__ = ["descriptors", "programs", "sections", "streams", "tables"]
 Strategy = Any

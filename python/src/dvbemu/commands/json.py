@@ -13,6 +13,7 @@ from .. import progress
 from .. import reports
 from .. import tool
 
+
 def command() -> tool.Command:
     """The command and its words."""
     words = tool.Command(

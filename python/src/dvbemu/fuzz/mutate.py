@@ -12,7 +12,7 @@ from ..psi.descriptors import NAMES
 from ..psi.fields import pid_text, table_text
 from ..psi.tables import SECTIONS
 from ..server.recording import Recording
-from ..stream.packets import PACKET, form_of, pid_of, section_packets, unit_start
+from ..stream.packets import PACKET, form_of, pid_of, section_packets
 from ..stream.sections import LONGEST, Cutter
 from ..stream.tables import PAT_ID, PMT_ID, Descriptor, joined, read
 from .grammar import Map, Region, has_crc, map_of, mended, number_at, put, with_bytes
