@@ -107,7 +107,7 @@ class Axis:
         passes: list[int] = []
         for node, entries in report.nodes.items():
             count = 0
-            for count, entry in enumerate(reports.calls_of(entries), 1):
+            for count, entry in enumerate(entries.calls(), 1):
                 client, passed = int(entry.who[1]), entry.place - count + 1
                 found.setdefault(passed, Gap()).add(node, client, entry.step)
                 seen[client][entry.step] = passed
