@@ -683,23 +683,34 @@ def clients_of(lines: Lines) -> list[Outcomes]:
     return found
 
 
-# What most entries of a long report are: batches, and reads and polls with their usual replies. What has a greater number is left to what reads
-# all other entries, as they are.
-N, C = r"(0|[1-9]\d{0,17})", r"(?:0|[1-9]\d{0,8})"
-PASS = re.compile(rf"{N} feed {N} pass input=frontend first={N} count=({C}) at={N} = passed", re.ASCII)
-COMMON = re.compile(
-    rf"{N} c[0-7] {N} (?:read {C} at={N} = (?:data ([0-9a-f]+|-)|again ended=[01])|"
-    rf"poll at={N} = ready readable=[01] error=(?:none|overflow|timedout) at={N} ended=[01])",
-    re.ASCII,
-)
+class Usual(NamedTuple):
+    """The forms of what most entries of a long report are: batches, and reads and polls with their usual replies. What has a greater number is
+    left to what reads all other entries, as they are."""
+
+    passed: re.Pattern[str]
+    looked: re.Pattern[str]
 
 
-def is_common(text: str, place: int) -> bool:
+# (to make the forms takes as long as to read so many lines without them)
+FEW = 150
+
+
+@lru_cache(None)
+def usual() -> Usual:
+    """The forms, which are made once."""
+    number, count = r"(0|[1-9]\d{0,17})", r"(0|[1-9]\d{0,8})"
+    return Usual(
+        re.compile(rf"{number} feed {number} pass input=frontend first={number} count={count} at={number} = passed", re.ASCII),
+        re.compile(rf"{number} c[0-7] {number} (?:read {count} at={number} = (?:data (?P<data>[0-9a-f]+|-)|again ended=[01])|"
+                   rf"poll at={number} = ready readable=[01] error=(?:none|overflow|timedout) at={number} ended=[01])", re.ASCII),
+    )  # fmt: skip
+
+
+def is_usual(found: re.Match[str] | None, place: int) -> bool:
     """Whether a line is a usual read or poll, at this place of its node."""
-    found = COMMON.fullmatch(text)
     if found is None or int(found[1]) != place:
         return False
-    digits = found[4] or "-"
+    digits = found["data"] or "-"
     return digits == "-" or len(digits) % 2 == 0 and len(digits) <= 2 * MOST_BYTES
 
 
@@ -728,10 +739,11 @@ def entries_of(lines: Lines) -> Entries:
     """The entries of one node."""
     found, place = Entries(), 0
     while (text := lines.text) is not None and text[:1].isdigit():
-        passed = PASS.fullmatch(text)
+        forms = usual() if lines.line > FEW else None
+        passed = forms.passed.fullmatch(text) if forms else None
         if passed and int(passed[1]) == place:
             found.take_pass(int(passed[2]), int(passed[3]), int(passed[4]), int(passed[5]))
-        elif is_common(text, place):
+        elif forms and is_usual(forms.looked.fullmatch(text), place):
             found.take(text)
         else:
             check_entry(text, place)
