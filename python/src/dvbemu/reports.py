@@ -542,8 +542,9 @@ def moment(entry: Entry) -> int | None:
 
 
 def moments(entries: Entries) -> Iterator[int]:
-    """The moments that a node's entries carry, those of its batches last."""
-    return chain((at for at in map(moment, map(Entry.of, entries.texts)) if at is not None), entries.moments)
+    """The moments that a node's entries carry, those of its batches last. That of an act stands before its reply's number of bytes."""
+    found = (text.partition(" at=")[2].partition(" ")[0] for text in entries.texts)
+    return chain((int(at) for at in found if at), entries.moments)
 
 
 def first_moment(report: Report) -> int:

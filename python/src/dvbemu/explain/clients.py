@@ -3,7 +3,7 @@ from __future__ import annotations
 
 from array import array
 from bisect import bisect_right
-from itertools import chain, count
+from itertools import chain
 from operator import eq
 from typing import TYPE_CHECKING, NamedTuple
 
@@ -84,7 +84,7 @@ class Calls:
 
     def are_all(self) -> bool:
         """Whether their steps are just those from 0 on."""
-        return all(map(eq, map(self.steps.__getitem__, self.order), count()))
+        return all(map(eq, map(self.steps.__getitem__, self.order), range(len(self.order))))
 
     def __iter__(self) -> Iterator[Call]:
         for at in self.order:

@@ -5,7 +5,7 @@ accepted so far are kept beside them.
 """
 from __future__ import annotations
 
-from itertools import chain, count
+from itertools import chain
 from operator import eq
 from typing import TYPE_CHECKING, NamedTuple
 
@@ -162,7 +162,7 @@ class Stumble:
 def is_served(report: Report, first: int) -> bool:
     """Whether a report, with this first moment, seems to be one of `serve`, where each client counts its commands from 1, and each call has the
     machine's time."""
-    return first > 0 and bool(report.clients) and all(all(map(eq, outcomes.lines, count(1))) for outcomes in report.clients)
+    return first > 0 and bool(report.clients) and all(all(map(eq, outcomes.lines, range(1, len(outcomes) + 1))) for outcomes in report.clients)
 
 
 def joints(report: Report) -> int:

@@ -242,6 +242,8 @@ class History(Walk):
             levels = (max(0, min(low, most)), max(0, min(high, most))) if is_told else (None, None)
             for at in range(place, until):
                 self.low[at], self.high[at] = levels
+        # (what was kept behind each entry isn't asked for any longer)
+        capture.steps, capture.known = [], []
 
     def fill_before(self, clear: int, told: int, place: int, reply: Reply, capture: Capture, bounds: list[tuple[int, int]]) -> Loss:
         """The overflow span with the places behind which it may have come and has come: the buffer is as full then as it says, and
