@@ -7,7 +7,7 @@ from typing import TYPE_CHECKING
 
 from . import reports
 from .errors import Error
-from .reports import ACTS, FORMAT, HEAD, PID, READERS, REPLIES, STC, word_of, written
+from .reports import ACTS, FORMAT, HEAD, PID, READERS, REPLIES, STC, Pass, word_of, written
 
 if TYPE_CHECKING:
     from typing import Any, Callable, Iterable, Iterator, Mapping
@@ -53,6 +53,18 @@ def object_text(text: str, is_act: bool) -> str:
     return f'{{"name": "{name}"{"".join(told)}{filtered}}}'
 
 
+def pass_text(node: str, place: int, step: int, first: int, count: int, at: int) -> str:
+    """A batch that passes a node, as the text of an object."""
+    act = f'{{"name": "pass", "input": "frontend", "first": {first}, "count": {count}, "at": {at}}}'
+    return f'{{"kind": "entry", "node": "{node}", "place": {place}, "who": "feed", "step": {step}, "act": {act}, "reply": {{"name": "passed"}}}}'
+
+
+def entry_text(node: str, place: int, who: str, step: int, act: str, reply: str) -> str:
+    """An entry, as the text of an object."""
+    head = f'{{"kind": "entry", "node": "{node}", "place": {place}, "who": "{who}", "step": {step}, '
+    return f'{head}"act": {act_text(act)}, "reply": {reply_text(reply)}}}'
+
+
 def act_text(act: str) -> str:
     """An act, as the text of an object. What passes is another one each time."""
     if not act.startswith("pass "):
@@ -89,9 +101,8 @@ def texts_of(report: Report) -> Iterator[str]:
     for node, entries in report.nodes.items():
         name = reports.node_name(node)
         yield json.dumps({"kind": "node", "node": name})
-        for entry in entries:
-            head = f'{{"kind": "entry", "node": "{name}", "place": {entry.place}, "who": "{entry.who}", "step": {entry.step}, '
-            yield f'{head}"act": {act_text(entry.act)}, "reply": {reply_text(entry.reply)}}}'
+        for entry in entries.rows():
+            yield pass_text(name, *entry) if isinstance(entry, Pass) else entry_text(name, *entry)
     yield json.dumps({"kind": "end", "read_failed": report.read_fault})
 
 

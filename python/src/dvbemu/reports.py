@@ -8,9 +8,11 @@ from __future__ import annotations
 import io
 import re
 from array import array
+from bisect import bisect_left
 from collections.abc import Sequence
 from functools import lru_cache
-from typing import TYPE_CHECKING, NamedTuple, TypeVar, cast
+from itertools import chain, repeat
+from typing import TYPE_CHECKING, NamedTuple, cast
 
 from . import abi
 from .errors import Error
@@ -60,7 +62,6 @@ if TYPE_CHECKING:
         length: int
 
 
-R = TypeVar("R")
 FORMAT = "dvbemu 1"
 DVR = 32
 CLIENTS = 8
@@ -145,54 +146,139 @@ class Entry(NamedTuple):
         return cls(int(place), who, int(step), act, reply)
 
 
-class Rows(Sequence[R]):
-    """Records that are kept as their lines, of which each is made where it is asked for: so a long report takes up little more than its
-    text. The block of lines that was last asked for one stays at hand."""
+class Pass(NamedTuple):
+    """A batch of the stream that passes a node: its place, the feeder's step, its first packet, how many it has, and the moment."""
 
-    EACH = 1024
+    place: int
+    step: int
+    first: int
+    packets: int
+    at: int
 
-    def __init__(self, make: Callable[[str], R]) -> None:
-        self.make = make
-        self.blocks: list[str] = []
-        self.lines: list[str] = []
-        self.at_hand: tuple[int, list[str]] = -1, []
+    def entry(self) -> Entry:
+        """The entry that it is."""
+        return Entry(self.place, "feed", self.step, f"pass input=frontend first={self.first} count={self.packets} at={self.at}", "passed")
 
-    def append(self, line: str) -> None:
-        """Puts a line behind the others."""
-        self.lines.append(line)
-        if len(self.lines) == self.EACH:
-            self.blocks.append("\n".join(self.lines))
-            self.lines = []
+
+class Outcomes(Sequence[Outcome]):
+    """What became of the commands of a client. Kept are the numbers of each, and how those ended that weren't `done`."""
+
+    def __init__(self, outcomes: Iterable[Outcome] = ()) -> None:
+        self.lines, self.firsts, self.afters = array("Q"), array("Q"), array("Q")
+        self.others: dict[int, str] = {}
+        for outcome in outcomes:
+            self.append(outcome)
+
+    def append(self, outcome: Outcome) -> None:
+        """Puts one behind the others."""
+        if outcome.kind != "done":
+            self.others[len(self.lines)] = outcome.kind
+        self.lines.append(outcome.line)
+        self.firsts.append(outcome.first)
+        self.afters.append(outcome.after)
+
+    def kinds(self) -> Iterator[str]:
+        """How each has ended."""
+        return (self.others.get(number, "done") for number in range(len(self.lines))) if self.others else repeat("done", len(self.lines))
 
     def __len__(self) -> int:
-        return self.EACH * len(self.blocks) + len(self.lines)
+        return len(self.lines)
 
-    def __iter__(self) -> Iterator[R]:
-        for block in self.blocks:
-            yield from map(self.make, block.split("\n"))
-        yield from map(self.make, self.lines)
+    def __iter__(self) -> Iterator[Outcome]:
+        return map(Outcome, self.lines, self.firsts, self.afters, self.kinds())
 
     def __getitem__(self, place: Any) -> Any:
         if isinstance(place, slice):
             return [self[at] for at in range(*place.indices(len(self)))]
-        block, row = divmod(range(len(self))[place], self.EACH)
-        if block == len(self.blocks):
-            return self.make(self.lines[row])
-        if block != self.at_hand[0]:
-            self.at_hand = block, self.blocks[block].split("\n")
-        return self.make(self.at_hand[1][row])
+        at = range(len(self))[place]
+        return Outcome(self.lines[at], self.firsts[at], self.afters[at], self.others.get(at, "done"))
 
 
-class Entries(Rows[Entry]):
-    """The entries of a node; `called` has the places of those of clients."""
+class Texts:
+    """Lines in blocks, so that many take up little more than their text. The block of which one was last asked for stays at hand."""
+
+    EACH = 1024
 
     def __init__(self) -> None:
-        super().__init__(Entry.of)
-        self.called = array("Q")
+        self.blocks: list[str] = []
+        self.last: list[str] = []
+        self.at_hand: tuple[int, list[str]] = -1, []
+
+    def append(self, line: str) -> None:
+        """Puts a line behind the others."""
+        self.last.append(line)
+        if len(self.last) == self.EACH:
+            self.blocks.append("\n".join(self.last))
+            self.last = []
+
+    def __iter__(self) -> Iterator[str]:
+        return chain.from_iterable(chain((block.split("\n") for block in self.blocks), [self.last]))
+
+    def __getitem__(self, number: int) -> str:
+        block, row = divmod(number, self.EACH)
+        if block == len(self.blocks):
+            return self.last[row]
+        if block != self.at_hand[0]:
+            self.at_hand = block, self.blocks[block].split("\n")
+        return self.at_hand[1][row]
+
+
+class Entries(Sequence[Entry]):
+    """The entries of a node. A batch that passes is kept as its numbers, any other entry as its line, by its place in `places`."""
+
+    def __init__(self) -> None:
+        self.places, self.texts = array("Q"), Texts()
+        self.steps, self.firsts, self.counts, self.moments = array("Q"), array("Q"), array("Q"), array("Q")
+
+    def take_pass(self, step: int, first: int, count: int, at: int) -> None:
+        """Puts a batch behind the others."""
+        self.steps.append(step)
+        self.firsts.append(first)
+        self.counts.append(count)
+        self.moments.append(at)
+
+    def take(self, line: str) -> None:
+        """Puts any other entry behind the others."""
+        self.places.append(len(self))
+        self.texts.append(line)
+
+    def passes(self, begin: int, end: int, place: int) -> Iterator[Pass]:
+        """The batches of these numbers, of which the first has this place."""
+        columns = (column[begin:end] for column in (self.steps, self.firsts, self.counts, self.moments))
+        return map(Pass, range(place, place + end - begin), *columns)
+
+    def rows(self) -> Iterator[Pass | Entry]:
+        """All entries, batches as such."""
+        passed = 0
+        for number, (place, text) in enumerate(zip(self.places, self.texts)):
+            if passed < place - number:
+                yield from self.passes(passed, place - number, passed + number)
+                passed = place - number
+            yield Entry.of(text)
+        yield from self.passes(passed, len(self.steps), passed + len(self.places))
 
     def calls(self) -> Iterator[Entry]:
         """The entries of clients."""
-        return map(self.__getitem__, self.called)
+        return (entry for entry in map(Entry.of, self.texts) if entry.who != "feed")
+
+    def call(self, number: int) -> Entry:
+        """The entry with this number among those that are no batches."""
+        return Entry.of(self.texts[number])
+
+    def __len__(self) -> int:
+        return len(self.places) + len(self.steps)
+
+    def __iter__(self) -> Iterator[Entry]:
+        return (row.entry() if isinstance(row, Pass) else row for row in self.rows())
+
+    def __getitem__(self, place: Any) -> Any:
+        if isinstance(place, slice):
+            return [self[at] for at in range(*place.indices(len(self)))]
+        place = range(len(self))[place]
+        number = bisect_left(self.places, place)
+        if number < len(self.places) and self.places[number] == place:
+            return self.call(number)
+        return next(self.passes(place - number, place - number + 1, place)).entry()
 
 
 class Report(NamedTuple):
@@ -202,8 +288,8 @@ class Report(NamedTuple):
     skipped: int
     rest: int
     pids: list[PidCount]
-    clients: Sequence[Sequence[Outcome]]
-    nodes: Mapping[int, Sequence[Entry]]
+    clients: Sequence[Outcomes]
+    nodes: Mapping[int, Entries]
     read_fault: bool
 
 
@@ -456,15 +542,15 @@ def moment(entry: Entry) -> int | None:
     return int(after.partition(" ")[0]) if sign else None
 
 
-def calls_of(entries: Sequence[Entry]) -> Iterator[Entry]:
-    """The entries of clients."""
-    return entries.calls() if isinstance(entries, Entries) else (entry for entry in entries if entry.who != "feed")
+def moments(entries: Entries) -> Iterator[int]:
+    """The moments that a node's entries carry, those of its batches last. That of an act stands before its reply's number of bytes."""
+    found = (text.partition(" at=")[2].partition(" ")[0] for text in entries.texts)
+    return chain((int(at) for at in found if at), entries.moments)
 
 
 def first_moment(report: Report) -> int:
     """The least moment that an entry carries: 0 in a report of `steps`, but where a script begins with a `tick`."""
-    moments = (moment(entry) for entries in report.nodes.values() for entry in entries)
-    return min((at for at in moments if at is not None), default=0)
+    return min(chain.from_iterable(map(moments, report.nodes.values())), default=0)
 
 
 def node_name(node: int) -> str:
@@ -573,49 +659,60 @@ def pid_counts(lines: Lines) -> list[PidCount]:
     return rows
 
 
-def check_outcome(text: str) -> None:
-    """Raises where a line doesn't tell what became of a command, which ends by one word, or by a system time counter."""
+def outcome_of(text: str) -> Outcome:
+    """What became of a command, which ends by one word, or by a system time counter. Raises where a line doesn't tell that."""
     _, line, *words = text.split(" ")
     if len(words) < 3 or words[0] != "steps":
         raise Wrong("`line L steps A..B OUTCOME`")
-    span(words[1])
-    number(line, BITS_32)
+    first, after = span(words[1])
     if words[2] == "stc":
         read_form(STC, words[3:], "stc")
-    else:
+    elif words[2:] != ["done"]:
         one_of("done", "EMFILE", "unbound", "nostc", "stc base=.. value=..")(" ".join(words[2:]))
+    return Outcome(number(line, BITS_32), first, after, " ".join(words[2:]))
 
 
-def clients_of(lines: Lines) -> list[Rows[Outcome]]:
+def clients_of(lines: Lines) -> list[Outcomes]:
     """What became of the commands of each client, from client 0 on."""
-    found: list[Rows[Outcome]] = []
+    found: list[Outcomes] = []
     while lines.begins("client "):
         right = len(found) < CLIENTS and lines.text == f"client {len(found)}"
         lines.want(right, f"`client {len(found)}`" if len(found) < CLIENTS else "a node or the end, behind client 7")
         lines.go_on()
-        found.append(Rows(Outcome.of))
+        found.append(Outcomes())
         for text in lines.while_they("line "):
-            check_outcome(text)
-            found[-1].append(text)
+            found[-1].append(outcome_of(text))
     return found
 
 
-# What most entries of a long report are: batches, and reads and polls with their usual replies. What has a greater number is left to what reads
-# all other entries, as they are.
-N, C = r"(?:0|[1-9]\d{0,17})", r"(?:0|[1-9]\d{0,8})"
-COMMON = re.compile(
-    rf"({N}) (?:feed {N} pass input=frontend first={N} count={C} at={N} = passed|(c)[0-7] {N} (?:"
-    rf"read {C} at={N} = (?:data ([0-9a-f]+|-)|again ended=[01])|"
-    rf"poll at={N} = ready readable=[01] error=(?:none|overflow|timedout) at={N} ended=[01]))",
-    re.ASCII,
-)
+class Usual(NamedTuple):
+    """The forms of what most entries of a long report are: batches, and reads and polls with their usual replies. What has a greater number is
+    left to what reads all other entries, as they are."""
+
+    passed: re.Pattern[str]
+    looked: re.Pattern[str]
 
 
-def is_common(found: re.Match[str] | None, place: int) -> bool:
-    """Whether a line is such an entry, at this place of its node."""
+# (to make the forms takes as long as to read so many lines without them)
+FEW = 150
+
+
+@lru_cache(None)
+def usual() -> Usual:
+    """The forms, which are made once."""
+    number, count = r"(0|[1-9]\d{0,17})", r"(0|[1-9]\d{0,8})"
+    return Usual(
+        re.compile(rf"{number} feed {number} pass input=frontend first={number} count={count} at={number} = passed", re.ASCII),
+        re.compile(rf"{number} c[0-7] {number} (?:read {count} at={number} = (?:data (?P<data>[0-9a-f]+|-)|again ended=[01])|"
+                   rf"poll at={number} = ready readable=[01] error=(?:none|overflow|timedout) at={number} ended=[01])", re.ASCII),
+    )  # fmt: skip
+
+
+def is_usual(found: re.Match[str] | None, place: int) -> bool:
+    """Whether a line is a usual read or poll, at this place of its node."""
     if found is None or int(found[1]) != place:
         return False
-    digits = found[3] or "-"
+    digits = found["data"] or "-"
     return digits == "-" or len(digits) % 2 == 0 and len(digits) <= 2 * MOST_BYTES
 
 
@@ -644,28 +741,39 @@ def entries_of(lines: Lines) -> Entries:
     """The entries of one node."""
     found, place = Entries(), 0
     while (text := lines.text) is not None and text[:1].isdigit():
-        common = COMMON.fullmatch(text)
-        if not is_common(common, place):
+        forms = usual() if lines.line > FEW else None
+        passed = forms.passed.fullmatch(text) if forms else None
+        if passed and int(passed[1]) == place:
+            found.take_pass(int(passed[2]), int(passed[3]), int(passed[4]), int(passed[5]))
+        elif forms and is_usual(forms.looked.fullmatch(text), place):
+            found.take(text)
+        else:
             check_entry(text, place)
-            common = None
-        if common[2] if common else text.split(" ", 2)[1] != "feed":
-            found.called.append(place)
-        found.append(text)
+            take_other(found, Entry.of(text), text)
         place += 1
         lines.go_on()
     return found
 
 
-def nodes_of(lines: Lines) -> dict[int, Sequence[Entry]]:
+def take_other(entries: Entries, entry: Entry, text: str) -> None:
+    """Takes an entry that was read word by word."""
+    if entry.who == "feed" and entry.act != "end":
+        act = read_act(entry.act)
+        entries.take_pass(entry.step, act["first"], act["count"], act["at"])
+    else:
+        entries.take(text)
+
+
+def nodes_of(lines: Lines) -> dict[int, Entries]:
     """The entries of each printed node, by its number."""
-    found: dict[int, Sequence[Entry]] = {}
+    found: dict[int, Entries] = {}
     while lines.text is not None and lines.begins("node "):
         name = lines.text[5:]
         node = DVR if name == "dvr" else number(name, DVR - 1)
         lines.want(not found or node > max(found), f"a node behind {node_name(max(found, default=0))}")
         lines.go_on()
         entries = found[node] = entries_of(lines)
-        lines.want(entries.called, f"`{len(entries)} WHO STEP ACT = REPLY` of a client")
+        lines.want(next(entries.calls(), None), f"`{len(entries)} WHO STEP ACT = REPLY` of a client")
     return found
 
 
@@ -686,7 +794,7 @@ def read(text: Iterable[str]) -> Report:
     return Report(packets, skipped, rest, rows, clients, nodes, last == "fault read")
 
 
-def what_follows(clients: Sequence[Sequence[Outcome]], nodes: Mapping[int, Sequence[Entry]]) -> str:
+def what_follows(clients: Sequence[Outcomes], nodes: Mapping[int, Entries]) -> str:
     """What may stand behind these parts, for a message."""
     if nodes:
         entry = f"`{len(nodes[max(nodes)])} WHO STEP ACT = REPLY`"

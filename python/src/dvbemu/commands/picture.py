@@ -5,6 +5,7 @@ form of a report is that of docs/BEHAVIOUR.md.
 """
 from __future__ import annotations
 
+import gc
 import io
 import os
 import sys
@@ -33,6 +34,7 @@ def command() -> tool.Command:
 
 def main() -> None:
     """Draws the named report, or the one on standard input."""
+    gc.disable()  # what is made of a report stays until the end
     words = command()
     given = words.parse_args()
     name = given.report if given.report != "-" else None

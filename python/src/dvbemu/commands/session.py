@@ -182,7 +182,7 @@ def rewritten(report: Report, numbers: dict[str, list[int]]) -> Report:
     """The report with the line numbers of the script, which doesn't have the clients behind the last that called."""
     last = max((int(who[1:]) for who in numbers), default=-1)
     lines = [numbers.get(f"c{client}", []) for client in range(last + 1)]
-    clients = [[outcome._replace(line=line) for outcome, line in zip(*pair)] for pair in zip(report.clients, lines)]
+    clients = [reports.Outcomes(outcome._replace(line=line) for outcome, line in zip(*pair)) for pair in zip(report.clients, lines)]
     return report._replace(clients=clients)
 
 

@@ -54,10 +54,12 @@ class Filter(walk.Filter):
         self.places: list[list[int]] = []
         self.empty: list[tuple[int, int]] | None = None
 
-    def take(self, act: Act, pids: Iterable[int]) -> None:
+    def take(self, first: int, after: int, pids: Iterable[int]) -> None:
         """Takes a batch that is surely offered to the capture, by these PIDs."""
         for pid in pids:
-            self.offered.setdefault(pid, Offered()).take(act["first"], act["first"] + act["count"])
+            if pid not in self.offered:
+                self.offered[pid] = Offered()
+            self.offered[pid].take(first, after)
 
     def tell_empty(self) -> None:
         """Nothing has come through up to here."""

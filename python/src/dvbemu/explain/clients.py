@@ -3,6 +3,8 @@ from __future__ import annotations
 
 from array import array
 from bisect import bisect_right
+from itertools import chain
+from operator import eq
 from typing import TYPE_CHECKING, NamedTuple
 
 from ..psi.fields import NAMES, head_of
@@ -12,7 +14,7 @@ from ..stream.packets import PACKET
 if TYPE_CHECKING:
     from typing import Any, Iterator, Mapping, Optional, Sequence, Tuple
 
-    from ..reports import Entry, Outcome, Reply
+    from ..reports import Entries, Entry, Outcomes, Reply
     from .story import Node
 
     # A table_id, a table_id_extension, and whether the sections are those of the table of this number.
@@ -36,12 +38,13 @@ NOTHING = Note()
 
 
 class Call:
-    """A call of a client: its node, its entry, the names of its act and its reply, and what is known of it beside."""
+    """A call of a client: its node, its entry, the names of its act and its reply, the first moment of the report, and what is known of it
+    beside."""
 
-    __slots__ = ("node", "entry", "act", "reply", "note")
+    __slots__ = ("node", "entry", "act", "reply", "start", "note")
 
-    def __init__(self, node: int, entry: Entry, note: Note = NOTHING) -> None:
-        self.node, self.entry, self.note = node, entry, note
+    def __init__(self, node: int, entry: Entry, start: int, note: Note = NOTHING) -> None:
+        self.node, self.entry, self.start, self.note = node, entry, start, note
         self.act = entry.act.partition(" ")[0]
         self.reply = entry.reply.partition(" ")[0]
 
@@ -55,18 +58,19 @@ class Call:
 
 
 class Calls:
-    """The calls of a client. Kept are their steps, nodes and places, and what is known beside their entries, which stay in the report."""
+    """The calls of a client. Kept are their steps, nodes and numbers there, and what is known beside their entries, which stay in the report."""
 
-    def __init__(self, nodes: Mapping[int, Sequence[Entry]]) -> None:
-        self.entries, self.steps, self.nodes, self.places = nodes, array("Q"), array("B"), array("Q")
+    def __init__(self, nodes: Mapping[int, Entries], start: int) -> None:
+        self.start = start
+        self.entries, self.steps, self.nodes, self.numbers = nodes, array("Q"), array("B"), array("Q")
         self.order: Sequence[int] = ()
         self.notes: dict[tuple[int, int], Note] = {}
 
-    def keep(self, call: Call) -> None:
-        """Takes a call, of whatever step."""
+    def keep(self, call: Call, number: int) -> None:
+        """Takes a call, of whatever step, which has this number on its node."""
         self.steps.append(call.entry.step)
         self.nodes.append(call.node)
-        self.places.append(call.entry.place)
+        self.numbers.append(number)
         self.note(call)
 
     def note(self, call: Call) -> None:
@@ -80,12 +84,13 @@ class Calls:
 
     def are_all(self) -> bool:
         """Whether their steps are just those from 0 on."""
-        return all(self.steps[at] == step for step, at in enumerate(self.order))
+        return all(map(eq, map(self.steps.__getitem__, self.order), range(len(self.order))))
 
     def __iter__(self) -> Iterator[Call]:
         for at in self.order:
-            node, place = self.nodes[at], self.places[at]
-            yield Call(node, self.entries[node][place], self.notes.get((node, place), NOTHING))
+            node = self.nodes[at]
+            entry = self.entries[node].call(self.numbers[at])
+            yield Call(node, entry, self.start, self.notes.get((node, entry.place), NOTHING))
 
 
 class Lost(NamedTuple):
@@ -162,34 +167,42 @@ class Waits:
 class Client:
     """What one client asked and got."""
 
-    def __init__(self, number: int, outcomes: Sequence[Outcome], nodes: Mapping[int, Sequence[Entry]]) -> None:
-        self.number, self.outcomes, self.calls, self.writes = number, outcomes, Calls(nodes), False
-        self.firsts, self.lines, self.afters = array("Q"), array("Q"), array("Q")
-        for outcome in outcomes:
-            if outcome.first < outcome.after:
-                self.firsts.append(outcome.first)
-                self.lines.append(outcome.line)
-                self.afters.append(outcome.after)
+    def __init__(self, number: int, outcomes: Outcomes, nodes: Mapping[int, Entries], start: int) -> None:
+        self.number, self.outcomes, self.calls, self.writes = number, outcomes, Calls(nodes, start), False
+        self.command = -1
         self.got: dict[Through, Got] = {}
         self.waits: dict[int, Waits] = {}
         self.lost: list[tuple[int, Call, tuple[int, int]]] = []
         self.timed: list[tuple[int, Call, int | None]] = []
         self.refused: dict[tuple[str, str, int], list[int]] = {}
 
+    def number_of(self, step: int) -> int:
+        """The number of the command that made this call, or -1 where no command did."""
+        outcomes, number = self.outcomes, self.command
+        if number < 0 or not outcomes.firsts[number] <= step < outcomes.afters[number]:
+            self.command = number = bisect_right(outcomes.firsts, step) - 1
+        return number
+
     def line_of(self, step: int) -> int:
         """The line of the command that made this call, or 0 where no command did."""
-        place = bisect_right(self.firsts, step) - 1
-        return self.lines[place] if place >= 0 else 0
+        number = self.number_of(step)
+        return self.outcomes.lines[number] if number >= 0 else 0
 
     def begins(self, step: int) -> bool:
         """Whether this call is the first one of its command."""
-        place = bisect_right(self.firsts, step) - 1
-        return place >= 0 and self.firsts[place] == step
+        number = self.number_of(step)
+        return number >= 0 and self.outcomes.firsts[number] == step
 
     def is_last(self, step: int) -> bool:
         """Whether this call is the last one of its command."""
-        place = bisect_right(self.firsts, step) - 1
-        return place < 0 or self.afters[place] == step + 1
+        number = self.number_of(step)
+        return number < 0 or self.outcomes.afters[number] == step + 1
+
+    def has_all(self) -> bool:
+        """Whether its calls' steps are just those that its commands made."""
+        firsts, afters = self.outcomes.firsts, self.outcomes.afters
+        follow = all(map(eq, firsts, chain([0], afters)))
+        return follow and len(self.calls.steps) == (afters[-1] if afters else 0) and self.calls.are_all()
 
     def refuse(self, line: int, call: Call) -> None:
         """Takes a call that was refused, by its error, its reason and its node."""

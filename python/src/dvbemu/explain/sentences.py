@@ -127,10 +127,15 @@ def act_text(call: Call) -> str:
     return {"open": "opens", "close": "closes", "start": "starts", "stop": "stops"}[call.act] + " " + on
 
 
+def since(start: int, at: int) -> str:
+    """A moment in words, from the first one of the report."""
+    return f"+{at - start:,} ms"
+
+
 def moment_text(call: Call) -> str:
-    """The moment of a call, where it carries one above 0."""
+    """The moment of a call, where it carries one behind the first."""
     at = moment(call.entry)
-    return f" at moment {at}" if at else ""
+    return f" at {since(call.start, at)}" if at is not None and at > call.start else ""
 
 
 # ------ replies
@@ -178,9 +183,10 @@ def data_text(call: Call) -> str:
     return text
 
 
-def expired_text(reply: Reply) -> str:
+def expired_text(call: Call, reply: Reply) -> str:
     """The moments of a timeout."""
-    return f"started at moment {reply['started']} with a timeout of {reply['timeout']} ms, expired at {reply['now']}"
+    started, now = since(call.start, reply["started"]), since(call.start, reply["now"])
+    return f"started at {started} with a timeout of {reply['timeout']} ms, expired at {now}"
 
 
 def reply_text(call: Call) -> str:
@@ -198,7 +204,7 @@ def reply_text(call: Call) -> str:
         first, after = reply["span"]
         return f"Overflow, {many(after - first, 'byte is', 'bytes are')} lost"
     if call.reply == "timedout":
-        return f"TimedOut, {expired_text(reply)}"
+        return f"TimedOut, {expired_text(call, reply)}"
     if call.reply == "ready":
         return ready_text(reply)
     if call.reply == "passed":
@@ -447,7 +453,7 @@ def waits_text(number: int, waits: Waits) -> str:
 def timed_text(line: int, call: Call, pid: int | None) -> str:
     """A TimedOut in words."""
     of = f" of {pids_text([pid])}" if pid is not None else ""
-    return f"line {line}, {node_text(call.node)}: the section filter{of}, {expired_text(reply_of(call.entry))}"
+    return f"line {line}, {node_text(call.node)}: the section filter{of}, {expired_text(call, reply_of(call.entry))}"
 
 
 def refused_text(refused: tuple[str, str, int], lines: Sequence[int]) -> str:

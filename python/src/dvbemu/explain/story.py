@@ -6,10 +6,11 @@ accepted so far are kept beside them.
 from __future__ import annotations
 
 from itertools import chain
+from operator import eq
 from typing import TYPE_CHECKING, NamedTuple
 
 from ..psi.fields import as_hex, is_pes_head
-from ..reports import DVR, act_of, first_moment, moment, reply_of
+from ..reports import DVR, Outcomes, Pass, act_of, first_moment, reply_of
 from ..stream.packets import ALL_PACKETS, LAST_PID, PACKET
 from .captures import Capture, Filter
 from .clients import Call, Client, Got, Through, Waits, lost_by
@@ -158,11 +159,10 @@ class Stumble:
 # ------ the nodes gone through
 
 
-def is_served(report: Report) -> bool:
-    """Whether a report seems to be one of `serve`, where each client counts its commands from 1, and each call has the machine's time."""
-    counted = (outcome.line == number for outcomes in report.clients for number, outcome in enumerate(outcomes, 1))
-    moments = (moment(entry) for entries in report.nodes.values() for entry in entries)
-    return bool(report.clients) and all(counted) and next((at for at in moments if at is not None), 0) > 0
+def is_served(report: Report, first: int) -> bool:
+    """Whether a report, with this first moment, seems to be one of `serve`, where each client counts its commands from 1, and each call has the
+    machine's time."""
+    return first > 0 and bool(report.clients) and all(all(map(eq, outcomes.lines, range(1, len(outcomes) + 1))) for outcomes in report.clients)
 
 
 def joints(report: Report) -> int:
@@ -172,7 +172,7 @@ def joints(report: Report) -> int:
     breaks = [row.breaks for row in report.pids if row.breaks]
     most = max(breaks, default=0)
     is_alike = all(count >= most - 1 for count in breaks) and 2 * breaks.count(most) > len(breaks) > 1
-    return most if is_alike and is_served(report) else 0
+    return most if is_alike else 0
 
 
 def other_size(packets: int, skipped: int) -> int | None:
@@ -209,18 +209,25 @@ class Story:
         self.ran = False
         self.silent: list[tuple[int, Filter]] = []
         self.exact: list[tuple[int, int, int, tuple[int, int], Lost]] = []
-        self.clients = {number: Client(number, outcomes, report.nodes) for number, outcomes in enumerate(report.clients)}
         self.packets = {row.pid: row for row in report.pids}
         self.stumbles: dict[tuple[str, int | None, int | None, Hashable], Stumble] = {}
-        self.first_moment, self.is_served, self.joints = first_moment(report), is_served(report), joints(report)
+        start = self.first_moment = first_moment(report)
+        self.clients = {number: Client(number, outcomes, report.nodes, start) for number, outcomes in enumerate(report.clients)}
+        self.is_served = is_served(report, self.first_moment)
+        self.joints = joints(report) if self.is_served else 0
         # Nodes where reads waited behind an Overflow, and those whose later captures would have begun at other packets without it.
         self.waited: set[int] = set()
         self.unsure: set[int] = set()
         self.is_misread = self.look_at_skipped()
         for number, entries in sorted(report.nodes.items()):
             node = Node(number, self)
-            for entry in entries:
-                self.take(node, entry)
+            for row in entries.rows():
+                if isinstance(row, Pass):
+                    self.take_pass(node, row)
+                elif row.who == "feed":
+                    node.end = row.place
+                else:
+                    self.take(node, row)
             self.leave_capture(node)
             self.leave_filter(node)
             for tapped in list(node.taps):
@@ -265,9 +272,9 @@ class Story:
 
     def look_at_slots(self, client: Client) -> None:
         """Notes the commands on a slot that is bound to no node."""
-        for outcome in client.outcomes:
-            if outcome.kind == "unbound":
-                self.stumble("unbound", client.number, None, outcome.line)
+        for number, kind in client.outcomes.others.items():
+            if kind == "unbound":
+                self.stumble("unbound", client.number, None, client.outcomes.lines[number])
 
     @staticmethod
     def look_at_writes(client: Client) -> None:
@@ -304,15 +311,12 @@ class Story:
         return self.stumbles[key]
 
     def take(self, node: Node, entry: Entry) -> None:
-        """Goes over one entry of a node."""
-        if entry.who == "feed":
-            self.take_feed(node, entry)
-            return
+        """Goes over a client's entry of a node."""
         number = int(entry.who[1])
         if number not in self.clients:
-            self.clients[number] = Client(number, [], self.report.nodes)
+            self.clients[number] = Client(number, Outcomes(), self.report.nodes, self.first_moment)
         client = self.clients[number]
-        call, line = Call(node.number, entry), client.line_of(entry.step)
+        call, line = Call(node.number, entry, self.first_moment), client.line_of(entry.step)
         self.end_wait(node, client, call, line)
         node.calls += 1
         if call.reply[0] == "E":
@@ -329,29 +333,25 @@ class Story:
             self.take_played(node, client, call)
         else:
             self.take_change(node, client, call, line)
-        client.calls.keep(call)
+        client.calls.keep(call, entry.place - node.passes)
 
-    def take_feed(self, node: Node, entry: Entry) -> None:
-        """A batch or End passes a node."""
-        if entry.act == "end":
-            node.end = entry.place
-            return
-        act = act_of(entry)
+    def take_pass(self, node: Node, batch: Pass) -> None:
+        """A batch passes a node."""
         node.passes += 1
-        node.passed, node.batch = act["first"] + act["count"], act["count"]
+        node.passed, node.batch = batch.first + batch.packets, batch.packets
         if node.taps and node.owner is None:
-            node.free_packets += act["count"]
+            node.free_packets += batch.packets
         if node.capture and not (node.filter and node.filter.is_played) and (node.runs or node.number == DVR):
-            self.offer(node, node.capture, act)
+            self.offer(node, node.capture, batch)
 
-    def offer(self, node: Node, capture: Capture, act: Act) -> None:
+    def offer(self, node: Node, capture: Capture, batch: Pass) -> None:
         """A batch of the stream is offered to a capture, where its timeout isn't over."""
-        is_in_time = node.due is None or act["at"] < node.due
+        is_in_time = node.due is None or batch.at < node.due
         if node.filter and is_in_time:
-            node.filter.take(act, node.pids)
+            node.filter.take(batch.first, node.passed, node.pids)
         if self.stream and (is_in_time or node.filter and node.filter.gave):
             pids = node.pids if node.filter else {pid for _, pids in node.attached.values() for pid in pids}
-            capture.places += self.stream.places(pids, act["first"], node.passed)
+            capture.places += self.stream.places(pids, batch.first, node.passed)
 
     def take_played(self, node: Node, client: Client, call: Call) -> None:
         """Packets that a client has written pass a node."""

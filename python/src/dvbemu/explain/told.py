@@ -9,7 +9,7 @@ from ..psi.fields import pid_text
 from . import sentences
 from .hints import hint_text, rule_texts
 from .sentences import asked_texts, got_text, joined, lost_text, refused_text, timed_text, waits_text
-from .story import Story, joints
+from .story import Story
 
 if TYPE_CHECKING:
     from typing import Callable, Iterable, Iterator, ParamSpec, Sequence, Union
@@ -73,11 +73,10 @@ def pid_row_text(row: reports.PidCount, is_loop: bool) -> str:
     return "no break, duplicate or error"
 
 
-def stream_lines(report: reports.Report) -> list[Row]:
+def stream_lines(report: reports.Report, is_loop: bool) -> list[Row]:
     """What the stream was."""
     head = f"{many(report.packets, 'packet')}, {many(report.skipped, 'byte')} skipped, {many(report.rest, 'byte')} left over at the end."
     lines: list[Row] = ["The stream", "", *wrapped(head, 2)]
-    is_loop = joints(report) > 0
     for row in report.pids:
         lines += wrapped(f"PID {pid_text(row.pid)}: {many(row.packets, 'packet')}, {pid_row_text(row, is_loop)}.", 2)
     if report.read_fault:
@@ -189,10 +188,7 @@ def check_steps(report: reports.Report, story: Story) -> None:
         if number >= len(report.clients):
             raise reports.ReportError(line + 1, f"`client {number}`, of which a node has an entry")
         line += 1 + len(client.outcomes)
-        step = 0
-        for outcome in client.outcomes:
-            step = outcome.after if outcome.first == step else -1
-        if step != len(client.calls.steps) or not client.calls.are_all():
+        if not client.has_all():
             what = f"the commands of client {number} up to here to have just the steps of its entries"
             raise reports.ReportError(line, what)
 
@@ -207,7 +203,7 @@ def story_of(report: reports.Report, stream: Stream | None = None) -> Story:
 def page(report: reports.Report, part: Part, stream: Stream | None = None) -> str:
     """The whole page, or a part of it, without the part on the stream alone."""
     story = story_of(report, stream)
-    lines = stream_lines(report) if part == Part() else []
+    lines = stream_lines(report, story.joints > 0) if part == Part() else []
     shown = [client for number, client in sorted(story.clients.items()) if part.of_client(number)
              and (part.node is None or part.node in client.calls.nodes)]  # fmt: skip
     asking = [client for client in shown if client.outcomes]

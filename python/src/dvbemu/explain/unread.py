@@ -11,17 +11,19 @@ from __future__ import annotations
 from typing import TYPE_CHECKING, NamedTuple
 
 from .. import reports
+from ..reports import Pass
 from ..psi.fields import pid_name
 from ..stream.packets import ALL_PACKETS, PACKET
 from .walk import Answered, Walk
 
 if TYPE_CHECKING:
-    from typing import Callable, Iterable, Mapping, Tuple
+    from typing import Callable, Mapping, Tuple, Union
 
-    from ..reports import Act, Entry, Reply
+    from ..reports import Act, Entries, Entry, Reply
 
-    # PIDs in a few words, and in fewer.
+    # PIDs in a few words, and in fewer; and an entry with its act, or a batch.
     Label = Tuple[str, str]
+    See = Callable[[Union[Entry, Pass], Union[Act, None]], None]
 
 MOST_NAMED = 4
 
@@ -107,17 +109,21 @@ class History(Walk):
     """A node's captures, its size behind each entry, and the least and the most bytes that may be unread behind each entry (None
     where nothing tells them). The entries are gone through once, and each is shown to `see`."""
 
-    def __init__(self, node: int, entries: Iterable[Entry], see: Callable[[Entry, Act], None] | None = None) -> None:
+    def __init__(self, node: int, entries: Entries, see: See | None = None) -> None:
         super().__init__(node)
         self.capture: Capture | None = None
         self.sizes: list[int | None] = []
         self.captures: list[Capture] = []
-        for entry in entries:
-            act = reports.act_of(entry)
-            self.take(entry, act)
+        for row in entries.rows():
+            act = None
+            if not isinstance(row, Pass):
+                act = reports.act_of(row)
+                self.take(row, act)
+            elif self.capture and self.capture.quiet is None:
+                self.take_pass(self.capture, row.place, row.at, row.packets, False)
             self.sizes.append(self.size)
             if see:
-                see(entry, act)
+                see(row, act)
         self.low: list[int | None] = [0] * len(self.sizes)
         self.high: list[int | None] = [0] * len(self.sizes)
         for capture in self.captures:
@@ -136,25 +142,25 @@ class History(Walk):
         name, capture = act["name"], self.capture
         if name == "pass":
             if capture and capture.quiet is None:
-                self.take_pass(capture, entry, act)
+                self.take_pass(capture, entry.place, act["at"], act["count"], True)
         elif name not in ("read", "poll"):
             if (reply := reports.reply_of(entry))["name"] == "done":
                 self.accept(entry, act, reply)
         elif capture and (reply := reports.reply_of(entry))["name"] not in reports.REFUSALS:
-            self.note_moment(capture, entry, act)
+            self.note_moment(capture, entry.place, act["at"])
             (self.take_read if name == "read" else self.take_poll)(capture, entry, act, reply)
 
-    def note_moment(self, capture: Capture, entry: Entry, act: Act) -> None:
+    def note_moment(self, capture: Capture, place: int, at: int) -> None:
         """Notes the first entry at which the timeout may be over."""
-        if self.due is not None and capture.over is None and capture.quiet is None and act["at"] >= self.due:
-            capture.over = entry.place
+        if self.due is not None and capture.over is None and capture.quiet is None and at >= self.due:
+            capture.over = place
 
-    def take_pass(self, capture: Capture, entry: Entry, act: Act) -> None:
+    def take_pass(self, capture: Capture, place: int, at: int, count: int, is_written: bool) -> None:
         """A batch passes, of the stream or of what a client has written."""
-        self.note_moment(capture, entry, act)
-        is_taken = (act["input"] == "dvr") == (self.filter is not None and self.filter.is_played)
-        capture.packets += act["count"] if is_taken else 0
-        capture.keep(entry.place)
+        self.note_moment(capture, place, at)
+        if is_written == (self.filter is not None and self.filter.is_played):
+            capture.packets += count
+        capture.keep(place)
 
     def take_read(self, capture: Capture, entry: Entry, act: Act, reply: Reply) -> None:
         """A read and what it tells."""
@@ -236,6 +242,8 @@ class History(Walk):
             levels = (max(0, min(low, most)), max(0, min(high, most))) if is_told else (None, None)
             for at in range(place, until):
                 self.low[at], self.high[at] = levels
+        # (what was kept behind each entry isn't asked for any longer)
+        capture.steps, capture.known = [], []
 
     def fill_before(self, clear: int, told: int, place: int, reply: Reply, capture: Capture, bounds: list[tuple[int, int]]) -> Loss:
         """The overflow span with the places behind which it may have come and has come: the buffer is as full then as it says, and

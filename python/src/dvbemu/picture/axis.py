@@ -7,6 +7,7 @@ two calls on two nodes can stand on two sides of a batch though they came the ot
 from __future__ import annotations
 
 from array import array
+from itertools import accumulate, groupby
 from typing import TYPE_CHECKING
 
 from .. import reports
@@ -14,7 +15,7 @@ from .marks import Group
 from .svg import LEFT, STRIP, WIDTH
 
 if TYPE_CHECKING:
-    from typing import Iterable, Sequence, Tuple, TypeVar, Union
+    from typing import Iterable, Iterator, Sequence, Tuple, TypeVar, Union
 
     from ..reports import Entry, Outcome, Report
 
@@ -71,6 +72,35 @@ class Gap:
             behind.update(dict.fromkeys(keys, places[client, step] + 1))
 
 
+class Calls:
+    """The calls of all nodes, in the order of each node: how many batches had passed, the node and the client of each, and its step, or the
+    number in `others` of what stands in its place."""
+
+    NONE = 255
+
+    def __init__(self) -> None:
+        self.passed, self.nodes, self.clients, self.steps = array("Q"), array("B"), array("B"), array("Q")
+        self.others: list[Step] = []
+
+    def add(self, passed: int, node: int | None, client: int, step: Step) -> None:
+        """Puts a call behind the others; node is None for a command that makes none."""
+        self.passed.append(passed)
+        self.nodes.append(self.NONE if node is None else node)
+        self.clients.append(client)
+        self.steps.append(step if isinstance(step, int) else len(self.others))
+        self.others += [] if isinstance(step, int) else [step]
+
+    def gaps(self) -> Iterator[tuple[int, Gap]]:
+        """The calls between the batches, by how many had passed."""
+        order = array("Q", sorted(range(len(self.passed)), key=self.passed.__getitem__))
+        for passed, places in groupby(order, self.passed.__getitem__):
+            gap = Gap()
+            for at in places:
+                node, step = self.nodes[at], self.steps[at]
+                gap.add(*(None, self.clients[at], self.others[step]) if node == self.NONE else (node, self.clients[at], step))
+            yield passed, gap
+
+
 def order_of(call: tuple[Step, int | None]) -> tuple[int, ...]:
     """Where a call stands among those of its client: a command that makes none behind the call of the step before it."""
     return call[0] if isinstance(call[0], tuple) else (call[0],)
@@ -84,42 +114,39 @@ class Axis:
         self.width = width
         self.calls: dict[int, dict[Step, int]] = {client: {} for client in range(reports.CLIENTS)}
         self.refused: dict[int, set[int]] = {client: set() for client in range(reports.CLIENTS)}
-        gaps = self.gaps_of(report)
+        calls = self.calls_of(report)
         self.widths, self.batches, column = [0] * (self.passes + 1), array("Q"), 0
-        for number in range(self.passes + 1):
-            if gap := gaps.pop(number, None):
-                places = gap.place()
-                self.widths[number] = max(places.values()) + 1
-                for (client, step), place in places.items():
-                    self.calls[client][step] = column + place
-            column += self.widths[number] + 1
-            self.batches.append(column - 1)
+        for number, gap in calls.gaps():
+            places, begin = gap.place(), column + number
+            self.widths[number] = max(places.values()) + 1
+            for (client, step), place in places.items():
+                self.calls[client][step] = begin + place
+            column += self.widths[number]
+        self.batches.extend(number + wide for number, wide in enumerate(accumulate(self.widths)))
         self.count = self.batches.pop()
         self.gathers = self.count * CELL > width
         self.edges: Sequence[float] = array("d", self.gathered_edges()) if self.gathers else self.plain_edges()
         self.right: float = self.edges[-1]
         self.cuts = self.strips()
 
-    def gaps_of(self, report: Report) -> dict[int, Gap]:
-        """The calls between the batches, by how many had passed: also the commands that make none, or none that a node has."""
-        found: dict[int, Gap] = {}
-        seen: dict[int, dict[int, int]] = {client: {} for client in range(reports.CLIENTS)}
-        passes: list[int] = []
+    def calls_of(self, report: Report) -> Calls:
+        """The calls of all nodes, each with how many batches had passed: also the commands that make none, or none that a node has."""
+        found, passes = Calls(), []
         for node, entries in report.nodes.items():
             count = 0
-            for count, entry in enumerate(reports.calls_of(entries), 1):
+            for count, entry in enumerate(entries.calls(), 1):
                 client, passed = int(entry.who[1]), entry.place - count + 1
-                found.setdefault(passed, Gap()).add(node, client, entry.step)
-                seen[client][entry.step] = passed
+                found.add(passed, node, client, entry.step)
+                self.calls[client][entry.step] = passed
                 is_refused = entry.reply.partition(" ")[0] in (*reports.REFUSALS, "busy")
                 (self.refused[client].add if is_refused else self.refused[client].discard)(entry.step)
             passes.append(len(entries) - count)
         self.passes, self.has_batches = max(passes, default=0), any(passes[:1])
         for client, outcomes in enumerate(report.clients):
+            seen = self.calls[client]
             for number, outcome in enumerate(outcomes):
-                if not any(step in seen[client] for step in ends_of(outcome)):
-                    passed = seen[client].get(outcome.first - 1, 0)
-                    found.setdefault(passed, Gap()).add(None, client, (outcome.first - 1, number))
+                if not any(step in seen for step in ends_of(outcome)):
+                    found.add(seen.get(outcome.first - 1, 0), None, client, (outcome.first - 1, number))
         return found
 
     def command(self, client: int, number: int, outcome: Outcome) -> tuple[int, int]:

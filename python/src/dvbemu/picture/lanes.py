@@ -6,6 +6,7 @@ from collections import Counter
 from typing import TYPE_CHECKING, NamedTuple
 
 from .. import reports
+from ..reports import Pass
 from ..explain import unread
 from .marks import BOXES, ROW, Group, error_of, gather, rows_of
 from .svg import (
@@ -16,7 +17,7 @@ from .svg import (
 if TYPE_CHECKING:
     from typing import Iterable, Iterator, Sequence, TypeVar
 
-    from ..reports import Act, Entry, Report
+    from ..reports import Act, Entries, Entry, Report
     from .axis import Axis
     from .marks import Groups
     from .svg import Step
@@ -66,7 +67,7 @@ class Filled(NamedTuple):
 class Lane:
     """The picture of one node, from the height y on. What it uses of the legend is in `used`."""
 
-    def __init__(self, node: int, entries: Sequence[Entry], axis: Axis, y: float, seen: Seen) -> None:
+    def __init__(self, node: int, entries: Entries, axis: Axis, y: float, seen: Seen) -> None:
         self.node, self.name, self.axis, self.y, self.seen = node, reports.node_name(node), axis, y, seen
         self.used: set[str] = set()
         self.columns, self.batches = array("Q"), iter(axis.batches)
@@ -87,23 +88,27 @@ class Lane:
         largest = max((size for size, level in zip(self.history.sizes, high) if size and (level or not self.most)), default=1)
         self.top = largest * 1.15 if largest <= 3 * self.most or not self.most else self.most * 1.4
 
-    def see(self, entry: Entry, act: Act) -> None:
+    def see(self, row: Entry | Pass, act: Act | None) -> None:
         """Takes the next entry."""
-        axis, seen = self.axis, self.seen
-        if entry.who == "feed":
-            column = next(self.batches)
+        if isinstance(row, Pass):
+            column, at = next(self.batches), row.at
         else:
-            client, is_done = int(entry.who[1]), entry.reply.startswith("done ")
-            column = axis.calls[client][entry.step]
-            gather(self.groups, axis.cell(column), entry)
-            self.counts[act["name"] if is_done else error_of(entry)] += 1
-            self.is_quiet = self.is_quiet and (not is_done or act["name"] in QUIET_CALLS)
-            if (client, entry.step) in seen.wanted:
-                seen.calls[client, entry.step] = self.node, entry
+            column = next(self.batches) if row.who == "feed" else self.see_call(row)
+            at = act.get("at", -1) if act else -1
         self.columns.append(column)
-        at = act.get("at")
-        if at is not None and at > (seen.moments[column] or -1):
-            seen.moments[column] = at
+        if at > (self.seen.moments[column] or -1):
+            self.seen.moments[column] = at
+
+    def see_call(self, entry: Entry) -> int:
+        """Takes a client's entry, and tells its column."""
+        client, is_done, name = int(entry.who[1]), entry.reply.startswith("done "), name_of(entry)
+        column = self.axis.calls[client][entry.step]
+        gather(self.groups, self.axis.cell(column), entry)
+        self.counts[name if is_done else error_of(entry)] += 1
+        self.is_quiet = self.is_quiet and (not is_done or name in QUIET_CALLS)
+        if (client, entry.step) in self.seen.wanted:
+            self.seen.calls[client, entry.step] = self.node, entry
+        return column
 
     def left(self, place: int) -> float:
         """The left edge of an entry's column, or the axis' right end behind the last."""

@@ -59,7 +59,7 @@ def sentence(row: told.Row) -> str:
 def sentences_of(report: reports.Report, story: Story) -> str:
     """What explain tells but for what was asked, which the list has; the hints first."""
     whole = told.Part()
-    rows = told.hint_lines(story, whole) + ["", *told.stream_lines(report)]
+    rows = told.hint_lines(story, whole) + ["", *told.stream_lines(report, story.joints > 0)]
     for _, client in sorted(story.clients.items()):
         rows += told.client_lines(client, whole, False) if client.outcomes else []
     return "\n".join(filter(None, map(sentence, rows)))

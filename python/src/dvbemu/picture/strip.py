@@ -5,6 +5,7 @@ from collections import Counter
 from typing import TYPE_CHECKING
 
 from .. import reports
+from ..reports import Pass
 from .axis import CELL
 from .lanes import Part
 from .marks import BOXES, Group, reply_words
@@ -82,15 +83,15 @@ class Strip:
         found = [side(y + 15, "packets passed"), side(y + 31, "batch"),
                  line(LEFT, y + 21, axis.right, y + 21, f'stroke="{BLACK}" stroke-width="0.7"')]  # fmt: skip
         numbers, wide = self.labels(y + 31), axis.cell_width() - 1.5
-        groups: dict[int, Group[tuple[int, Entry]]] = {}
-        passes = (entry for entry in next(iter(self.report.nodes.values())) if entry.who == "feed")
-        for number, entry in enumerate(passes):
+        groups: dict[int, Group[tuple[int, Entry | Pass]]] = {}
+        passes = (row for row in next(iter(self.report.nodes.values())).rows() if isinstance(row, Pass) or row.who == "feed")
+        for number, row in enumerate(passes):
             cell = axis.cell(axis.batches[number])
-            groups.setdefault(cell, Group()).add((number, entry))
-            packets[cell] += reports.act_of(entry).get("count", 0)
+            groups.setdefault(cell, Group()).add((number, row))
+            packets[cell] += row.packets if isinstance(row, Pass) else 0
         for cell, group in groups.items():
             x = axis.cell_middle(cell)
-            words = group.words(lambda thing: f"feed {thing[1].step} {thing[1].act}")
+            words = group.words(lambda thing: feed_words(thing[1]))
             found.append(rect(x - wide / 2, y + 4, wide, 16, f'fill="{SKY}" fill-opacity="0.5"', words))
             found.append(text(x, y + 15, short_number(packets[cell]) if packets[cell] else "end", SMALL, MIDDLE))
             found += numbers.number_at(x, str(group.shown[0][0]) if packets[cell] else "end")
@@ -200,6 +201,12 @@ class Strip:
                 node, entry = self.calls[client, step]
                 words += f"; step {step} on {reports.node_name(node)}: {entry.act} = {reply_words(entry.reply)}"
         return words
+
+
+def feed_words(row: Entry | Pass) -> str:
+    """What passes, for a title."""
+    entry = row.entry() if isinstance(row, Pass) else row
+    return f"feed {entry.step} {entry.act}"
 
 
 def short_count(count: int, name: str, room: float) -> str:

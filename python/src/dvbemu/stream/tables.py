@@ -5,13 +5,13 @@ A section is one of these tables where its table_id, its length, its form and it
 """
 from __future__ import annotations
 
-import datetime
 from typing import TYPE_CHECKING, NamedTuple
 
 from ..errors import Error
 from .sections import crc, section, short_section, with_crc, with_length
 
 if TYPE_CHECKING:
+    import datetime
     from typing import Dict, Iterable, Mapping, Sequence, Tuple
 
     # The numbers of a table, or of one of the things that it lists, by their names in the standard.
@@ -19,8 +19,8 @@ if TYPE_CHECKING:
     # A field's name, which is empty where its bits are reserved, and how many bits it has.
     Layout = Sequence[Tuple[str, int]]
 
-# The first day of the Modified Julian Date.
-EPOCH = datetime.date(1858, 11, 17)
+# The first day of the Modified Julian Date, 1858-11-17, as a number that `datetime.date` counts days by.
+EPOCH = 678576
 # What stands behind its own length, and not in the fields.
 LOOPS = "descriptors", "parts"
 
@@ -131,12 +131,13 @@ def moment_text(time: int) -> str | None:
     days, digits = time >> 24, f"{time & 0xFFFFFF:06x}"
     if not digits.isdecimal():
         return None
-    return f"{EPOCH + datetime.timedelta(days=days)} {digits[:2]}:{digits[2:4]}:{digits[4:]}"
+    import datetime  # pylint: disable=import-outside-toplevel
+    return f"{datetime.date.fromordinal(EPOCH + days)} {digits[:2]}:{digits[2:4]}:{digits[4:]}"
 
 
 def moment(time: datetime.datetime) -> int:
     """A time as these bits."""
-    return (time.date() - EPOCH).days << 24 | int(f"{time:%H%M%S}", 16)
+    return (time.date().toordinal() - EPOCH) << 24 | int(f"{time:%H%M%S}", 16)
 
 
 # ------ reading
