@@ -167,7 +167,7 @@ def test_unseen_are_told(served, small):
     """At the start, and at the end that nobody has opened the adapter."""
     path = small("-static")
     out = ran([SERVE, *PACED, served.stream, "--", path]).stdout
-    assert out.startswith(f"dvbemu serve: {path} is linked statically: it will not see the emulated adapter\n")
+    assert out.startswith(f"dvbemu serve: {path} is linked statically, so it won't see the adapter: use dvbemu serve --fuse\n")
     assert "\ndvbemu serve: no program opened the adapter; " in out
 
 
