@@ -48,15 +48,14 @@ struct syscall {
 
 /*
  * A call that waits: since when and for how long at most, -1 without end; how many descriptors it waits for; its devices, and which
- * of them have something, or were polled once more at the end of the time; whether it was told that it waits; and how often the
- * thread wasn't seen in it.
+ * of them have something, or were polled once more at the end of the time; and whether it was told that it waits.
  */
 static struct waiting {
 	struct traced who;
 	struct syscall at;
 	const struct known *known;
 	long begun, time;
-	int count, is_told, looks_away;
+	int count, is_told;
 	size_t devices;
 	uint32_t device[MOST_TOLD];
 	char is_ready[MOST_TOLD], is_last[MOST_TOLD];
@@ -322,13 +321,13 @@ static void look_at_threads(const struct member *member)
 		closedir(all);
 }
 
-/* looks at a call that waits: the thread is in it, in another one, or runs, which it may do for a moment as it looks again */
+/* looks at a call that waits: one that sleeps in another call has ended it; of one that runs, or wants to, that isn't known */
 static void look_at(struct waiting *one)
 {
 	struct syscall at;
-	int is_asleep = syscall_of(one->who.thread, &at);
-	one->looks_away = is_asleep ? 0 : one->looks_away + 1;
-	if (is_asleep ? !is_same(&at, &one->at) : one->looks_away > 1)
+	if (!syscall_of(one->who.thread, &at))
+		return;
+	if (!is_same(&at, &one->at))
 		return end(one);
 	if (one->is_told || ready_of(one))
 		return;

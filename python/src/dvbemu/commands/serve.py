@@ -297,10 +297,10 @@ def serve(options: Namespace, command: Sequence[str], air: Sequence[Sequence[Cha
         trace = Trace(folder.adapters[0], sys.stderr) if options.trace else None
         status = run_command(command, folder, mount, signals)
         end_all_but({adapter.server.pid for adapter in adapters} | ({mount.pid} if mount else set()), folder)
-        if trace:
-            trace.end()
         if mount:
             mount.end()
+        if trace:
+            trace.end()
         for adapter in adapters:
             adapter.end()
     except BaseException:
