@@ -47,8 +47,8 @@ struct syscall {
 };
 
 /*
- * A call that waits: since when and for how long at most, -1 without end; how many descriptors it waits for; its devices, and which
- * of them have something, or were polled once more at the end of the time; and whether it was told that it waits.
+ * A call that waits: since when and for how long at most, -1 without end; how many descriptors it waits for; its devices, and
+ * which of them have something, or were polled once more at the end of the time; and whether it was told that it waits.
  */
 static struct waiting {
 	struct traced who;
