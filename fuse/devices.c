@@ -1,8 +1,9 @@
 /*
  * /dev/dvb by FUSE: files whose opens, reads, ioctls and polls are requests on the lines of preload/line.c, a line for each
  * program that has a demux or a dvr open, by its process's number. One thread does all in the order in which the kernel tells
- * it, so that a device which one program has closed is free for the next. A call that waits is kept until its node's bell
- * rings (preload/watch.c has what a bell is), its filter's timeout is over, or a signal ends it.
+ * it, so that a device which one program has closed is free for the next. Reads of several programs are asked for at once, one
+ * on each line, and their replies are taken as they come. A call that waits is kept until its node's bell rings
+ * (preload/watch.c has what a bell is), its filter's timeout is over, or a signal ends it.
  *
  * The kernel copies an ioctl's argument by the size that its number has. The lists of FE_SET_PROPERTY and FE_GET_PROPERTY
  * stand in the memory of the program, where they are read and written.
@@ -35,32 +36,43 @@ enum { ALL = -1, PAUSE_MS = 10, FOR_EVER = 1000000 };
 enum { FORKED = 0x40, MOST_PARENTS = 16 };
 enum { EVENTS = POLLIN | POLLRDNORM | POLLPRI, READ_ONLY_DIRECTORY = 0755, FREE_FOR_ALL = 0666 };
 
-/* A program on an adapter: its line, the names of the line's pipes until it has a seat, and until when it waits for one, or 0. */
+/*
+ * A program on an adapter: its line, the names of the line's pipes until it has a seat, and until when it waits for one, or 0;
+ * and the read that its server was asked for, whose reply hasn't been taken.
+ */
 static struct program {
 	struct line line;
 	pid_t pid;
 	int is_used, has_ended, pidfd, adapter, files;
 	long until;
+	struct wait *asked;
 	char ask[PATH], tell[PATH];
 } programs[MOST_PROGRAMS];
 
-/* an open device; `poll` is whom to tell where it may have something */
+/* an open device; `poll` is whom to tell where it may have something, and `who` has called last */
 struct file {
 	struct device device;
 	struct program *program;
 	int adapter, flags, lock;
 	struct fuse_pollhandle *poll;
+	struct traced who;
 	struct file *next;
 };
 
-/* a call that waits: an open, a read of which some bytes may be there, or FE_GET_EVENT */
+/*
+ * A call that waits: an open, FE_GET_EVENT, or a read. That is to be asked for, is asked for, or sleeps until the bell rings,
+ * which may have rung meanwhile. It has `done` of the bytes that there is room for, of which the last request asks for `most`.
+ */
+enum { DUE, ASKED, SLEEPS };
 struct wait {
 	fuse_req_t request;
 	struct file *file;
-	int verb, is_over;
+	int verb, state, has_rung, is_over;
 	struct fuse_file_info info;
+	struct traced who;
 	char *bytes;
-	size_t size, done;
+	size_t size, room, done;
+	uint32_t most;
 	struct wait *next;
 };
 
@@ -167,7 +179,7 @@ int is_writable(void *to, const void *from, size_t count)
 /* ------ programs */
 
 /* fills in what a file of /proc tells of a process, as text */
-static void read_of(pid_t process, const char *name, char *into, size_t room)
+void read_of(pid_t process, const char *name, char *into, size_t room)
 {
 	char path[64];
 	snprintf(path, sizeof path, "/proc/%d/%s", process, name);
@@ -196,6 +208,24 @@ static pid_t parent_of(pid_t process)
 	read_of(process, "stat", told, sizeof told);
 	const char *at = strrchr(told, ')');
 	return at && sscanf(at, ") %*c %d %*d %*d %*d %*d %u", &parent, &flags) == 2 && flags & FORKED ? parent : 0;
+}
+
+static struct traced asker_of(fuse_req_t request)
+{
+	pid_t thread = fuse_req_ctx(request)->pid;
+	struct traced who = { process_of(thread), thread, "" };
+	read_of(who.process, "comm", who.name, sizeof who.name);
+	who.name[strcspn(who.name, "\n")] = 0;
+	return who;
+}
+
+/* whose call is told from now on, where calls are told */
+static void called_by(fuse_req_t request)
+{
+	if (!traces())
+		return;
+	wait_left(fuse_req_ctx(request)->pid);
+	traced = asker_of(request);
 }
 
 static void end_program(struct program *program)
@@ -258,10 +288,85 @@ static struct program *program_of(pid_t thread, int adapter)
 
 static struct file *file_of(const struct fuse_file_info *info) { return (struct file *)(uintptr_t)info->fh; }
 
-static int ask_node(struct file *file, uint32_t verb, uint32_t number, const void *argument, uint32_t length, struct reply *reply,
-		    void *into)
+static void let_wait_go(struct wait **at)
 {
-	return ask(&file->program->line, verb, file->device.node, number, argument, length, reply, into);
+	struct wait *wait = *at;
+	*at = wait->next;
+	free(wait->bytes);
+	free(wait);
+}
+
+/* a read has ended, with an error or the bytes that it has */
+static void end_read(struct wait *wait, int error)
+{
+	struct wait **at = &waits;
+	error = wait->done ? 0 : error;
+	traced = wait->who;
+	trace(READ, wait->file->adapter, wait->file->device.node, (uint32_t)wait->size, NULL, 0,
+	      error ? error : (long)wait->done);
+	if (error)
+		fuse_reply_err(wait->request, -error);
+	else
+		fuse_reply_buf(wait->request, wait->bytes, wait->done);
+	while (*at != wait)
+		at = &(*at)->next;
+	let_wait_go(at);
+}
+
+/* A read goes on behind a reply. A section filter gives one section; any other node is read until all bytes are there, where the
+ * read waits. */
+static void read_on(struct wait *wait, int error, uint32_t length)
+{
+	struct device *device = &wait->file->device;
+	int waits_on = !(wait->info.flags & O_NONBLOCK), is_empty = error == -EAGAIN;
+	wait->done += length;
+	int is_whole = device->section || !length || wait->done == wait->room || (length < wait->most && !waits_on);
+	wait->state = is_empty && !wait->has_rung ? SLEEPS : DUE;
+	device->state = is_empty && !wait->has_rung ? QUIET : UNKNOWN;
+	if (is_empty ? !waits_on : error || is_whole)
+		return end_read(wait, error);
+	if (wait->is_over)
+		return end_read(wait, -EINTR);
+	traced = wait->who;
+	if (is_empty)
+		trace(READ, wait->file->adapter, device->node, (uint32_t)wait->size, NULL, 0, TRACE_WAITS);
+}
+
+/* takes the reply to the read that a program's server was asked for */
+static void take_asked(struct program *program)
+{
+	struct wait *wait = program->asked;
+	struct reply reply = { 0 };
+	if (!wait)
+		return;
+	program->asked = NULL;
+	int error = take_read(&program->line, &reply, wait->bytes + wait->done, wait->most);
+	read_on(wait, error, error ? 0 : reply.length);
+}
+
+/* asks for a program's next read that is due, unless one is asked for already */
+static void ask_next(struct program *program)
+{
+	for (struct wait *wait = waits, *next; wait && !program->asked; wait = next) {
+		next = wait->next;
+		if (wait->verb != READ || wait->state != DUE || wait->file->program != program)
+			continue;
+		wait->most = wait->room - wait->done < MOST_READ ? (uint32_t)(wait->room - wait->done) : MOST_READ;
+		wait->has_rung = 0;
+		if (ask_read(&program->line, wait->file->device.node, wait->most)) {
+			end_read(wait, -EIO);
+		} else {
+			wait->state = ASKED;
+			program->asked = wait;
+		}
+	}
+}
+
+/* a request of another kind, behind the read that its server was asked for */
+static int ask_node(struct file *file, uint32_t verb, uint32_t number, const void *argument, uint32_t length, struct reply *reply)
+{
+	take_asked(file->program);
+	return ask(&file->program->line, verb, file->device.node, number, argument, length, reply, NULL);
 }
 
 /* whether something is there, by what is known, or by a request */
@@ -272,7 +377,7 @@ static void look_at(struct file *file)
 	if (device->kind == FRONTEND)
 		device->found = frontend_event(file->adapter) ? READABLE : 0;
 	else if (device->state == UNKNOWN)
-		device->found = ask_node(file, POLL, 0, NULL, 0, &reply, NULL) ? OVERFLOW : reply.value;
+		device->found = ask_node(file, POLL, 0, NULL, 0, &reply) ? OVERFLOW : reply.value;
 	else if (device->state == QUIET)
 		device->found = 0;
 	device->state = device->found & SOMETHING ? READY : QUIET;
@@ -287,8 +392,10 @@ static void forget(struct file *file)
 		at = &(*at)->next;
 	if (*at)
 		*at = file->next;
-	if (program && file->device.node != NO_NODE)
-		ask_node(file, CLOSE, 0, NULL, 0, &reply, NULL);
+	if (program && file->device.node != NO_NODE && !program->line.table->is_gone)
+		ask_node(file, CLOSE, 0, NULL, 0, &reply);
+	else if (file->device.kind == FRONTEND)
+		trace(TRACE_CLOSE, file->adapter, NO_NODE, 0, NULL, 0, 0);
 	if (program && !--program->files && program->has_ended)
 		end_program(program);
 	if (file->poll)
@@ -302,8 +409,11 @@ static void finish_open(fuse_req_t request, struct file *file, struct fuse_file_
 {
 	struct reply reply = { 0 };
 	int kind = file->device.kind, error = 0;
-	if (kind != FRONTEND)
-		error = ask_node(file, kind == DEMUX ? OPEN_DEMUX : OPEN_DVR, 0, NULL, 0, &reply, NULL);
+	traced = file->who;
+	if (kind == FRONTEND)
+		trace(TRACE_OPEN, file->adapter, NO_NODE, 0, NULL, 0, 0);
+	else
+		error = ask_node(file, kind == DEMUX ? OPEN_DEMUX : OPEN_DVR, 0, NULL, 0, &reply);
 	if (!error && kind != FRONTEND)
 		file->device.node = kind == DVR ? DVR_NODE : reply.value;
 	info->fh = (uint64_t)(uintptr_t)file;
@@ -314,33 +424,15 @@ static void finish_open(fuse_req_t request, struct file *file, struct fuse_file_
 		forget(file);
 }
 
-/* goes on with a read: whether it has ended */
-static int read_on(struct wait *wait)
-{
-	struct file *file = wait->file;
-	int is_waiting = !(wait->info.flags & O_NONBLOCK), error = 0, is_whole = 0;
-	while (!error && !is_whole) {
-		struct reply reply = { 0 };
-		uint32_t most = wait->size - wait->done < MOST_READ ? (uint32_t)(wait->size - wait->done) : MOST_READ;
-		error = ask_node(file, READ, most, NULL, 0, &reply, wait->bytes + wait->done);
-		wait->done += error ? 0 : reply.length;
-		is_whole =
-			file->device.section || !reply.length || wait->done == wait->size || (reply.length < most && !is_waiting);
-	}
-	file->device.state = error == -EAGAIN ? QUIET : UNKNOWN;
-	if (error == -EAGAIN && is_waiting)
-		return 0;
-	if (error && !wait->done)
-		fuse_reply_err(wait->request, -error);
-	else
-		fuse_reply_buf(wait->request, wait->bytes, wait->done);
-	return 1;
-}
-
+/* goes on with FE_GET_EVENT: whether it has ended */
 static int event_on(struct wait *wait)
 {
+	int waits_on = !(wait->file->flags & O_NONBLOCK);
+	call = (struct call){ .out_size = sizeof(struct dvb_frontend_event) };
+	traced = wait->who;
+	traced_waits = waits_on;
 	int error = frontend_ioctl(wait->file->adapter, wait->file->device.access, FE_GET_EVENT, (void *)call.argument);
-	if (error == -EAGAIN && !(wait->file->flags & O_NONBLOCK))
+	if (error == -EAGAIN && waits_on)
 		return 0;
 	if (error)
 		fuse_reply_err(wait->request, -error);
@@ -349,33 +441,16 @@ static int event_on(struct wait *wait)
 	return 1;
 }
 
-/* goes on with a call, unless a signal ends it: whether it has ended */
-static int goes_on(struct wait *wait)
-{
-	if (wait->verb == OPEN_DEMUX)
-		return 0;
-	if (wait->verb == READ)
-		return read_on(wait);
-	call = (struct call){ .out_size = sizeof(struct dvb_frontend_event) };
-	return event_on(wait);
-}
-
-static void ends_early(struct wait *wait)
-{
-	if (wait->verb == READ && wait->done)
-		fuse_reply_buf(wait->request, wait->bytes, wait->done);
-	else
-		fuse_reply_err(wait->request, EINTR);
-	if (wait->verb == OPEN_DEMUX)
-		forget(wait->file);
-}
-
-static void let_wait_go(struct wait **at)
+/* ends a call that no reply is waited for */
+static void end_early(struct wait **at)
 {
 	struct wait *wait = *at;
-	*at = wait->next;
-	free(wait->bytes);
-	free(wait);
+	if (wait->verb == READ)
+		return end_read(wait, -EINTR);
+	fuse_reply_err(wait->request, EINTR);
+	if (wait->verb == OPEN_DEMUX)
+		forget(wait->file);
+	let_wait_go(at);
 }
 
 static void interrupted(fuse_req_t request, void *wait)
@@ -384,43 +459,54 @@ static void interrupted(fuse_req_t request, void *wait)
 	((struct wait *)wait)->is_over = 1;
 }
 
-/* a call waits, behind all others */
-static void keep_waiting(struct wait kept)
+/* a call waits, behind all others: 0, or -1 where there is no memory for it */
+static int keep_waiting(struct wait kept)
 {
 	struct wait **at = &waits, *wait = malloc(sizeof *wait);
 	if (!wait)
-		return ends_early(&kept);
+		return -1;
 	while (*at)
 		at = &(*at)->next;
 	*wait = kept;
 	*at = wait;
 	fuse_req_interrupt_func(wait->request, interrupted, wait);
+	return 0;
 }
 
 static void end_interrupted(void)
 {
 	for (struct wait **at = &waits; *at;) {
-		if ((*at)->is_over) {
-			ends_early(*at);
-			let_wait_go(at);
-		} else {
+		if ((*at)->is_over && (*at)->state != ASKED)
+			end_early(at);
+		else
 			at = &(*at)->next;
-		}
 	}
+}
+
+/* goes on with the calls that wait for a device which may have something */
+static void wake(struct file *file)
+{
+	for (struct wait **at = &waits; *at;) {
+		struct wait *wait = *at;
+		wait->has_rung |= wait->file == file;
+		if (wait->file == file && wait->verb == READ && wait->state == SLEEPS)
+			wait->state = DUE;
+		if (wait->file == file && wait->verb == IOCTL && event_on(wait))
+			let_wait_go(at);
+		else
+			at = &wait->next;
+	}
+	if (file->program)
+		ask_next(file->program);
 }
 
 /* a device may have something: the calls that wait for it go on, and who polls it is told, where something is there */
 static void heard(struct file *file)
 {
+	wake(file);
 	if (file->device.kind != FRONTEND && file->device.state == READY)
 		return;
 	file->device.state = UNKNOWN;
-	for (struct wait **at = &waits; *at;) {
-		if ((*at)->file == file && goes_on(*at))
-			let_wait_go(at);
-		else
-			at = &(*at)->next;
-	}
 	if (!file->poll)
 		return;
 	look_at(file);
@@ -442,15 +528,13 @@ static fuse_ino_t number_of(int adapter, int kind) { return (fuse_ino_t)(adapter
 static void tell(fuse_ino_t number, struct stat *told)
 {
 	int is_file = number != ROOT && number % EACH;
-	*told = (struct stat){
-		.st_ino = number,
-		.st_nlink = is_file ? 1 : 2,
-		.st_uid = getuid(),
-		.st_gid = getgid(),
-		.st_atim = begun,
-		.st_mtim = begun,
-		.st_ctim = begun,
-	};
+	*told = (struct stat){ .st_ino = number,
+			       .st_nlink = is_file ? 1 : 2,
+			       .st_uid = getuid(),
+			       .st_gid = getgid(),
+			       .st_atim = begun,
+			       .st_mtim = begun,
+			       .st_ctim = begun };
 	told->st_mode = is_file ? S_IFREG | FREE_FOR_ALL : S_IFDIR | READ_ONLY_DIRECTORY;
 }
 
@@ -511,46 +595,65 @@ static void do_open(fuse_req_t request, fuse_ino_t number, struct fuse_file_info
 {
 	int adapter = (int)(number / EACH) - 1, kind = (int)(number % EACH), access = info->flags & O_ACCMODE;
 	int lock = kind == FRONTEND && access != O_RDONLY ? frontend_lock(adapter) : -1;
+	called_by(request);
 	struct program *program = kind == FRONTEND ? NULL : program_of(fuse_req_ctx(request)->pid, adapter);
 	struct file *file = lock < -1 || (kind != FRONTEND && !program) ? NULL : malloc(sizeof *file);
 	if (!file) {
+		int error = lock < -1 ? -lock : EIO;
+		trace(kind == FRONTEND ? TRACE_OPEN : kind == DVR ? OPEN_DVR : OPEN_DEMUX, adapter, NO_NODE, 0, NULL, 0, -error);
 		let_go(lock);
-		fuse_reply_err(request, lock < -1 ? -lock : EIO);
+		fuse_reply_err(request, error);
 		return;
 	}
-	*file = (struct file){
-		.device = { .kind = kind, .access = access, .node = NO_NODE, .state = UNKNOWN },
-		.program = program,
-		.adapter = adapter,
-		.flags = info->flags,
-		.lock = lock,
-		.next = files,
-	};
+	*file = (struct file){ .device = { .kind = kind, .access = access, .node = NO_NODE, .state = UNKNOWN },
+			       .program = program,
+			       .adapter = adapter,
+			       .flags = info->flags,
+			       .lock = lock,
+			       .who = traced,
+			       .next = files };
 	files = file;
 	if (program)
 		program->files++;
-	if (program && program->until)
-		keep_waiting((struct wait){ .request = request, .file = file, .verb = OPEN_DEMUX, .info = *info });
-	else
+	if (!program || !program->until) {
 		finish_open(request, file, info);
+	} else if (keep_waiting((struct wait){ .request = request, .file = file, .verb = OPEN_DEMUX, .info = *info })) {
+		fuse_reply_err(request, ENOMEM);
+		forget(file);
+	}
+}
+
+/* a device as preload/wait.c tells it */
+static uint32_t word_of(const struct file *file)
+{
+	return (uint32_t)(file->adapter << 16 | file->device.kind << 8) | file->device.node;
 }
 
 static void do_release(fuse_req_t request, fuse_ino_t number, struct fuse_file_info *info)
 {
 	(void)number;
+	/* (of a close isn't told who makes it) */
+	if (traces())
+		wait_closed(word_of(file_of(info)));
+	traced = file_of(info)->who;
 	forget(file_of(info));
 	fuse_reply_err(request, 0);
 }
 
 static void do_read(fuse_req_t request, fuse_ino_t number, size_t size, off_t place, struct fuse_file_info *info)
 {
-	struct wait wait = { .request = request, .file = file_of(info), .verb = READ, .info = *info, .size = size };
-	wait.bytes = malloc(size);
+	struct file *file = file_of(info);
+	struct wait wait = { .request = request, .file = file, .verb = READ, .info = *info, .size = size };
 	(void)number, (void)place;
-	if (!wait.bytes || wait.file->device.kind == FRONTEND)
-		fuse_reply_err(request, wait.bytes ? EINVAL : ENOMEM);
-	else if (!read_on(&wait))
-		return keep_waiting(wait);
+	called_by(request);
+	file->who = wait.who = traced;
+	wait.room = file->device.section && size > MOST_READ ? MOST_READ : size;
+	wait.bytes = file->device.kind == FRONTEND ? NULL : malloc(wait.room);
+	if (wait.bytes && !keep_waiting(wait))
+		return ask_next(file->program);
+	int error = file->device.kind == FRONTEND ? EINVAL : ENOMEM;
+	trace(READ, file->adapter, file->device.node, (uint32_t)size, NULL, 0, -error);
+	fuse_reply_err(request, error);
 	free(wait.bytes);
 }
 
@@ -583,7 +686,7 @@ static int node_ioctl(struct file *file, uint32_t number)
 	char bytes[ARGUMENT] = { 0 };
 	struct reply reply;
 	int length = node_bytes(&file->device, number, call.argument, bytes);
-	int error = length < 0 ? length : ask_node(file, IOCTL, number, bytes, (uint32_t)length, &reply, NULL);
+	int error = length < 0 ? length : ask_node(file, IOCTL, number, bytes, (uint32_t)length, &reply);
 	if (!error)
 		node_changed(&file->device, number, bytes);
 	return error;
@@ -596,14 +699,16 @@ static void do_ioctl(fuse_req_t request, fuse_ino_t inode, unsigned number, void
 	int is_set = number == _IOW('o', _IOC_NR(FE_SET_PROPERTY), struct list_32);
 	int is_list = is_set || number == _IOR('o', _IOC_NR(FE_GET_PROPERTY), struct list_32);
 	(void)inode;
-	int is_32_bits = flags & FUSE_IOCTL_COMPAT && is_list;
-	call = (struct call){ fuse_req_ctx(request)->pid, argument, in, in_size, out_size, is_32_bits, "" };
+	called_by(request);
+	file->who = traced;
+	call = (struct call){ fuse_req_ctx(request)->pid,	    argument, in, in_size, out_size,
+			      flags & FUSE_IOCTL_COMPAT && is_list, "" };
 	if (call.is_32_bits)
 		number = is_set ? FE_SET_PROPERTY : FE_GET_PROPERTY;
 	if (file->device.kind == FRONTEND && number == FE_GET_EVENT) {
-		struct wait wait = { .request = request, .file = file, .verb = IOCTL };
-		if (!event_on(&wait))
-			keep_waiting(wait);
+		struct wait wait = { .request = request, .file = file, .verb = IOCTL, .who = traced };
+		if (!event_on(&wait) && keep_waiting(wait))
+			fuse_reply_err(request, ENOMEM);
 		return;
 	}
 	int error = file->device.kind == FRONTEND ? frontend_ioctl(file->adapter, file->device.access, number, argument)
@@ -612,6 +717,12 @@ static void do_ioctl(fuse_req_t request, fuse_ino_t inode, unsigned number, void
 		fuse_reply_err(request, -error);
 	else
 		fuse_reply_ioctl(request, 0, call.out, out_size);
+}
+
+static void tell_poll(fuse_req_t request, struct file *file)
+{
+	file->who = asker_of(request);
+	waited_for(&file->who, word_of(file), file->device.state == READY);
 }
 
 static void do_poll(fuse_req_t request, fuse_ino_t number, struct fuse_file_info *info, struct fuse_pollhandle *poll)
@@ -625,6 +736,8 @@ static void do_poll(fuse_req_t request, fuse_ino_t number, struct fuse_file_info
 		file->poll = poll;
 	}
 	int is_lost = file->device.found & (OVERFLOW | TIMED_OUT);
+	if (traces())
+		tell_poll(request, file);
 	fuse_reply_poll(request, file->device.state == READY ? EVENTS | (is_lost ? POLLERR : 0) : 0);
 }
 
@@ -633,6 +746,8 @@ static void do_init(void *none, struct fuse_conn_info *connection)
 	(void)none;
 	/* (so many closes may be on their way: an open comes behind them) */
 	connection->max_background = MOST_BACKGROUND;
+	/* (as mounted: a kernel would hold a megabyte of the program's memory for a read of that size, which takes its time) */
+	connection->max_read = MOST_READ;
 }
 
 /* ------ what happens elsewhere */
@@ -721,7 +836,17 @@ static long done_until_next(void)
 	}
 	if (bells < 0)
 		rang(ALL, "");
+	if (files && traces())
+		next = waits_seen(now, next);
 	return next == LONG_MAX ? -1 : next - now;
+}
+
+/* its server has gone */
+static void lose_program(struct program *program)
+{
+	line_lost(&program->line);
+	take_asked(program);
+	rang(ALL, "");
 }
 
 /* a program's process or its server has ended, or a seat has answered it */
@@ -731,8 +856,10 @@ static void look_at_program(struct program *program, int process, int line)
 		program->has_ended = 1;
 	if (program->until && line)
 		seated(program);
+	else if (line & POLLIN)
+		take_asked(program);
 	else if (line)
-		line_lost(&program->line), rang(ALL, "");
+		lose_program(program);
 	if (program->is_used && program->has_ended && !program->files)
 		end_program(program);
 }
@@ -748,8 +875,9 @@ static void wait_and_see(int calls, const sigset_t *signals)
 	for (struct program *program = programs; program < &programs[MOST_PROGRAMS]; program++) {
 		if (!program->is_used)
 			continue;
+		ask_next(program);
 		all[2 + 2 * count] = (struct pollfd){ program->has_ended ? -1 : program->pidfd, POLLIN, 0 };
-		all[3 + 2 * count] = (struct pollfd){ program->line.tell, program->until ? POLLIN : 0, 0 };
+		all[3 + 2 * count] = (struct pollfd){ program->line.tell, program->until || program->asked ? POLLIN : 0, 0 };
 		whose[count++] = program;
 	}
 	if (ppoll(all, (nfds_t)(2 + 2 * count), left < 0 ? NULL : &most, signals) < 1)
@@ -769,21 +897,19 @@ static void ends(int number)
 
 struct fuse_session *devices_mount(const char *on)
 {
-	static const struct fuse_lowlevel_ops calls = {
-		.init = do_init,
-		.lookup = do_lookup,
-		.getattr = do_getattr,
-		.readdir = do_readdir,
-		.open = do_open,
-		.release = do_release,
-		.read = do_read,
-		.write = do_write,
-		.ioctl = do_ioctl,
-		.poll = do_poll,
-		.getxattr = do_getxattr,
-		.listxattr = do_listxattr,
-	};
-	char *words[] = { "dvbemu", "-o", "allow_other,default_permissions,fsname=dvbemu", NULL };
+	static const struct fuse_lowlevel_ops calls = { .init = do_init,
+							.lookup = do_lookup,
+							.getattr = do_getattr,
+							.readdir = do_readdir,
+							.open = do_open,
+							.release = do_release,
+							.read = do_read,
+							.write = do_write,
+							.ioctl = do_ioctl,
+							.poll = do_poll,
+							.getxattr = do_getxattr,
+							.listxattr = do_listxattr };
+	char *words[] = { "dvbemu", "-o", "allow_other,default_permissions,fsname=dvbemu,max_read=65536", NULL };
 	struct fuse_args args = FUSE_ARGS_INIT(3, words);
 	struct fuse_session *session = fuse_session_new(&args, &calls, sizeof calls, NULL);
 	return session && !fuse_session_mount(session, on) ? session : NULL;

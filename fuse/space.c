@@ -54,7 +54,7 @@ static void begin_user(void)
 	uid_t uid = geteuid();
 	gid_t gid = getegid();
 	if (unshare(CLONE_NEWUSER | CLONE_NEWNS))
-		stops("no namespaces of users");
+		stops("user namespaces aren't allowed here");
 	write_file("/proc/self/setgroups", "deny");
 	write_file("/proc/self/uid_map", "%d %d 1", uid, uid);
 	write_file("/proc/self/gid_map", "%d %d 1", gid, gid);
@@ -136,7 +136,7 @@ static struct fuse_session *begin_devices(const char *place)
 	make_folder(path);
 	struct fuse_session *session = devices_mount(path);
 	if (!session)
-		stops("no mount by FUSE");
+		stops("FUSE can't be mounted here");
 	if (!is_there)
 		put(place, "/dev");
 	return session;
@@ -202,6 +202,10 @@ static int serve(pid_t parent, const char *place, char **all)
 {
 	for (; *all && adapters < MOST_ADAPTERS; all++)
 		snprintf(folders[adapters++], FOLDER, "%s", *all);
+	int fd = open("/dev/fuse", O_RDWR | O_CLOEXEC);
+	if (fd < 0)
+		stops("/dev/fuse");
+	close(fd);
 	begin_space();
 	/* (behind the change of rights, which forgets it) */
 	prctl(PR_SET_PDEATHSIG, SIGKILL, 0, 0, 0);

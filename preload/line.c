@@ -438,6 +438,22 @@ static void find_back(struct line *line)
 	table->is_left = table->tries = table->asked.verb = 0;
 }
 
+/* the server has gone: -EIO */
+static int lost(struct line *line)
+{
+	if (!line->table->is_gone)
+		line_lost(line);
+	return -EIO;
+}
+
+/* takes the reply to the last request: 0 or a negative error */
+static int taken(struct line *line, struct reply *reply, void *into, uint32_t room)
+{
+	int error = get_all(line, &line->table->told, into, room);
+	*reply = line->table->told;
+	return error < 0 ? lost(line) : error ? -EFAULT : -(int)reply->code;
+}
+
 static int exchange(struct line *line, const struct request *request, struct reply *reply, void *into, uint32_t room)
 {
 	char ask[PATH], tell[PATH];
@@ -455,11 +471,7 @@ static int exchange(struct line *line, const struct request *request, struct rep
 		unlink(ask);
 		unlink(tell);
 	}
-	int taken = bad ? -1 : get_all(line, &table->told, into, room);
-	*reply = table->told;
-	if (taken < 0 && !table->is_gone)
-		line_lost(line);
-	return taken < 0 ? -EIO : taken ? -EFAULT : -(int)reply->code;
+	return bad ? lost(line) : taken(line, reply, into, room);
 }
 
 /* One request and its reply, with at most as many bytes as a read asks for, behind HOLD_LINE: 0 or a negative error. */
@@ -475,3 +487,16 @@ int ask(struct line *line, uint32_t verb, uint32_t node, uint32_t number, const 
 		      length, error);
 	return error;
 }
+
+/*
+ * The same in two parts, for who has several lines: a read is asked for on a line with a seat, and its reply is taken once it
+ * comes. Nothing else is asked between.
+ */
+int ask_read(struct line *line, uint32_t node, uint32_t most)
+{
+	struct request asked = { READ, node, most, 0, { 0 } };
+	line->table->told.code = untold;
+	return line->table->is_gone || put(line, &asked, sizeof asked) ? lost(line) : 0;
+}
+
+int take_read(struct line *line, struct reply *reply, void *into, uint32_t most) { return taken(line, reply, into, most); }

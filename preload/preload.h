@@ -115,6 +115,8 @@ int lock_of(const struct line *line, uint32_t number);
 int is_locked(const struct line *line, uint32_t number);
 int ask(struct line *line, uint32_t verb, uint32_t node, uint32_t number, const void *argument, uint32_t length,
 	struct reply *reply, void *into);
+int ask_read(struct line *line, uint32_t node, uint32_t most);
+int take_read(struct line *line, struct reply *reply, void *into, uint32_t most);
 long milliseconds(void);
 int wait_raw(struct pollfd *all, nfds_t count, long time);
 
@@ -170,9 +172,14 @@ int watch_runs(void);
 /* exec.c */
 void inherit(void);
 
-/* trace.c: the calls that are told beside the verbs of requests, and the result of one that waits */
-enum { TRACE_WAIT = 7, TRACE_FRONTEND, TRACE_OPEN, TRACE_CLOSE, TRACE_WAITS = INT32_MIN };
-extern pid_t traced_process;
+/* trace.c: the calls that are told beside the verbs of requests; the result of one that waits, and one that isn't known; whose
+ * calls are told, where they aren't this thread's */
+enum { TRACE_WAIT = 7, TRACE_FRONTEND, TRACE_OPEN, TRACE_CLOSE, TRACE_WAITS = INT32_MIN, TRACE_ENDS };
+enum { TRACE_NAME = 16 };
+extern struct traced {
+	pid_t process, thread;
+	char name[TRACE_NAME];
+} traced;
 extern __thread int traced_waits __attribute__((tls_model("initial-exec")));
 int traces(void);
 void trace(int call, int adapter, uint32_t node, uint32_t number, const void *argument, size_t length, long result);

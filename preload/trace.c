@@ -23,11 +23,11 @@ struct record {
 	int32_t result;
 	uint16_t call, adapter;
 	uint32_t node, number, length;
-	char name[16], argument[ROOM];
+	char name[TRACE_NAME], argument[ROOM];
 };
 
-/* the process whose calls are told, where that isn't this one, and whether the call that is made would wait */
-pid_t traced_process;
+/* whose calls are told, where they aren't this thread's, and whether the call that is made would wait */
+struct traced traced;
 __thread int traced_waits;
 
 static uint32_t lost;
@@ -66,8 +66,6 @@ static int put(const struct record *record)
 	return n == sizeof *record;
 }
 
-static const char *name_of_program(void) { return traced_process ? "" : program_invocation_short_name; }
-
 /* tells a call with its result, a negative error, or TRACE_WAITS where it waits */
 void trace(int call, int adapter, uint32_t node, uint32_t number, const void *argument, size_t length, long result)
 {
@@ -78,12 +76,12 @@ void trace(int call, int adapter, uint32_t node, uint32_t number, const void *ar
 		return;
 	clock_gettime(CLOCK_MONOTONIC, &now);
 	record.nanoseconds = (uint64_t)now.tv_sec * 1000000000 + (uint64_t)now.tv_nsec;
-	record.pid = (uint32_t)(traced_process ? traced_process : getpid());
-	record.thread = (uint32_t)syscall(SYS_gettid);
+	record.pid = (uint32_t)(traced.process ? traced.process : getpid());
+	record.thread = (uint32_t)(traced.process ? traced.thread : syscall(SYS_gettid));
 	record.length = (uint32_t)(length < ROOM ? length : ROOM);
 	record.lost = __atomic_exchange_n(&lost, 0, __ATOMIC_SEQ_CST);
 	record.result = (int32_t)result;
-	snprintf(record.name, sizeof record.name, "%s", name_of_program());
+	snprintf(record.name, sizeof record.name, "%s", traced.process ? traced.name : program_invocation_short_name);
 	if (record.length)
 		memcpy(record.argument, argument, record.length);
 	if (!put(&record))

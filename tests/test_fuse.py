@@ -1,6 +1,7 @@
 """`dvbemu serve --fuse`: programs that no preload reaches find the devices, and what a kernel does with descriptors is right;
 reports are those of runs; and nothing is left where the server's command, what answers its calls or a program is killed."""
 import contextlib
+import functools
 import glob
 import os
 import re
@@ -31,9 +32,24 @@ BARE = ("-m32", "-ffreestanding", "-nostdlib", "-static", "-fno-pie", "-no-pie",
 LINKED = {"static": ("gcc", "-static"), "musl": ("musl-gcc",), "32 bits": ("gcc", *BARE)}
 # How a section of the PAT begins: its table_id, its length of 21 bytes with the flags, and the transport stream's number.
 PAT = b"\x00\xb0\x15\x12\x34"
+# A program that asks a demux for the PAT by an ioctl, and reads that and packets of the recorder, which it finds by its name.
 GO = """package main
-import ("fmt"; "io"; "os"; "path/filepath")
+import ("fmt"; "io"; "os"; "path/filepath"; "syscall"; "unsafe")
+type filter struct {
+	pid uint16
+	filter, mask, mode [16]byte
+	_ [2]byte
+	timeout, flags uint32
+}
 func main() {
+	demux, err := os.OpenFile("/dev/dvb/adapter0/demux0", os.O_RDWR, 0)
+	if err != nil { panic(err) }
+	pat := filter{flags: 4}
+	pat.mask[0] = 0xff
+	_, _, errno := syscall.Syscall(syscall.SYS_IOCTL, demux.Fd(), 0x403c6f2b, uintptr(unsafe.Pointer(&pat)))
+	section := make([]byte, 4096)
+	n, err := demux.Read(section)
+	fmt.Printf("%d %d %v %x\\n", errno, n, err, section[:5])
 	found, _ := filepath.Glob("/dev/dvb/adapter*/dvr0")
 	file, err := os.Open(found[0])
 	if err != nil { panic(err) }
@@ -42,6 +58,14 @@ func main() {
 	fmt.Println(packets[0], err)
 }
 """
+# What takes from a shell what --fuse needs, and what is told then. Who has no rights makes namespaces of users, of which here none may be.
+SMALL_DEV = "mkdir d; mount -t tmpfs none d; touch d/null; mount --bind /dev/null d/null; mount --rbind d /dev;"
+RIGHTLESS = "setpriv --bounding-set=-all"
+MISSING = {
+    "/dev/fuse": (SMALL_DEV, "/dev/fuse: No such file or directory"),
+    "namespaces": (f"echo 0 > /proc/sys/user/max_user_namespaces; exec {RIGHTLESS}",
+                   "user namespaces aren't allowed here: No space left on device"),
+}  # fmt: skip
 # A program that has a device, and looks at it until that fails.
 LOOKS = f"""import os
 file = open({DEMUX!r}, "rb", buffering=0)
@@ -86,16 +110,23 @@ class Served:
         return child
 
 
+@functools.cache
+def why_no_mount():
+    """Why nothing can be tried or mounted, or nothing."""
+    if not shutil.which("cc") or not SERVER.exists() or not os.path.isdir("/usr/include/fuse3"):
+        return "dvb_serve isn't built, or cc or libfuse's headers aren't there"
+    done = subprocess.run([PROGRAM, "serve", "--fuse", "--packets", "3000", "--keep", "none", STREAM, "--", "true"], **TAKEN)
+    if "--preload needs no mount" in done.stderr:
+        return done.stderr
+    assert done.returncode == 0, done.stderr
+    return ""
+
+
 @pytest.fixture(scope="module", autouse=True)
 def mounts():
     """Skips all where nothing can be tried or mounted, and says why."""
-    needs("cc")
-    if not SERVER.exists() or not os.path.isdir("/usr/include/fuse3"):
-        pytest.skip("dvb_serve isn't built, or libfuse's headers aren't there")
-    done = subprocess.run([PROGRAM, "serve", "--fuse", "--packets", "3000", "--keep", "none", STREAM, "--", "true"], **TAKEN)
-    if "--preload needs no mount" in done.stderr:
-        pytest.skip(done.stderr)
-    assert done.returncode == 0, done.stderr
+    if why := why_no_mount():
+        pytest.skip(why)
 
 
 @pytest.fixture
@@ -144,14 +175,14 @@ def test_a_program_that_no_preload_reaches(served, way):
 
 
 def test_go(served):
-    """A program of Go, which calls the kernel by itself, finds the recorder by its name and reads packets."""
+    """A static program of Go, which calls the kernel by itself, sets a filter, reads the PAT, and reads packets of the recorder."""
     needs("go")
     (served.folder / "main.go").write_text(GO)
     made = served.tried(["go", "build", "-o", "client", "main.go"], env={**os.environ, "CGO_ENABLED": "0"})
     assert made.returncode == 0, made.stderr
     beside = "import fuse_calls, time; one = fuse_calls.all_packets(); time.sleep(5)"
     done = served.run("sh", "-c", f"PYTHONPATH={TESTS} {sys.executable} -c '{beside}' & ./client")
-    assert done.stdout == "71 <nil>\n"
+    assert done.stdout == f"0 24 <nil> {PAT.hex()}\n71 <nil>\n"
 
 
 def test_calls(served):
@@ -249,7 +280,7 @@ def test_another_user(served):
     words[words.index(STREAM)] = "s.ts"
     user = ["setpriv", "--reuid", str(NOBODY), "--regid", str(NOBODY), "--clear-groups"]
     done = served.tried([*user, *words], env={**os.environ, "TMPDIR": "/tmp"})
-    if "no namespaces of users" in done.stderr:
+    if "user namespaces aren't allowed here" in done.stderr:
         pytest.skip(done.stderr)
     assert done.stdout.startswith(f"{NOBODY}\n") and done.stdout.endswith("right\n"), done.stderr
 
@@ -275,6 +306,16 @@ def test_dvbv5(served):
     served.run("dvbv5-zap", "-c", "channels", "-t", "2", "-o", "z.ts", name, packets="3000")
     recorded = (served.folder / "z.ts").read_bytes()
     assert len(recorded) >= 18800 and dvbemu.Report.load(served.report).node("dvr").data().startswith(recorded)
+
+
+@pytest.mark.parametrize("before, told", MISSING.values(), ids=MISSING)
+def test_what_is_missing(served, before, told):
+    """Where the system or a container has not what --fuse needs, one line says what, and the status is 1."""
+    needs("unshare", "setpriv")
+    done = served.tried(["unshare", "-rm", "sh", "-c", f"{before} \"$@\"", "sh", *served.words("true")])
+    if "unshare failed" in done.stderr:
+        pytest.skip(done.stderr)
+    assert (done.returncode, done.stderr) == (1, f"dvbemu serve: --fuse: {told}; --preload needs no mount\n")
 
 
 def test_words(served):

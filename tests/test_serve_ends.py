@@ -6,6 +6,7 @@ import os
 import pty
 import select
 import signal
+import struct
 import subprocess
 import sys
 import tempfile
@@ -167,7 +168,7 @@ def test_unseen_are_told(served, small):
     """At the start, and at the end that nobody has opened the adapter."""
     path = small("-static")
     out = ran([SERVE, *PACED, served.stream, "--", path]).stdout
-    assert out.startswith(f"dvbemu serve: {path} is linked statically: it will not see the emulated adapter\n")
+    assert out.startswith(f"dvbemu serve: {path} is linked statically, so it won't see the adapter: use dvbemu serve --fuse\n")
     assert "\ndvbemu serve: no program opened the adapter; " in out
 
 
@@ -189,6 +190,16 @@ def test_unseen_of_another_user(small):
     os.chown(path, 65534, -1)
     os.chmod(path, 0o4755)
     assert unseen_as(path) == "is setuid or setgid"
+
+
+@AS_ROOT
+def test_unseen_with_capabilities(small, monkeypatch):
+    """A file with a capability (CAP_NET_RAW, as of capability.h), which for root changes nothing."""
+    path = small("-O0")
+    os.setxattr(path, "security.capability", struct.pack("<5I", 0x02000000, 1 << 13, 0, 0, 0))
+    assert unseen_as(path) is None
+    monkeypatch.setattr(os, "geteuid", lambda: 65534)
+    assert unseen_as(path) == "has file capabilities"
 
 
 def test_quoted_command(served, small):

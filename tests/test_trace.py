@@ -9,6 +9,7 @@ import sys
 import pytest
 
 from conftest import EXAMPLES, PROGRAM
+from test_fuse import why_no_mount
 
 from dvbemu.server import trace
 
@@ -43,14 +44,14 @@ CALLS = [
       "demux0(n1) DMX_ADD_PID pid=257 = -1 EINVAL", "demux0(n1) DMX_REMOVE_PID pid=999 = 0", "demux0(n1) DMX_START = 0",
       "demux0(n0) close = 0", "demux0(n1) close = 0"]),
     ("fd = os.open(DEMUX, os.O_RDWR | os.O_NONBLOCK); ask(fd, SECTION, section(8176)); ask(fd, 0x6F99)\n"
-     "p = select.poll(); p.register(fd, 1); p.poll(50); print(ask(fd, START) and 0)\n"
+     "p = select.poll(); p.register(fd, 1); p.poll(500); print(ask(fd, START) and 0)\n"
      "try:\n os.read(fd, 4096)\nexcept BlockingIOError:\n pass",
      ["demux0(n0) open = 0", "demux0(n0) DMX_SET_FILTER pid=8176 timeout=0 flags=IMMEDIATE_START = 0",
-      "demux0(n0) ioctl 0x6f99 = -1 ENOTTY", "poll demux0(n0) 50 ms = 0", "demux0(n0) DMX_START = 0",
+      "demux0(n0) ioctl 0x6f99 = -1 ENOTTY", "poll demux0(n0) 500 ms = 0", "demux0(n0) DMX_START = 0",
       "demux0(n0) read 4096 = -1 EAGAIN", "demux0(n0) close = 0"]),
     ("fd = os.open(DVR, os.O_RDONLY)\ntry:\n os.open(DVR, os.O_RDONLY)\nexcept OSError:\n pass\n"
-     "e = select.epoll(); e.register(fd); e.poll(0.05)",
-     ["dvr0 open = 0", "dvr0 open = -1 EBUSY", "epoll_wait dvr0 50 ms = 0", "dvr0 close = 0"]),
+     "e = select.epoll(); e.register(fd); e.poll(0.5)",
+     ["dvr0 open = 0", "dvr0 open = -1 EBUSY", "epoll_wait dvr0 500 ms = 0", "dvr0 close = 0"]),
     ("fd = os.open(TUNER, os.O_RDWR)\n"
      "all = b''.join(struct.pack('<I12xI36xI16x', key, value, 0) for key, value in ((17, 3), (3, 474000000), (1, 0)))\n"
      "import ctypes; kept = ctypes.create_string_buffer(all)\n"
@@ -66,14 +67,16 @@ BLOCKS = "fd = os.open(DEMUX, os.O_RDWR); ask(fd, SECTION, section(8176))\n"
 TOLD = ["demux0(n0) open = 0", "demux0(n0) DMX_SET_FILTER pid=8176 timeout=0 flags=IMMEDIATE_START = 0"]
 
 
-@pytest.fixture
-def traced(server, tmp_path):
+@pytest.fixture(params=["--preload", "--fuse"])
+def traced(server, tmp_path, request):
     """Runs a program, and gives its status, what is told of its calls without the moments, and what else it or `serve` writes."""
+    if request.param == "--fuse" and (why := why_no_mount()):
+        pytest.skip(why)
 
     def run(script, ends=""):
         source = tmp_path / "script.py"
         source.write_text(HEAD + script)
-        words = [PROGRAM, "serve", "--packets", "3000", "--report", tmp_path / "report", "--trace", STREAM, "--"]
+        words = [PROGRAM, "serve", request.param, "--packets", "3000", "--report", tmp_path / "report", "--trace", STREAM, "--"]
         shell = ["sh", "-c", f'exec "$@" {ends}', "sh", *words, sys.executable, "-S", source]
         ran = subprocess.run(shell, capture_output=True, text=True, check=False, timeout=100)
         lines = ran.stderr.splitlines()

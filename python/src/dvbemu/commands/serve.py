@@ -19,7 +19,7 @@ from .. import tool
 from ..build import Stopped, build_fuse, build_preload, built_server
 from ..server.adapters import Adapter, Folder, adopt
 from ..server.channels import LINE, SATELLITE, SYSTEMS, channels_of, lines_in
-from ..server.commands import Interrupted, Signals, end_all_but, run_command, unseen_as
+from ..server.commands import CAPABLE, SETUID, Interrupted, Signals, end_all_but, run_command, unseen_as
 from ..server.fuse import Mount
 from ..server.recording import Unplayable
 from ..server.trace import Trace
@@ -135,8 +135,6 @@ def asked(words: list[str], known: Serve) -> tuple[Namespace, list[str]]:
         known.error(f"the following arguments are required: {', '.join(missing)}")
     if options.keep != "all" and options.report:
         known.error(f"--report: with --keep {options.keep} no report is written")
-    if options.trace and options.fuse:
-        known.error("--trace: not allowed with --fuse")
     if len(adapters_in(options)) > MOST_ADAPTERS:
         known.error(f"--adapter: there are {MOST_ADAPTERS} adapters at most")
     see_command(command[0], known, options.fuse)
@@ -149,9 +147,11 @@ def see_command(name: str, known: Serve, is_mount: bool = False) -> None:
     if path is None or not os.path.exists(path):
         quoted = "; is the command quoted as one word?" if len(name.split()) > 1 else ""
         known.exit(127, f"{known.teller}: {name}: No such file or directory{quoted}\n")
-    if os.path.isfile(path) and not is_mount and (why := unseen_as(path)):
-        print(f"{known.teller}: {name} {why}: it will not see the emulated adapter", file=sys.stderr)
-        print(f"{known.teller}: with --fuse it does", file=sys.stderr)
+    why = unseen_as(path) if os.path.isfile(path) else None
+    if why and not is_mount:
+        print(f"{known.teller}: {name} {why}, so it won't see the adapter: use dvbemu serve --fuse", file=sys.stderr)
+    elif why in (SETUID, CAPABLE) and os.geteuid():
+        print(f"{known.teller}: {name} {why}: with --fuse it runs without these rights, unless root starts it", file=sys.stderr)
 
 
 def air_of(options: Namespace) -> list[list[Channel]]:
@@ -297,10 +297,10 @@ def serve(options: Namespace, command: Sequence[str], air: Sequence[Sequence[Cha
         trace = Trace(folder.adapters[0], sys.stderr) if options.trace else None
         status = run_command(command, folder, mount, signals)
         end_all_but({adapter.server.pid for adapter in adapters} | ({mount.pid} if mount else set()), folder)
-        if trace:
-            trace.end()
         if mount:
             mount.end()
+        if trace:
+            trace.end()
         for adapter in adapters:
             adapter.end()
     except BaseException:

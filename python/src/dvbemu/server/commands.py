@@ -21,6 +21,7 @@ if TYPE_CHECKING:
     from .fuse import Mount
 
 # Of an executable file: the kind of a segment that names the system's loader, the kind and name of a note of Go's linker, and the loader of musl.
+SETUID, CAPABLE = "is setuid or setgid", "has file capabilities"
 PT_INTERP, GO_NOTE, MUSL = b"\3\0\0\0", b"\4\0\0\0Go\0\0", b"/ld-musl-"
 
 
@@ -44,6 +45,14 @@ def end_all_but(servers: Collection[int], folder: Folder) -> None:
     end_programs(folder.value())
 
 
+def has_capabilities(path: str) -> bool:
+    """Whether a file has capabilities, with which a program ignores preloads, as where it is setuid."""
+    try:
+        return "security.capability" in os.listxattr(path)
+    except OSError:
+        return False
+
+
 def unseen_as(path: str) -> str | None:
     """Why a program won't have the preload, as far as its file tells; None where nothing says so."""
     try:
@@ -56,7 +65,9 @@ def unseen_as(path: str) -> str | None:
     if head[4] == 1:
         return "is a 32-bit program"
     if there.st_mode & stat.S_ISUID and there.st_uid != os.geteuid() or there.st_mode & stat.S_ISGID and there.st_gid != os.getegid():
-        return "is setuid or setgid"
+        return SETUID
+    if os.geteuid() and has_capabilities(path):
+        return CAPABLE
     (begin,), (size, count) = struct.unpack_from("<Q", head, 32), struct.unpack_from("<HH", head, 54)
     kinds = [head[at:at + 4] for at in range(begin, begin + size * count, size or 1)]
     if GO_NOTE in head:

@@ -19,9 +19,9 @@ from ..reports import filter_words
 if TYPE_CHECKING:
     from typing import TextIO
 
-# The layout of a record; the result of a call that waits; how many seconds it waits until that is told; how many records are read
+# The layout of a record; the result of a call that waits, and of one that has ended with what isn't known; how many seconds it waits until that is told; how many records are read
 # at once; the bytes of the pipe.
-LAYOUT, WAITS, PATIENCE, MANY, ROOM = struct.Struct("<QIIIiHHIII16s256s"), -(2**31), 0.2, 200, 1 << 20
+LAYOUT, WAITS, ENDS, PATIENCE, MANY, ROOM = struct.Struct("<QIIIiHHIII16s256s"), -(2**31), 1 - 2**31, 0.2, 200, 1 << 20
 OPEN_DEMUX, OPEN_DVR, CLOSE, IOCTL, READ, POLL, WAIT, FRONTEND, OPEN_FRONTEND, CLOSE_FRONTEND = range(1, 11)
 DVR, NO_NODE = 32, 64
 CALLS = {OPEN_DEMUX: "open", OPEN_DVR: "open", OPEN_FRONTEND: "open", CLOSE: "close", CLOSE_FRONTEND: "close", READ: "read"}
@@ -147,6 +147,8 @@ def call_text(record: Record) -> str:
 
 def result_text(result: int) -> str:
     """What a call gives: a number, or -1 with the error's name."""
+    if result == ENDS:
+        return "?"
     return str(result) if result >= 0 else f"-1 {errno.errorcode.get(-result, -result)}"
 
 
@@ -203,21 +205,13 @@ class Trace:
             self.waiting.setdefault((record.pid, record.thread), (record, False))
             return
         self.waiting.pop((record.pid, record.thread), None)
-        self.tell(record.nanoseconds / 1e9, record, f" = {result_text(record.result)}", RED if record.result < 0 else "")
+        self.tell(record.nanoseconds / 1e9, record, f" = {result_text(record.result)}", RED if record.result < 0 and record.result != ENDS else "")
 
     def name_of(self, record: Record) -> str:
         """The program's name, with the number of its process where another one has the name."""
-        name = record.name.rstrip(b"\0").decode(errors="backslashreplace") or self.name_by_system(record.pid)
+        name = record.name.rstrip(b"\0").decode(errors="backslashreplace") or "?"
         name = "".join(letter if letter.isprintable() else "?" for letter in name)
         return name if self.names.setdefault(name, record.pid) == record.pid else f"{name}[{record.pid}]"
-
-    def name_by_system(self, pid: int) -> str:
-        """The name of a process that hasn't told it."""
-        try:
-            with open(f"/proc/{pid}/comm", encoding="utf-8", errors="replace") as file:
-                return file.read().strip()
-        except OSError:
-            return "?"
 
     def tell(self, moment: float, record: Record, how: str, colour: str) -> None:
         """Tells a call."""
