@@ -48,7 +48,7 @@ LOOP = 640 * PACKET
 STOPS = {signal.SIGINT, signal.SIGTERM, signal.SIGHUP}
 # What a sanitizer or valgrind says first, and the C library where it finds its heap or its stack broken.
 HEADS = re.compile(rb"^(?:==\d+==)?\s*(?:ERROR: (\w+Sanitizer: [\w-]+)|WARNING: (\w+Sanitizer: [\w-]+)|(.*runtime error: .*)"
-                   rb"|(Invalid (?:read|write|free)[^\n]*)|(\*\*\* [\w ]+ \*\*\*)"
+                   rb"|(Invalid (?:read|write|free)[^\n]*|(?:Conditional jump|Use of uninitialised)[^\n]*)|(\*\*\* [\w ]+ \*\*\*)"
                    rb"|(.*(?:double free|corrupted|invalid pointer|invalid size).*))", re.M)  # fmt: skip
 # A frame of a program's stack, as gdb, a sanitizer and valgrind write it, and which are none of the program's own.
 FRAME = re.compile(rb"^(?:\s*#\d+ +(?:0x\w+ in )?|==\d+== +(?:at|by) 0x\w+: )([A-Za-z_][\w:~]*)(.*)$", re.M)
@@ -92,11 +92,12 @@ class Ended(NamedTuple):
 
 
 class Ran(NamedTuple):
-    """A run that has ended, the output that is kept, and its report."""
+    """A run that has ended, the output that is kept, its report, and the words that were run."""
 
     ended: Ended
     output: bytes
     report: bytes
+    words: Sequence[str]
 
     def is_reading(self) -> bool:
         """Whether something was read in the second half of the stream."""
@@ -142,7 +143,7 @@ class Ran(NamedTuple):
         if plan.is_running and kind in ("ended", "no end"):
             return f"it ends with the status {number}" if kind == "ended" else "" if self.is_reading() else "it reads no more"
         if kind == "ended":
-            return f"status {number} of valgrind" if number in error_statuses(plan.command) else ""
+            return f"status {number} of valgrind" if number in error_statuses(self.words) else ""
         return kind
 
 
@@ -393,7 +394,7 @@ class Run:
     """A run that is begun: this process's end of the pipe by which it tells how it has ended."""
 
     def __init__(self, plan: Plan, whole: Folder, number: int, stream: bytes, words: Sequence[str]) -> None:
-        self.whole, self.number = whole, number
+        self.whole, self.number, self.words = whole, number, words
         self.stream = in_memory([stream] * max(LOOP // max(len(stream), 1), 1))
         self.report, self.output = in_memory(), in_memory()
         self.begun, self.parent = time.monotonic(), os.getpid()
@@ -403,11 +404,11 @@ class Run:
         signal.pthread_sigmask(signal.SIG_BLOCK, STOPS)
         self.pid = os.fork()
         if self.pid == 0:
-            self.become(plan, words, theirs)
+            self.become(plan, theirs)
         signal.pthread_sigmask(signal.SIG_UNBLOCK, STOPS)
         os.close(theirs)
 
-    def become(self, plan: Plan, words: Sequence[str], theirs: int) -> NoReturn:
+    def become(self, plan: Plan, theirs: int) -> NoReturn:
         """This process serves the run, and ends."""
         try:
             os.setsid()
@@ -420,7 +421,7 @@ class Run:
             for end in 0, 1, 2:
                 os.dup2(null, end)
             place = Place(self.whole, self.number)
-            ended = served(plan, place, f"/dev/fd/{self.stream.fileno()}", words, self.report, self.output)
+            ended = served(plan, place, f"/dev/fd/{self.stream.fileno()}", self.words, self.report, self.output)
             os.write(theirs, json.dumps(ended).encode())
         except BaseException as fault:  # pylint: disable=broad-exception-caught
             os.write(theirs, json.dumps(Ended("fault", told=standard.told_of(fault)[0])).encode())
@@ -447,7 +448,8 @@ class Run:
                 file.seek(0)
                 texts.append(file.read())
         self.stream.close()
-        return Ran(Ended(*json.loads(told)) if told else Ended("fault", told="the run was killed"), texts[0], texts[1])
+        ended = Ended(*json.loads(told)) if told else Ended("fault", told="the run was killed")
+        return Ran(ended, texts[0], texts[1], self.words)
 
 
 class Runner:
