@@ -24,18 +24,18 @@ from dvbemu.stream.packets import PACKET, counter_of, pcr_of, pid_of
 from dvbemu.stream.sections import sections_of
 
 RECORDING = str(EXAMPLES / "programs" / "scan.ts")
-# Of each fault the number of the first stream of seed 1 that meets it, of which a minute has room for more; the kind of failure,
-# and the cause where gdb isn't needed for it.
+# Of each fault the number of a stream of seed 1 that meets it, which a minute has room for; the kind of failure, and the cause where
+# gdb isn't needed for it.
 FAULTS = {
     "length": (110, "SIGABRT", r"SIGABRT: \*\*\* stack smashing detected \*\*\*( in describe.*)?"),
     "zero": (115, "no-end", "no end behind PID 409[67], 0x02"),
-    "absent": (212, "SIGSEGV", "SIGSEGV (in main|behind .*)"),
+    "absent": (224, "SIGSEGV", "SIGSEGV (in main|behind .*)"),
     "leak": (226, "memory", "memory behind PID 17, 0x42"),
     "version": (306, "no-end", "no end behind PID 17, 0x42"),
 }
 # By how many runs streams become small of which a table has to, and not the stream alone.
 LATE = {"version": "8", "leak": "12"}
-WORDS = ["--jobs", "1", "--packets", "1500", "--limit", "8", "--memory", "60"]
+WORDS = ["--jobs", "1", "--packets", "1500", "--limit", "60", "--memory", "60"]
 
 
 def crc(data):
@@ -229,7 +229,8 @@ def test_planted(tmp_path, planted, fault):
     """Each fault is found, and the stream made small: at most three packets, which do it again by the command that is told; and there is a
     session, which runs."""
     number, kind, cause = FAULTS[fault]
-    status, lines, told = hunted_from(tmp_path, number, "--tries", LATE.get(fault, "4"), "--runs", "1", command=[planted, fault])
+    words = ["--tries", LATE.get(fault, "4"), "--runs", "1", *(["--limit", "8"] if kind == "no-end" else [])]
+    status, lines, told = hunted_from(tmp_path, number, *words, command=[planted, fault])
     assert (status, told) == (1, "") and lines[0].startswith("ok 1 - the recording as it is: the command ends with the status 0; ")
     point = re.fullmatch(rf"not ok 2 - ({kind}[\w-]*): {cause}", lines[1])
     assert point and re.match(r"# [1-3] packets?: ", lines[2]), lines
@@ -283,7 +284,7 @@ def test_valgrind(tmp_path, planted):
 def test_valgrind_names_a_place(tmp_path, planted):
     """With --valgrind a crash is told by the frames that valgrind shows."""
     needs("valgrind")
-    status, lines, _ = hunted_from(tmp_path, 212, "--runs", "1", "--tries", "2", "--valgrind", command=[planted, "absent"])
+    status, lines, _ = hunted_from(tmp_path, 224, "--runs", "1", "--tries", "2", "--valgrind", command=[planted, "absent"])
     text = next((tmp_path / "found").glob("*.txt")).read_text()
     assert status == 1 and lines[1].endswith(": SIGSEGV in main") and "Invalid read of size 4" in text and "Address 0x4 is not" in text
 

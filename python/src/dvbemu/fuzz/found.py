@@ -17,7 +17,7 @@ from .. import tool
 from ..child import in_memory
 from ..psi.tables import text_of
 from .mutate import Draw, Item, drawn_items, items_of, listed, mutated, packets_in, stream_of, without
-from .reduce import Reducer
+from .reduce import Enough, Reducer
 from .run import Limits, Plan, Ran, Runner, frames_in
 
 if TYPE_CHECKING:
@@ -279,7 +279,7 @@ class Hunt:
         def first(candidates: Sequence[list[Item]]) -> int | None:
             tries[0] += len(candidates)
             if time.monotonic() > until or tries[0] > self.tries:
-                return None
+                raise Enough
             rans = self.runner.all([stream_of(items) for items in candidates], before, quick)
             return next((at for at, ran in enumerate(rans) if candidates[at] and self.is_same(failure, ran)), None)
 
