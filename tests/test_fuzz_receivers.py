@@ -300,6 +300,15 @@ def test_expect_running(tmp_path, server, cases):
         assert (status, lines) == (1, []) and told.startswith(f"{fails}{why}"), told
 
 
+def test_tune_again(tmp_path, planted):
+    """The command that shows a failure again has the recordings of --tune."""
+    tune = ["--tune", f"474000000={RECORDING}"]
+    lines = hunted_from(tmp_path, 224, "--runs", "1", "--tries", "1", *tune, command=[planted, "absent"])[1]
+    words = shlex.split(lines[3])[3:]
+    assert words[:3] == ["serve", *tune]
+    assert subprocess.run([PROGRAM, *words], cwd=tmp_path, capture_output=True, check=False).returncode == 128 + signal.SIGSEGV
+
+
 def test_tune_and_lock(tmp_path, server):
     """A recording at its frequency, beside that which is everywhere else, and the time that a lock takes."""
     other, script = str(EXAMPLES / "programs" / "tables.ts"), '"$0" "$1" 474000000 | grep -q "test picture"'
@@ -330,7 +339,7 @@ def test_all(tmp_path, is_all):
     """Tables that the command hasn't asked for are changed with --all alone."""
     hunt = Hunt(None, RECORDING, Folder(str(tmp_path)), Options(1, is_all=is_all))
     hunt.asked = {(17, 0x42)}
-    told = [told for number in range(200, 300) for told in hunt.stream(number).told if ": one of its packets " not in told]
+    told = [told for number in range(300, 400) for told in hunt.stream(number).told if ": one of its packets " not in told]
     assert len(told) > 100 and all(" on PID 17" in one for one in told) != is_all
 
 

@@ -76,7 +76,7 @@ def command() -> Fuzz:
     words.add_argument("--tries", type=whole, default=TRIES, metavar="N", help="reduce a stream in at most N runs; default 400")
     words.add_argument("--valgrind", action="store_true",
                        help="run every tenth stream, and each on which COMMAND crashes, under valgrind")  # fmt: skip
-    words.add_argument("--tune", action="append", nargs="+", default=[], metavar=CHANNEL, type=tool.reader(channel, CHANNEL),
+    words.add_argument("--tune", action="append", default=[], metavar=CHANNEL, type=tool.reader(channel, CHANNEL),
                        help="another recording on its frequency, as for `serve`; it isn't changed")  # fmt: skip
     words.add_argument("--lock", type=seconds, default=0.0, metavar="S", help="the seconds until a recording of --tune locks; default 0")
     words.add_argument("recording", nargs="?", metavar="RECORDING", help="a transport stream")
@@ -105,8 +105,8 @@ def asked(words: list[str], known: Fuzz) -> tuple[Namespace, list[str]]:
 
 def plan_of(options: Namespace, command: list[str]) -> Plan:
     """What is run, and how."""
-    tune, limits = [word for some in options.tune for word in some], Limits(options.limit, options.memory << 20)
-    return Plan(command, options.packets, limits, tune, options.lock, built_server(), options.expect_running)
+    limits = Limits(options.limit, options.memory << 20)
+    return Plan(command, options.packets, limits, options.tune, options.lock, built_server(), options.expect_running)
 
 
 def come(number: int, _frame: FrameType | None) -> NoReturn:

@@ -198,7 +198,7 @@ class Hunt:
         """The command that shows a failure again."""
         plan = self.runner.plan
         tune = ["--tune", *plan.tune] if plan.tune else []
-        words = ["dvbemu", "serve", "--packets", f"{plan.packets:g}", "--report", "r", *tune]
+        words = ["dvbemu", "serve", *tune, "--packets", f"{plan.packets:g}", "--report", "r"]
         return shlex.join([*words, self.folder.place(name, ".ts"), "--", *before, *plan.command])
 
     def hunt(self, until: float, runs: int | None) -> None:
@@ -313,7 +313,8 @@ class Hunt:
     def text(self, name: str, failure: Failure, items: list[Item], calls: str) -> str:
         """What is told of a failure."""
         rows = [row_of(item) for item in items]
-        parts = {"Again": [self.again(name, failure.hunted.before)], "What was changed": failure.hunted.told, "What is left of the stream": rows[:50],
+        hunted = failure.hunted
+        parts = {"Again": [self.again(name, hunted.before)], "What was changed": hunted.told, "What is left of the stream": rows[:50],
                  "The last calls": [calls], "What it wrote, or the stack": [failure.trace[-8000:]]}  # fmt: skip
         shown = (f"\n{head}\n\n{textwrap.indent(chr(10).join(some), '  ')}\n" for head, some in parts.items())
         return "\n".join([failure.cause, *shown])

@@ -154,8 +154,15 @@ def error_statuses(command: Sequence[str]) -> set[int]:
 
 
 def frames_in(text: bytes) -> list[str]:
-    """The innermost functions of a stack that are a program's own."""
-    return [name.decode() for name, rest in FRAME.findall(text) if not NOT_OWN.search(name + rest)][:2]
+    """The innermost functions of a program's own, in the first stack that has any."""
+    names: list[str] = []
+    end = 0
+    for frame in FRAME.finditer(text):
+        if names and text[end : frame.start()].strip():
+            break
+        end = frame.end()
+        names += [] if NOT_OWN.search(frame[1] + frame[2]) else [frame[1].decode()]
+    return names[:2]
 
 
 # ------ within a run
