@@ -336,11 +336,12 @@ def test_seed_and_time(tmp_path, server):
 
 @pytest.mark.parametrize("is_all", [False, True])
 def test_all(tmp_path, is_all):
-    """Tables that the command hasn't asked for are changed with --all alone."""
+    """Tables that the command hasn't asked for are changed with --all; without it only where none of the others are left."""
     hunt = Hunt(None, RECORDING, Folder(str(tmp_path)), Options(1, is_all=is_all))
     hunt.asked = {(17, 0x42)}
     told = [told for number in range(300, 400) for told in hunt.stream(number).told if ": one of its packets " not in told]
-    assert len(told) > 100 and all(" on PID 17" in one for one in told) != is_all
+    share = sum(" on PID 17" in one for one in told) / len(told)
+    assert share < 0.5 if is_all else share > 0.9
 
 
 def test_no_fault(tmp_path, planted):
