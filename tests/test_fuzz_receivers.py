@@ -10,10 +10,10 @@ import signal
 import subprocess
 import sys
 import time
+from pathlib import Path
 
 import pytest
 from conftest import EXAMPLES, PROGRAM, ROOT, comes, needs
-from dvbemu import Report
 from dvbemu.fuzz import grammar, mutate, reduce
 from dvbemu.fuzz.found import Folder, Hunt, Options
 from dvbemu.fuzz.mutate import Draw, Item
@@ -390,10 +390,10 @@ def one(room, server):
     return run
 
 
-def marked(folder):
+def marked(folder, seconds=10):
     """The processes that have a mark in their environment, but for this one, and still have it seconds later: what clears up behind a
     wrapper ends soon after it."""
-    until = time.monotonic() + 10
+    until = time.monotonic() + seconds
     while (found := [number for number in filter(str.isdecimal, os.listdir("/proc")) if has_mark(number, folder)]) and time.monotonic() < until:
         time.sleep(0.05)
     return found
@@ -439,6 +439,17 @@ def test_ctrl_c(tmp_path, planted):
         out, told = child.communicate(timeout=60)
     assert child.returncode == -signal.SIGINT and re.fullmatch(r"1..1\n# \d+ runs in .*; 0 failures\n", out) and told == ""
     assert comes(lambda: not marked(tmp_path), 10)
+
+
+def test_killed(tmp_path, server, cases):
+    """Behind a hunt that is killed nothing is left running, though its programs never end."""
+    words = [PROGRAM, "fuzz", "--jobs", "2", "--limit", "5", "--expect-running", RECORDING, "--", cases, "+sections", "1000"]
+    mark = {**os.environ, "FUZZ_MARK": str(tmp_path)}
+    with subprocess.Popen(words, cwd=tmp_path, stdout=subprocess.PIPE, stderr=subprocess.DEVNULL, text=True, env=mark) as child:
+        assert child.stdout.readline().startswith("ok 1 - ")
+        assert comes(lambda: any(Path(f"/proc/{number}/exe").resolve() == Path(cases) for number in marked(tmp_path, 0)))
+        child.kill()
+    assert comes(lambda: not marked(tmp_path), 20)
 
 
 def test_full_disk(tmp_path, planted):
