@@ -443,7 +443,8 @@ def test_ctrl_c(tmp_path, planted):
 
 def test_killed(tmp_path, server, cases):
     """Behind a hunt that is killed nothing is left running, though its programs never end."""
-    words = [PROGRAM, "fuzz", "--jobs", "2", "--limit", "5", "--expect-running", RECORDING, "--", cases, "+sections", "1000"]
+    command = ["sh", "-c", 'trap "" PIPE; "$0" +sections 1000; sleep 4321', cases]
+    words = [PROGRAM, "fuzz", "--jobs", "2", "--limit", "5", "--expect-running", RECORDING, "--", *command]
     mark = {**os.environ, "FUZZ_MARK": str(tmp_path)}
     with subprocess.Popen(words, cwd=tmp_path, stdout=subprocess.PIPE, stderr=subprocess.DEVNULL, text=True, env=mark) as child:
         assert child.stdout.readline().startswith("ok 1 - ")
