@@ -23,7 +23,7 @@ def bench():
 
 def test_goals(bench):
     goals = [(goal.what, goal.by, goal.most, goal.unit) for goal in bench.GOALS.values()]
-    assert [(what, by, float(most), unit) for what, by, most, unit, _, _ in ROWS] == goals and len(goals) == 48
+    assert [(what, by, float(most), unit) for what, by, most, unit, _, _ in ROWS] == goals and len(goals) == 50
 
 
 def test_verdicts():

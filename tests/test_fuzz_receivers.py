@@ -5,13 +5,15 @@ A), bit by bit.
 """
 import os
 import re
+import shlex
 import signal
 import subprocess
 import sys
 import time
+from pathlib import Path
 
 import pytest
-from conftest import EXAMPLES, PROGRAM, ROOT, comes
+from conftest import EXAMPLES, PROGRAM, ROOT, comes, needs
 from dvbemu.fuzz import grammar, mutate, reduce
 from dvbemu.fuzz.mutate import Draw, Item
 from dvbemu.fuzz.right import PROGRAMS, RIGHT, tables_of
@@ -22,18 +24,18 @@ from dvbemu.stream.sections import sections_of
 
 RECORDING = str(EXAMPLES / "programs" / "scan.ts")
 SOURCE = str(ROOT / "python" / "src")
-# Of each fault the seed and the number of a stream that meets it, the kind of failure, and the cause where gdb isn't needed for
-# it.
+# Of each fault the number of a stream of seed 1 that meets it, which a minute has room for; the kind of failure, and the cause
+# where gdb isn't needed for it.
 FAULTS = {
-    "length": (1, 110, "SIGABRT", r"SIGABRT: \*\*\* stack smashing detected \*\*\*( in describe.*)?"),
-    "zero": (1, 115, "no-end", "no end behind PID 409[67], 0x02"),
-    "absent": (3, 212, "SIGSEGV", "SIGSEGV (in main|behind .*)"),
-    "version": (15, 220, "no-end", "no end behind PID 17, 0x42"),
-    "leak": (18, 220, "memory", "memory behind PID 17, 0x42"),
+    "length": (110, "SIGABRT", r"SIGABRT: \*\*\* stack smashing detected \*\*\*( in describe.*)?"),
+    "zero": (115, "no-end", "no end behind PID 409[67], 0x02"),
+    "absent": (224, "SIGSEGV", "SIGSEGV (in main|behind .*)"),
+    "leak": (226, "memory", "memory behind PID 17, 0x42"),
+    "version": (306, "no-end", "no end behind PID 17, 0x42"),
 }
 # By how many runs streams become small of which a table has to, and not the stream alone.
-LATE = {"version": "6", "leak": "12"}
-WORDS = ["--jobs", "1", "--packets", "1500", "--limit", "8", "--memory", "60"]
+LATE = {"version": "8", "leak": "12"}
+WORDS = ["--jobs", "1", "--packets", "1500", "--limit", "60", "--memory", "60"]
 
 
 def crc(data):
@@ -215,40 +217,131 @@ def test_reduced():
 # ------ hunts
 
 
+def hunted_from(room, number, *words, **more):
+    """A hunt of seed 1 from the stream of a number on, in the folder `found`."""
+    (room / "found").mkdir(exist_ok=True)
+    (room / "found" / "state").write_text(f"1 {number}\n")
+    return fuzz(room, *WORDS, "--out", "found", *words, RECORDING, **more)
+
+
 @pytest.mark.parametrize("fault", FAULTS)
 def test_planted(tmp_path, planted, fault):
-    """Each fault is found, and the stream made small: at most three packets, which do it again, also by their session's
-    replies."""
-    seed, number, kind, cause = FAULTS[fault]
-    (tmp_path / "found").mkdir()
-    (tmp_path / "found" / "state").write_text(f"{seed} {number}\n")
-    words = [*WORDS, "--tries", LATE.get(fault, "4"), "--runs", "1", "--out", "found", RECORDING]
-    status, lines, told = fuzz(tmp_path, *words, command=[planted, fault])
+    """Each fault is found, and the stream made small: at most three packets, which do it again by the command that is told; and there is a
+    session, which runs."""
+    number, kind, cause = FAULTS[fault]
+    words = ["--tries", LATE.get(fault, "4"), "--runs", "1", *(["--limit", "8"] if kind == "no-end" else [])]
+    status, lines, told = hunted_from(tmp_path, number, *words, command=[planted, fault])
     assert (status, told) == (1, "") and lines[0].startswith("ok 1 - the recording as it is: the command ends with the status 0; ")
     point = re.fullmatch(rf"not ok 2 - ({kind}[\w-]*): {cause}", lines[1])
     assert point and re.match(r"# [1-3] packets?: ", lines[2]), lines
     assert lines[3].startswith("# again: dvbemu serve --packets 1500 --report r found/") and lines[4] == "1..2"
     stream = (tmp_path / "found" / f"{point[1]}.ts").read_bytes()
-    assert len(stream) <= 3 * PACKET and (tmp_path / "found" / "state").read_text() == f"{seed} {number + 1}\n"
+    assert len(stream) <= 3 * PACKET and (tmp_path / "found" / "state").read_text() == f"1 {number + 1}\n"
     text = (tmp_path / "found" / f"{point[1]}.txt").read_text()
     assert re.match(cause, text) and "\nWhat was changed\n" in text and "sets a section filter on n0" in text
+    session = ["steps", f"found/{point[1]}.session"]
+    again = {"SIGABRT": 128 + signal.SIGABRT, "SIGSEGV": 128 + signal.SIGSEGV}.get(kind)
+    for words, ends in (session, 0), (shlex.split(lines[3])[3:], again):
+        assert ends is None or subprocess.run([PROGRAM, *words], cwd=tmp_path, capture_output=True, check=False).returncode == ends
 
 
 def test_mended(tmp_path, planted):
-    """A second run with a folder tries what is known first: it is told as it is, and as mended before a receiver without the
-    fault. The hunt goes on behind the last number."""
-    folder = tmp_path / "found"
-    folder.mkdir()
-    (folder / "SIGABRT-1.ts").write_bytes(mutate.stream_of([Item(pid, data) for pid, data in tables_of(PROGRAMS, [])[:2]]))
-    bad = bytes.fromhex("02b0210101c10000e100f00e05ff") + b"\xaa" * 12 + b"\x02\xe1\x00\xf0\x00" + bytes(1)
-    bad = Item(0x1000, grammar.mended(bad[:1] + bytes([0xB0, len(bad) + 1]) + bad[3:] + bytes(4)))
-    (folder / "SIGABRT-2.ts").write_bytes(mutate.stream_of([Item(*tables_of(PROGRAMS, [])[0]), bad]))
-    (folder / "SIGABRT-2.txt").write_text("SIGABRT in describe\n")
-    status, lines, told = fuzz(tmp_path, *WORDS, "--time", "0", "--out", "found", RECORDING, command=[planted, "length"])
-    assert (status, told) == (1, "")
-    assert lines[1:3] == ["ok 2 - SIGABRT-1: mended: ", "not ok 3 - SIGABRT-2: still: SIGABRT in describe"]
-    status, lines, _ = fuzz(tmp_path, *WORDS, "--time", "0", "--out", "found", RECORDING, command=[planted])
-    assert status == 0 and lines[1:4] == ["ok 2 - SIGABRT-1: mended: ", "ok 3 - SIGABRT-2: mended: SIGABRT in describe", "1..3"]
+    """A second run with a folder tries what is known first, and goes on behind the last number: a cause is told once, as it is, and as
+    mended before a receiver without the fault. Of a stream without a text no cause is told."""
+    status, lines, _ = hunted_from(tmp_path, 110, "--runs", "1", "--tries", "4", command=[planted, "length"])
+    name, cause = re.fullmatch(r"not ok 2 - (\S+): (.*)", lines[1]).groups()
+    (tmp_path / "found" / "A.ts").write_bytes(mutate.stream_of([Item(pid, data) for pid, data in tables_of(PROGRAMS, [])[:2]]))
+    found = [f"{name}: still: {cause}", f"{name}: mended: {cause}"]
+    for more, is_mended in (["length"], False), ([], True):
+        status, lines, told = fuzz(tmp_path, *WORDS, "--runs", "1", "--out", "found", RECORDING, command=[planted, *more])
+        points = [line for line in lines if "ok " in line][1:]
+        assert (status, told, points) == (1 - is_mended, "", ["ok 2 - A: mended: ", f"{'' if is_mended else 'not '}ok 3 - {found[is_mended]}"])
+        assert (f"# again: dvbemu serve --packets 1500 --report r found/{name}.ts -- {planted} length" in lines) != is_mended
+    assert (tmp_path / "found" / "state").read_text() == "1 113\n"
+    assert sorted(os.listdir(tmp_path / "found")) == sorted(["A.ts", "state", *(name + ending for ending in (".session", ".ts", ".txt"))])
+
+
+def test_without(tmp_path, planted):
+    """Without its descriptor the fault isn't met."""
+    status, lines, told = hunted_from(tmp_path, 110, "--runs", "1", "--without", "0x05", command=[planted, "length"])
+    assert (status, lines[1], told) == (0, "1..1", "") and lines[2].startswith("# 2 runs in ")
+
+
+def test_valgrind(tmp_path, planted):
+    """With --valgrind each tenth stream finds what else nobody sees, and the stream is tried by valgrind again."""
+    needs("valgrind")
+    cause = "reported: Invalid read of size 1 in services < main"
+    status, lines, told = hunted_from(tmp_path, 119, "--runs", "2", "--tries", "2", "--valgrind", command=[planted, "behind"])
+    point = re.fullmatch(rf"not ok 2 - (reported-Invalid-read-of-\S*): {cause}", lines[1])
+    assert point and (status, told) == (1, "") and lines[-1].endswith("; 1 failures")
+    assert lines[3].endswith(f"found/{point[1]}.ts -- valgrind -q --error-exitcode=99 {planted} behind")
+    status, lines, told = fuzz(tmp_path, *WORDS, "--time", "0", "--out", "found", RECORDING, command=[planted, "behind"])
+    assert (status, lines[1]) == (1, f"not ok 2 - {point[1]}: still: {cause}")
+    status, lines, told = hunted_from(tmp_path, 120, "--runs", "1", command=[planted, "behind"])
+    assert lines[-1].endswith("; 0 failures")
+
+
+def test_valgrind_names_a_place(tmp_path, planted):
+    """With --valgrind a crash is told by the frames that valgrind shows."""
+    needs("valgrind")
+    status, lines, _ = hunted_from(tmp_path, 224, "--runs", "1", "--tries", "2", "--valgrind", command=[planted, "absent"])
+    text = next((tmp_path / "found").glob("*.txt")).read_text()
+    assert status == 1 and lines[1].endswith(": SIGSEGV in main") and "Invalid read of size 4" in text and "Address 0x4 is not" in text
+
+
+def test_expect_running(tmp_path, server, cases):
+    """A program that never ends has to read until the limit."""
+    words = ["--limit", "3", "--jobs", "1", "--runs", "0", "--expect-running", RECORDING]
+    status, lines, told = fuzz(tmp_path, *words, command=[cases, "+sections", "1000"])
+    assert (status, told) == (0, "") and re.fullmatch(r"ok 1 - the recording as it is: the command goes on; 3\.\d+ s", lines[0])
+    fails = "dvbemu fuzz: before the recording as it is the command fails: "
+    for command, why in ([cases, "+wait", "1000"], "it reads no more"), ([cases, "+sections", "0"], "it ends with the status 0"):
+        status, lines, told = fuzz(tmp_path, *words, command=command)
+        assert (status, lines) == (1, []) and told.startswith(f"{fails}{why}"), told
+
+
+def test_tune_again(tmp_path, planted):
+    """The command that shows a failure again has the recordings of --tune."""
+    tune = ["--tune", f"474000000={RECORDING}"]
+    lines = hunted_from(tmp_path, 224, "--runs", "1", "--tries", "1", *tune, command=[planted, "absent"])[1]
+    words = shlex.split(lines[3])[3:]
+    assert words[:3] == ["serve", *tune]
+    assert subprocess.run([PROGRAM, *words], cwd=tmp_path, capture_output=True, check=False).returncode == 128 + signal.SIGSEGV
+
+
+def test_tune_and_lock(tmp_path, server):
+    """A recording at its frequency, beside that which is everywhere else, and the time that a lock takes."""
+    other, script = str(EXAMPLES / "programs" / "tables.ts"), '"$0" "$1" 474000000 | grep -q "test picture"'
+    command = ["sh", "-c", script, sys.executable, str(ROOT / "tests" / "served" / "tuner.py")]
+    seconds = []
+    for words in [], ["--tune", f"474000000={RECORDING}"], ["--tune", f"474000000={RECORDING}", "--lock", "3"]:
+        status, lines, told = fuzz(tmp_path, "--limit", "30", "--runs", "0", *words, other, command=command)
+        ended = re.fullmatch(r"ok 1 - the recording as it is: the command ends with the status (\d+); ([\d.]+) s", lines[0])
+        assert (status, told, ended[1]) == (0, "", "0" if words else "1")
+        seconds.append(float(ended[2]))
+    assert seconds[2] >= 3 and seconds[1] < seconds[2]
+
+
+def test_seed_and_time(tmp_path, server):
+    """A seed begins anew, from its first stream on; and the time ends a hunt."""
+    (tmp_path / "fuzz").mkdir()
+    (tmp_path / "fuzz" / "state").write_text("1 100\n")
+    for words, state in (["--runs", "2", "--seed", "1"], "1 102\n"), (["--runs", "1", "--seed", "7"], "7 1\n"):
+        assert fuzz(tmp_path, *words, RECORDING, command=["true"])[0] == 0
+        assert (tmp_path / "fuzz" / "state").read_text() == state
+    status, lines, _ = fuzz(tmp_path, "--time", "3", "--jobs", "1", RECORDING, command=["true"])
+    count, seconds = map(int, re.match(r"# (\d+) runs in (\d+) s", lines[-1]).groups())
+    assert status == 0 and count > 1 and 3 <= seconds < 20
+
+
+@pytest.mark.parametrize("is_all", [False, True])
+def test_all(tmp_path, is_all):
+    """Tables that the command hasn't asked for are changed with --all; without it only where none of the others are left."""
+    hunt = Hunt(None, RECORDING, Folder(str(tmp_path)), Options(1, is_all=is_all))
+    hunt.asked = {(17, 0x42)}
+    told = [told for number in range(300, 400) for told in hunt.stream(number).told if ": one of its packets " not in told]
+    share = sum(" on PID 17" in one for one in told) / len(told)
+    assert share < 0.5 if is_all else share > 0.9
 
 
 def test_no_fault(tmp_path, planted):
@@ -297,10 +390,10 @@ def one(room, server):
     return run
 
 
-def marked(folder):
+def marked(folder, seconds=10):
     """The processes that have a mark in their environment, but for this one, and still have it seconds later: what clears up behind a
     wrapper ends soon after it."""
-    until = time.monotonic() + 10
+    until = time.monotonic() + seconds
     while (found := [number for number in filter(str.isdecimal, os.listdir("/proc")) if has_mark(number, folder)]) and time.monotonic() < until:
         time.sleep(0.05)
     return found
@@ -346,6 +439,18 @@ def test_ctrl_c(tmp_path, planted):
         out, told = child.communicate(timeout=60)
     assert child.returncode == -signal.SIGINT and re.fullmatch(r"1..1\n# \d+ runs in .*; 0 failures\n", out) and told == ""
     assert comes(lambda: not marked(tmp_path), 10)
+
+
+def test_killed(tmp_path, server, cases):
+    """Behind a hunt that is killed nothing is left running, though its programs never end."""
+    command = ["sh", "-c", 'trap "" PIPE; "$0" +sections 1000; sleep 4321', cases]
+    words = [PROGRAM, "fuzz", "--jobs", "2", "--limit", "5", "--expect-running", RECORDING, "--", *command]
+    mark = {**os.environ, "FUZZ_MARK": str(tmp_path)}
+    with subprocess.Popen(words, cwd=tmp_path, stdout=subprocess.PIPE, stderr=subprocess.DEVNULL, text=True, env=mark) as child:
+        assert child.stdout.readline().startswith("ok 1 - ")
+        assert comes(lambda: any(Path(f"/proc/{number}/exe").resolve() == Path(cases) for number in marked(tmp_path, 0)))
+        child.kill()
+    assert comes(lambda: not marked(tmp_path), 20)
 
 
 def test_full_disk(tmp_path, planted):

@@ -60,7 +60,9 @@ def command() -> Fuzz:
     words.add_argument("--time", type=seconds, metavar="S",
                        help="stop after S seconds; default 60, or no limit with --runs; 0 tries only the streams in FOLDER")  # fmt: skip
     words.add_argument("--runs", type=whole, metavar="N", help="stop after N streams")
-    words.add_argument("--seed", type=whole, metavar="N", help="the seed of the streams; a seed gives the same streams on every machine")
+    words.add_argument("--seed", type=whole, metavar="N",
+                       help="the seed of the streams; default: the one in FOLDER, or 1. With --jobs 1 a seed and COMMAND give the same "
+                       "streams on every machine")  # fmt: skip
     words.add_argument("--jobs", type=tool.number(1, 64), metavar="J", help="the number of runs at the same time; default: the number of processors")
     words.add_argument("--limit", type=rate(LONGEST), default=LIMIT, metavar="S", help="the seconds that a run may take; default 10")
     words.add_argument("--memory", type=tool.number(1, MOST_MEMORY), default=MEMORY, metavar="MIB", help="the MiB of memory that a run may take; default 1024")
@@ -71,12 +73,12 @@ def command() -> Fuzz:
     words.add_argument("--all", action="store_true", help="also change PIDs that COMMAND hasn't asked for")
     words.add_argument("--without", action="append", default=[], type=tool.number(0, 255), metavar="TAG",
                        help="leave out descriptors with this tag")  # fmt: skip
-    words.add_argument("--tries", type=whole, default=TRIES, metavar="N", help="the number of runs to reduce a stream; default 400")
+    words.add_argument("--tries", type=whole, default=TRIES, metavar="N", help="reduce a stream in at most N runs; default 400")
     words.add_argument("--valgrind", action="store_true",
-                       help="valgrind runs over each tenth stream, and over those before which COMMAND crashes")  # fmt: skip
-    words.add_argument("--tune", action="append", nargs="+", default=[], metavar=CHANNEL, type=tool.reader(channel, CHANNEL),
-                       help="another recording, at its frequency, as of `serve`")  # fmt: skip
-    words.add_argument("--lock", type=seconds, default=0.0, metavar="S", help="the seconds that a lock takes; without it, 0")
+                       help="run every tenth stream, and each on which COMMAND crashes, under valgrind")  # fmt: skip
+    words.add_argument("--tune", action="append", default=[], metavar=CHANNEL, type=tool.reader(channel, CHANNEL),
+                       help="another recording on its frequency, as for `serve`; it isn't changed")  # fmt: skip
+    words.add_argument("--lock", type=seconds, default=0.0, metavar="S", help="the seconds until a recording of --tune locks; default 0")
     words.add_argument("recording", nargs="?", metavar="RECORDING", help="a transport stream")
     return words
 
@@ -103,8 +105,8 @@ def asked(words: list[str], known: Fuzz) -> tuple[Namespace, list[str]]:
 
 def plan_of(options: Namespace, command: list[str]) -> Plan:
     """What is run, and how."""
-    tune, limits = [word for some in options.tune for word in some], Limits(options.limit, options.memory << 20)
-    return Plan(command, options.packets, limits, tune, options.lock, built_server(), options.expect_running)
+    limits = Limits(options.limit, options.memory << 20)
+    return Plan(command, options.packets, limits, options.tune, options.lock, built_server(), options.expect_running)
 
 
 def come(number: int, _frame: FrameType | None) -> NoReturn:

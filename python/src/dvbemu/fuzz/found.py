@@ -17,7 +17,7 @@ from .. import tool
 from ..child import in_memory
 from ..psi.tables import text_of
 from .mutate import Draw, Item, drawn_items, items_of, listed, mutated, packets_in, stream_of, without
-from .reduce import Reducer
+from .reduce import Enough, Reducer
 from .run import Limits, Plan, Ran, Runner, frames_in
 
 if TYPE_CHECKING:
@@ -102,13 +102,21 @@ class Folder:
         with open(self.place(name, ".ts"), "rb") as file:
             return file.read()
 
-    def cause(self, name: str) -> str:
-        """The cause that is told of a name, in the first line of its text."""
+    def text(self, name: str) -> str:
+        """What is told of a name: the cause, and lines behind it."""
         try:
             with open(self.place(name, ".txt"), encoding="utf-8", errors="replace") as file:
-                return file.readline().strip()
+                return file.read()
         except FileNotFoundError:
             return ""
+
+    def cause(self, name: str) -> str:
+        """The cause of a name."""
+        return self.text(name).partition("\n")[0].strip()
+
+    def before(self, name: str) -> Sequence[str]:
+        """The words in front of the command by which a name was found: those of valgrind, or none."""
+        return VALGRIND if f" -- {shlex.join(VALGRIND)} " in self.text(name) else ()
 
     def write(self, name: str, ending: str, data: bytes) -> None:
         """Writes a file, whole or not at all."""
@@ -177,19 +185,21 @@ class Hunt:
 
     def known(self) -> None:
         """Tries the streams that are there already."""
-        names = self.folder.streams()
-        for name, ran in zip(names, self.runner.all([self.folder.read(name) for name in names])):
-            kind, cause = ran.kind(self.runner.plan), self.folder.cause(name)
-            self.told.known[cause] = 0
-            more = [f"again: {self.again(name)}"] if kind else []
-            self.told.tell(not kind, f"{name}: {'still' if kind else 'mended'}: {cause}", *more)
+        for before in (), VALGRIND:
+            names = [name for name in self.folder.streams() if self.folder.before(name) == before]
+            rans = self.runner.all([self.folder.read(name) for name in names], before, self.plan_for(before))
+            for name, ran in zip(names, rans):
+                kind, cause = ran.kind(self.runner.plan), self.folder.cause(name)
+                self.told.known[cause] = 0
+                more = [f"again: {self.again(name, before)}"] if kind else []
+                self.told.tell(not kind, f"{name}: {'still' if kind else 'mended'}: {cause}", *more)
 
-    def again(self, name: str) -> str:
+    def again(self, name: str, before: Sequence[str]) -> str:
         """The command that shows a failure again."""
         plan = self.runner.plan
         tune = ["--tune", *plan.tune] if plan.tune else []
-        words = ["dvbemu", "serve", "--packets", f"{plan.packets:g}", "--report", "r", *tune]
-        return shlex.join([*words, self.folder.place(name, ".ts"), "--", *plan.command])
+        words = ["dvbemu", "serve", *tune, "--packets", f"{plan.packets:g}", "--report", "r"]
+        return shlex.join([*words, self.folder.place(name, ".ts"), "--", *before, *plan.command])
 
     def hunt(self, until: float, runs: int | None) -> None:
         """Tries streams until the time is over, or so many runs were made; each new cause is made small and kept."""
@@ -269,7 +279,7 @@ class Hunt:
         def first(candidates: Sequence[list[Item]]) -> int | None:
             tries[0] += len(candidates)
             if time.monotonic() > until or tries[0] > self.tries:
-                return None
+                raise Enough
             rans = self.runner.all([stream_of(items) for items in candidates], before, quick)
             return next((at for at, ran in enumerate(rans) if candidates[at] and self.is_same(failure, ran)), None)
 
@@ -298,12 +308,13 @@ class Hunt:
         self.folder.write(name, ".txt", self.text(name, failure, items, calls).encode(errors="replace"))
         count = len(stream) // 188
         files = f"{count} packet{'s' * (count != 1)}: {self.folder.place(name, '.ts')}, {'.session, ' * bool(session)}.txt"
-        self.told.tell(False, f"{name}: {failure.cause}", files, f"again: {self.again(name)}")
+        self.told.tell(False, f"{name}: {failure.cause}", files, f"again: {self.again(name, failure.hunted.before)}")
 
     def text(self, name: str, failure: Failure, items: list[Item], calls: str) -> str:
         """What is told of a failure."""
         rows = [row_of(item) for item in items]
-        parts = {"Again": [self.again(name)], "What was changed": failure.hunted.told, "What is left of the stream": rows[:50],
+        hunted = failure.hunted
+        parts = {"Again": [self.again(name, hunted.before)], "What was changed": hunted.told, "What is left of the stream": rows[:50],
                  "The last calls": [calls], "What it wrote, or the stack": [failure.trace[-8000:]]}  # fmt: skip
         shown = (f"\n{head}\n\n{textwrap.indent(chr(10).join(some), '  ')}\n" for head, some in parts.items())
         return "\n".join([failure.cause, *shown])

@@ -303,8 +303,8 @@ def bits(draw: Draw, data: bytes, _: Map) -> Changed:
     return data[:at] + bytes([data[at] ^ 1 << bit]) + data[at + 1 :], f"bit {bit} of byte {at} is the other one"
 
 
-CHANGES: Sequence[Change] = (length, length, length, lengths_of_tag, lengths_of_tag, count, count, field, field, descriptor, descriptor,
-                             tag, text, size, some_bytes)  # fmt: skip
+CHANGES: Sequence[Change] = (length, length, length, lengths_of_tag, lengths_of_tag, count, count, field, field, descriptor,
+                             descriptor, tag, text, size, some_bytes)  # fmt: skip
 
 
 def changed(draw: Draw, item: Item, change: Change) -> tuple[Item, str] | None:

@@ -2,6 +2,8 @@
 it holds."""
 from __future__ import annotations
 
+from contextlib import suppress
+from itertools import islice
 from typing import TYPE_CHECKING
 
 from .grammar import map_of, with_bytes
@@ -12,8 +14,13 @@ if TYPE_CHECKING:
     from .mutate import Item
 
     T = TypeVar("T")
-    # Of some streams the first for which what is asked holds, by its number; None where it holds for none, or enough were tried.
+    # Of some streams the first for which what is asked holds, by its number; None where it holds for none. Enough is raised where
+    # enough were tried.
     First = Callable[[Sequence[List[Item]]], Optional[int]]
+
+
+class Enough(Exception):
+    """No more streams are tried."""
 
 
 class Reducer:
@@ -50,26 +57,29 @@ class Reducer:
     def pieces_away(self, pieces: Callable[[bytes], Iterator[bytes]]) -> bool:
         """Takes pieces of sections away, and says whether there were any."""
         has_any = False
-        for at in range(len(self.items)):
-            done = 0
-            while self.items[at].is_section:
-                smaller = list(pieces(self.items[at].data))[done : done + self.at_once]
-                candidates = [[*self.items[:at], self.items[at]._replace(data=data), *self.items[at + 1 :]] for data in smaller]
-                if not candidates:
-                    break
+        for at, whole in enumerate(self.items):
+            rest, done = pieces(whole.data if whole.is_section else b""), 0
+            while candidates := [self.with_data(at, data) for data in islice(rest, self.at_once)]:
                 found = self.take_first(candidates)
                 has_any, done = has_any or found is not None, done + (len(candidates) if found is None else found)
+                if found is not None:
+                    rest = islice(pieces(self.items[at].data), done, None)
         return has_any
+
+    def with_data(self, at: int, data: bytes) -> list[Item]:
+        """The items, one of them with another section."""
+        return [*self.items[:at], self.items[at]._replace(data=data), *self.items[at + 1 :]]
 
     def reduced(self, likely: Sequence[Collection[int]] = ()) -> list[Item]:
         """The smallest stream that was found: first the sections of likely PIDs alone are tried."""
-        self.take_first([[item for item in self.items if item.is_section and item.pid in pids] for pids in likely])
-        self.items_away()
-        self.changes_away()
-        while self.pieces_away(without_regions):
-            pass
-        self.pieces_away(without_bytes)
-        self.items_away()
+        with suppress(Enough):
+            self.take_first([[item for item in self.items if item.is_section and item.pid in pids] for pids in likely])
+            self.items_away()
+            self.changes_away()
+            while self.pieces_away(without_regions):
+                pass
+            self.pieces_away(without_bytes)
+            self.items_away()
         return self.items
 
 

@@ -6,8 +6,10 @@ whole tree of processes is ended; where this process is killed, the clearing of 
 """
 from __future__ import annotations
 
+import codecs
 import contextlib
 import fcntl
+import functools
 import json
 import math
 import os
@@ -22,12 +24,13 @@ from dataclasses import dataclass, field
 from typing import TYPE_CHECKING, NamedTuple
 
 from .. import standard
+from ..build import PRELOAD
 from ..child import in_memory
 from ..commands.serve import Outs
 from ..server import feeder
 from ..server.adapters import Adapter, Folder, adopt, end_with
 from ..server.channels import Channel, channels_of
-from ..server.clearing import end_all
+from ..server.clearing import end_all, end_programs
 from ..server.commands import environment, still_there
 from ..stream.packets import PACKET
 
@@ -45,7 +48,7 @@ LOOP = 640 * PACKET
 STOPS = {signal.SIGINT, signal.SIGTERM, signal.SIGHUP}
 # What a sanitizer or valgrind says first, and the C library where it finds its heap or its stack broken.
 HEADS = re.compile(rb"^(?:==\d+==)?\s*(?:ERROR: (\w+Sanitizer: [\w-]+)|WARNING: (\w+Sanitizer: [\w-]+)|(.*runtime error: .*)"
-                   rb"|(Invalid (?:read|write|free)[^\n]*)|(\*\*\* [\w ]+ \*\*\*)"
+                   rb"|(Invalid (?:read|write|free)[^\n]*|(?:Conditional jump|Use of uninitialised)[^\n]*)|(\*\*\* [\w ]+ \*\*\*)"
                    rb"|(.*(?:double free|corrupted|invalid pointer|invalid size).*))", re.M)  # fmt: skip
 # A frame of a program's stack, as gdb, a sanitizer and valgrind write it, and which are none of the program's own.
 FRAME = re.compile(rb"^(?:\s*#\d+ +(?:0x\w+ in )?|==\d+== +(?:at|by) 0x\w+: )([A-Za-z_][\w:~]*)(.*)$", re.M)
@@ -89,11 +92,12 @@ class Ended(NamedTuple):
 
 
 class Ran(NamedTuple):
-    """A run that has ended, the output that is kept, and its report."""
+    """A run that has ended, the output that is kept, its report, and the words that were run."""
 
     ended: Ended
     output: bytes
     report: bytes
+    words: Sequence[str]
 
     def is_reading(self) -> bool:
         """Whether something was read in the second half of the stream."""
@@ -139,7 +143,7 @@ class Ran(NamedTuple):
         if plan.is_running and kind in ("ended", "no end"):
             return f"it ends with the status {number}" if kind == "ended" else "" if self.is_reading() else "it reads no more"
         if kind == "ended":
-            return f"status {number} of valgrind" if number in error_statuses(plan.command) else ""
+            return f"status {number} of valgrind" if number in error_statuses(self.words) else ""
         return kind
 
 
@@ -150,23 +154,56 @@ def error_statuses(command: Sequence[str]) -> set[int]:
 
 
 def frames_in(text: bytes) -> list[str]:
-    """The innermost functions of a stack that are a program's own."""
-    return [name.decode() for name, rest in FRAME.findall(text) if not NOT_OWN.search(name + rest)][:2]
+    """The innermost functions of a program's own, in the first stack that has any."""
+    names: list[str] = []
+    end = 0
+    for frame in FRAME.finditer(text):
+        if names and text[end : frame.start()].strip():
+            break
+        end = frame.end()
+        names += [] if NOT_OWN.search(frame[1] + frame[2]) else [frame[1].decode()]
+    return names[:2]
 
 
 # ------ within a run
 
 
+class Place(Folder):
+    """The folder of a run, which is one of those that all runs have in turn. What they have together is made once."""
+
+    def __init__(self, whole: Folder, number: int) -> None:
+        self.path, self.preload = whole.adapters[number], whole.preload
+        self.adapters = [self.path]
+        shutil.rmtree(self.path, ignore_errors=True)
+        os.mkdir(self.path, 0o700)
+        self.make_tree()
+        if os.geteuid() == 0:
+            self.show_to_others()
+
+    @staticmethod
+    def of_all(count: int) -> Folder:
+        """The folder of so many runs at a time."""
+        whole = Folder(count, False)
+        shutil.copyfile(PRELOAD, whole.preload)
+        if os.geteuid() == 0:
+            whole.show_to_others()
+        return whole
+
+    def was_opened(self) -> bool:
+        """Whether a program has opened a demux or dvr device."""
+        return any(name.startswith("bell.") for name in os.listdir(self.path))
+
+
 class Held(feeder.Feeder):
     """Plays from the beginning once a program has opened a demux or dvr device, so that a run is the same each time."""
 
-    def __init__(self, channels: Sequence[Channel], adapter: Adapter) -> None:
+    def __init__(self, channels: Sequence[Channel], adapter: Adapter, place: Place) -> None:
         assert adapter.server.stdin
         super().__init__(channels, adapter.front, adapter.server.stdin)
-        self.folder, self.has_begun = adapter.folder, False
+        self.place, self.has_begun = place, False
 
     def feed(self) -> bool:
-        if not self.has_begun and any(name.startswith("bell.") for name in os.listdir(self.folder)):
+        if not self.has_begun and self.place.was_opened():
             self.has_begun = True
             if self.now:
                 self.players[self.now].begin(time.monotonic())
@@ -207,10 +244,10 @@ class Command:
     def watch(self, servers: set[int]) -> Ended:
         """Begins it, and waits until it has ended or is over a limit."""
         os.write(self.gate, b".")
-        begun = time.monotonic()
+        begun, seconds = time.monotonic(), 0.0
         while True:
             ends = [self.held] + [self.output.end] * (not self.output.is_over)
-            ready = select.select(ends, [], [], PAUSE)[0]
+            ready = select.select(ends, [], [], min(max(seconds / 2, PAUSE), 5 * PAUSE))[0]
             if self.output.end in ready:
                 self.output.take()
             seconds = time.monotonic() - begun
@@ -225,18 +262,15 @@ class Command:
         """Which limit it is over."""
         if seconds > self.plan.limits.seconds:
             return "no end"
-        tree = [pid for pid in below(os.getpid()) if pid not in servers]
+        tree = list(below(os.getpid(), servers))
         if sum(map(memory_of, tree)) > self.plan.limits.memory:
             return "memory"
         return "processes" if len(tree) > PROCESSES else ""
 
     def work(self) -> float:
         """The seconds of the processor that it has taken so far."""
-        try:
-            with open(f"/proc/{self.pid}/stat", encoding="ascii", errors="replace") as file:
-                return sum(map(int, file.read().rpartition(")")[2].split()[11:13])) / os.sysconf("SC_CLK_TCK")
-        except OSError:
-            return 0.0
+        words = words_in(f"/proc/{self.pid}/stat", b")")
+        return sum(map(int, words[11:13])) / os.sysconf("SC_CLK_TCK")
 
     def end(self, servers: set[int]) -> None:
         """Ends it with all that it has started, at once; then what it has written is whole."""
@@ -247,36 +281,43 @@ class Command:
             self.output.take()
 
 
-def below(pid: int) -> Iterator[int]:
-    """The processes below one."""
+def words_in(path: str, behind: bytes = b"") -> list[bytes]:
+    """The words of a file of /proc, those behind the last of some bytes where they are given; none where the process has gone."""
     try:
-        for thread in os.listdir(f"/proc/{pid}/task"):
-            with open(f"/proc/{pid}/task/{thread}/children", encoding="ascii") as file:
-                for child in map(int, file.read().split()):
-                    yield child
-                    yield from below(child)
+        with open(path, "rb", buffering=0) as file:
+            return (file.read() or b"").rpartition(behind or b"\0")[2].split()
     except OSError:
-        return
+        return []
+
+
+def below(pid: int, others: set[int]) -> Iterator[int]:
+    """The processes below one, but for others."""
+    with contextlib.suppress(OSError):
+        for thread in os.listdir(f"/proc/{pid}/task"):
+            for child in set(map(int, words_in(f"/proc/{pid}/task/{thread}/children"))) - others:
+                yield child
+                yield from below(child, others)
 
 
 def memory_of(pid: int) -> int:
     """The bytes of memory that a process has to itself."""
-    try:
-        with open(f"/proc/{pid}/statm", encoding="ascii") as file:
-            words = file.read().split()
-        return (int(words[1]) - int(words[2])) * resource.getpagesize()
-    except OSError:
-        return 0
+    words = words_in(f"/proc/{pid}/statm")
+    return (int(words[1]) - int(words[2])) * resource.getpagesize() if words else 0
 
 
 def limit() -> None:
     """Sets the limits of this process and of those that it starts: no core, and so many files, bytes of a file and processes."""
-    tasks = sum(1 for name in os.listdir("/proc") if name.isdecimal() and owner_of(name) == os.getuid())
     for what, most in ((resource.RLIMIT_CORE, 0), (resource.RLIMIT_NOFILE, FILES), (resource.RLIMIT_FSIZE, FILES_OF),
-                       (resource.RLIMIT_NPROC, 4 * tasks + PROCESSES)):  # fmt: skip
+                       (resource.RLIMIT_NPROC, 4 * tasks() + PROCESSES)):  # fmt: skip
         hard = resource.getrlimit(what)[1]
         most = most if hard == resource.RLIM_INFINITY else min(most, hard)
         resource.setrlimit(what, (most, most))
+
+
+@functools.lru_cache(maxsize=None)
+def tasks() -> int:
+    """The processes of this user, which are counted once."""
+    return sum(1 for name in os.listdir("/proc") if name.isdecimal() and owner_of(name) == os.getuid())
 
 
 def owner_of(name: str) -> int:
@@ -321,9 +362,8 @@ def begin(gate: int, output: int, words: Sequence[str], folder: Folder) -> NoRet
         os._exit(127)
 
 
-def served(plan: Plan, path: str, words: Sequence[str], report: BinaryIO, kept: BinaryIO) -> Ended:
+def served(plan: Plan, folder: Place, path: str, words: Sequence[str], report: BinaryIO, kept: BinaryIO) -> Ended:
     """Serves one run, and says how its command has ended."""
-    folder = Folder(1)
     adopt()
     adapter = command = None
     try:
@@ -331,12 +371,16 @@ def served(plan: Plan, path: str, words: Sequence[str], report: BinaryIO, kept: 
         for channel in channels:
             channel.quality = channel.quality._replace(lock=plan.lock)
         options = Namespace(seats=8, once=False, live=False)
+        command = Command(plan, folder, words)
         adapter = Adapter(plan.server, folder.adapters[0], channels, options, Outs(report, None, None, "all"))
-        adapter.feeder = Held(channels, adapter)
-        command, servers = Command(plan, folder, words), {adapter.server.pid}
-        adapter.start()
+        adapter.feeder, servers = Held(channels, adapter, folder), {adapter.server.pid}
+        # (the server and the command start side by side: what a program tells waits until the server reads it)
+        adapter.keeper.start()
+        adapter.feeder.start()
         ended = command.watch(servers)
         command.end(servers)
+        if not folder.was_opened():
+            adapter.keeper.wait_for(adapter.server, options.seats)
         adapter.end()
         return ended
     except BaseException:
@@ -348,7 +392,6 @@ def served(plan: Plan, path: str, words: Sequence[str], report: BinaryIO, kept: 
             command.end(set())
             kept.write(command.output.first + command.output.last)
             kept.flush()
-        folder.remove()
 
 
 # ------ the runs
@@ -357,7 +400,8 @@ def served(plan: Plan, path: str, words: Sequence[str], report: BinaryIO, kept: 
 class Run:
     """A run that is begun: this process's end of the pipe by which it tells how it has ended."""
 
-    def __init__(self, plan: Plan, stream: bytes, words: Sequence[str]) -> None:
+    def __init__(self, plan: Plan, whole: Folder, number: int, stream: bytes, words: Sequence[str]) -> None:
+        self.whole, self.number, self.words = whole, number, words
         self.stream = in_memory([stream] * max(LOOP // max(len(stream), 1), 1))
         self.report, self.output = in_memory(), in_memory()
         self.begun, self.parent = time.monotonic(), os.getpid()
@@ -367,11 +411,11 @@ class Run:
         signal.pthread_sigmask(signal.SIG_BLOCK, STOPS)
         self.pid = os.fork()
         if self.pid == 0:
-            self.become(plan, words, theirs)
+            self.become(plan, theirs)
         signal.pthread_sigmask(signal.SIG_UNBLOCK, STOPS)
         os.close(theirs)
 
-    def become(self, plan: Plan, words: Sequence[str], theirs: int) -> NoReturn:
+    def become(self, plan: Plan, theirs: int) -> NoReturn:
         """This process serves the run, and ends."""
         try:
             os.setsid()
@@ -383,7 +427,8 @@ class Run:
             null = os.open(os.devnull, os.O_RDWR)
             for end in 0, 1, 2:
                 os.dup2(null, end)
-            ended = served(plan, f"/dev/fd/{self.stream.fileno()}", words, self.report, self.output)
+            place = Place(self.whole, self.number)
+            ended = served(plan, place, f"/dev/fd/{self.stream.fileno()}", self.words, self.report, self.output)
             os.write(theirs, json.dumps(ended).encode())
         except BaseException as fault:  # pylint: disable=broad-exception-caught
             os.write(theirs, json.dumps(Ended("fault", told=standard.told_of(fault)[0])).encode())
@@ -402,21 +447,27 @@ class Run:
             told += data
         os.waitpid(self.pid, 0)
         os.close(self.end)
+        if not told:
+            end_programs(self.whole.adapters[self.number])
         texts = []
         for file in self.output, self.report:
             with file:
                 file.seek(0)
                 texts.append(file.read())
         self.stream.close()
-        return Ran(Ended(*json.loads(told)) if told else Ended("fault", told="the run was killed"), texts[0], texts[1])
+        ended = Ended(*json.loads(told)) if told else Ended("fault", told="the run was killed")
+        return Ran(ended, texts[0], texts[1], self.words)
 
 
 class Runner:
     """Runs, so many at a time."""
 
     def __init__(self, plan: Plan, jobs: int) -> None:
-        self.plan, self.jobs, self.count = plan, jobs, 0
+        self.plan, self.jobs, self.count, self.folder = plan, jobs, 0, Place.of_all(jobs)
         self.running: dict[int, tuple[Any, Run]] = {}
+        # (what is known here no run has to find)
+        tasks()
+        codecs.lookup("ascii")
 
     def has_room(self) -> bool:
         """Whether one more may be begun."""
@@ -425,7 +476,8 @@ class Runner:
     def start(self, key: Any, stream: bytes, before: Sequence[str] = (), plan: Plan | None = None) -> None:
         """Begins a run, which is known by a key; words may stand in front of the command."""
         plan = plan or self.plan
-        run = Run(plan, stream, [*before, *plan.command])
+        number = min(set(range(self.jobs)) - {run.number for _, run in self.running.values()})
+        run = Run(plan, self.folder, number, stream, [*before, *plan.command])
         self.running[run.end] = key, run
         self.count += 1
 
@@ -457,8 +509,9 @@ class Runner:
         return self.next()[1]
 
     def end(self) -> None:
-        """Ends all that run."""
+        """Ends all that run, and their folder."""
         for _, run in self.running.values():
             os.kill(run.pid, signal.SIGTERM)
         while self.running:
             self.next()
+        self.folder.remove()

@@ -8,7 +8,7 @@ from typing import TYPE_CHECKING, NamedTuple
 from .. import reports
 from ..reports import Pass
 from ..explain import unread
-from .marks import BOXES, ROW, Group, error_of, gather, rows_of
+from .marks import BOXES, ROW, Group, error_of, gather, name_of, rows_of
 from .svg import (
     BLACK, GREEN, GREY, LEAST_WIDTH, LEFT, PALE, PURPLE, RED, RIGHT, SMALL, Labels, counted, heading, line, path, rect, side, text,
     width_of,

@@ -1,10 +1,12 @@
 """The adapters that a command finds: a folder of this process, and in it for each adapter a server with its pipes."""
 from __future__ import annotations
 
+import contextlib
 import ctypes
 import fcntl
 import glob
 import os
+import select
 import shutil
 import signal
 import stat
@@ -92,6 +94,18 @@ def sweep(place: str) -> None:
             pass
 
 
+def wait_for(child: subprocess.Popen[bytes]) -> None:
+    """Waits until a child ends, or its time is over: without the pauses of `Popen.wait`, where the system tells of its end."""
+    try:
+        held = os.pidfd_open(child.pid)
+    except (AttributeError, OSError):
+        with contextlib.suppress(subprocess.TimeoutExpired):
+            child.wait(ENDS)
+        return
+    select.select([held], [], [], ENDS)
+    os.close(held)
+
+
 class Folder:
     """A folder that is held by this process, with a folder for each adapter; and for the preload itself and a tree that stands for /dev/dvb."""
 
@@ -170,8 +184,9 @@ class Adapter:
         self.keeper.end()
         if self.feeder.fault:
             raise Stopped(str(self.feeder.fault))
+        wait_for(self.server)
         try:
-            if self.server.wait(ENDS):
+            if self.server.wait(0):
                 raise Stopped(f"the server ended with status {self.server.returncode}")
         except subprocess.TimeoutExpired:
             raise Stopped("the server didn't end, and was killed") from None

@@ -35,10 +35,11 @@ def processes() -> list[int]:
 
 
 def finds(number: int, value: str) -> bool:
-    """Whether a process of this user finds these adapters, by what stands in its environment."""
+    """Whether a process of this user finds these adapters, or one of them alone, by what stands in its environment."""
     try:
         with open(f"/proc/{number}/environ", "rb") as file:
-            return os.fsencode(f"{VARIABLE}={value}") in file.read().split(b"\0")
+            words = set(file.read().split(b"\0"))
+        return any(os.fsencode(f"{VARIABLE}={some}") in words for some in (value, *value.split(":")))
     except OSError:
         return False
 

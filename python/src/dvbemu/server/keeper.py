@@ -58,7 +58,12 @@ class Keeper(threading.Thread):
             self.ends.append(os.open(os.path.join(folder, name), os.O_RDWR | os.O_CLOEXEC))
 
     def open_for(self, server: Popen[bytes], seats: int) -> None:
-        """Begins once the server has the door, for each of its seats. Then its name goes, so that nobody else writes there."""
+        """Begins once the server has the door."""
+        self.wait_for(server, seats)
+        self.start()
+
+    def wait_for(self, server: Popen[bytes], seats: int) -> None:
+        """Waits until the server has the door, for each of its seats. Then its name goes, so that nobody else writes there."""
         door, begun = os.fstat(self.ends[1]), time.monotonic()
         try:
             while server.poll() is None and readers(server.pid, door) < seats and time.monotonic() - begun < OPENS:
@@ -68,7 +73,6 @@ class Keeper(threading.Thread):
         except OSError:
             # (the name stays)
             pass
-        self.start()
 
     def names(self, told: bytes) -> Iterator[bytes]:
         """The names of programs in what was told."""
