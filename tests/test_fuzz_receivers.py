@@ -15,6 +15,7 @@ from pathlib import Path
 import pytest
 from conftest import EXAMPLES, PROGRAM, ROOT, comes, needs
 from dvbemu.fuzz import grammar, mutate, reduce
+from dvbemu.fuzz.found import Folder, Hunt, Options
 from dvbemu.fuzz.mutate import Draw, Item
 from dvbemu.fuzz.right import PROGRAMS, RIGHT, tables_of
 from dvbemu.psi.descriptors import NAMES, texts_of

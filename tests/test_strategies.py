@@ -1,5 +1,5 @@
-"""`dvbemu.strategies`: what is drawn is well-formed or broken as it says, and a failure becomes small. Where hypothesis isn't there
-the import says so."""
+"""`dvbemu.strategies`: what is drawn is well-formed or broken as it says, and a failure becomes small. Where hypothesis isn't
+there the import says so."""
 import subprocess
 import sys
 
