@@ -142,7 +142,7 @@ def asked(words: list[str], known: Serve) -> tuple[Namespace, list[str]]:
 
 
 def see_command(name: str, known: Serve, is_mount: bool = False) -> None:
-    """Ends where the command isn't there, and says so where it won't see the adapter."""
+    """Exits if the command doesn't exist, and warns if it won't see the adapter."""
     path = name if os.sep in name else shutil.which(name)
     if path is None or not os.path.exists(path):
         quoted = "; is the command quoted as one word?" if len(name.split()) > 1 else ""

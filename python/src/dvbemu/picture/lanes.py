@@ -155,7 +155,7 @@ class Lane:
         return [*found, text(8, ground, "bytes unread", 9, f'fill="{GREY}"')]
 
     def columns_of_area(self) -> list[Filled]:
-        """Left, right, least and most bytes of each column of the area; of many entries the least and most of a point's width."""
+        """Left, right, minimum and maximum of each column of the area. If entries are too many, a column is one point wide."""
         levels = zip(range(len(self.columns)), self.history.low, self.history.high)
         if not self.axis.gathers:
             return [Filled(self.left(place), self.left(place + 1), low or 0, high or 0) for place, low, high in levels]

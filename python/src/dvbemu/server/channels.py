@@ -109,7 +109,7 @@ def channel_of(word: str, rate: float | None) -> Channel:
 
 
 def lines_in(path: str) -> list[str] | None:
-    """The lines of a file of channels, where it is one: without comments, which begin with `#`, and with paths as from its folder."""
+    """The lines of a file of channels, without comments, which begin with `#`, and with paths relative to its folder; None if it isn't one."""
     try:
         with open(path, encoding="utf-8") as file:
             lines = [line.strip() for line in file.read(1 << 20).split("\n")]

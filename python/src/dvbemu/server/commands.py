@@ -32,7 +32,7 @@ def children() -> list[int]:
 
 
 def still_there(servers: Collection[int]) -> list[int]:
-    """The children but for these that haven't ended; none where the system doesn't tell of children."""
+    """The children, other than the servers, that still run; none if the system doesn't list children."""
     try:
         return [child for child in children() if child not in servers and not os.waitpid(child, os.WNOHANG)[0]]
     except OSError:
@@ -97,7 +97,7 @@ class Signals:
             signal.signal(number, self.come)
 
     def start(self, command: Sequence[str], env: Mapping[str, str]) -> subprocess.Popen[bytes]:
-        """Starts the command, which is told then of a signal that came meanwhile."""
+        """Starts the command, and passes on a signal that came meanwhile."""
         self.is_starting = True
         try:
             running = self.command = subprocess.Popen(command, env=env)
