@@ -208,8 +208,8 @@ static void close_node(struct at at)
 }
 
 /*
- * No process has a descriptor of the device any more: the first process that notices closes its node. If this process lost its own
- * descriptors past the preload, it can't know about other processes.
+ * No process has a descriptor of the device any more: the first process that notices closes its node. If this process lost its
+ * own descriptors past the preload, it can't know about other processes.
  */
 static void end(struct at at, int is_over)
 {
