@@ -141,7 +141,7 @@ def of_feeder(entries):
     return [entry for entry in entries if entry.who == "feed"]
 
 
-# RULES: 4f076e3c The threads of `run`
+# RULES: c4faba63 The threads of `run`
 def wrong_feeding(node, entries, feeding, where):
     """What is wrong with the feeder's calls on a node: they pass all packets in batches, and then End."""
     for entry in of_feeder(entries):
