@@ -6,6 +6,7 @@ from contextlib import suppress
 from itertools import islice
 from typing import TYPE_CHECKING
 
+from ..errors import Error
 from .grammar import map_of, with_bytes
 
 if TYPE_CHECKING:
@@ -19,7 +20,7 @@ if TYPE_CHECKING:
     First = Callable[[Sequence[List[Item]]], Optional[int]]
 
 
-class Enough(Exception):
+class Enough(Error):
     """No more streams are tried."""
 
 
