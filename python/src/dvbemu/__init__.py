@@ -70,7 +70,7 @@ if TYPE_CHECKING:
 _MODULES = {
     "adapter": "Adapter serve",
     "abi": "DMX_CHECK_CRC DMX_IMMEDIATE_START DMX_IN_DVR DMX_IN_FRONTEND DMX_ONESHOT DMX_OUT_DECODER DMX_OUT_TAP "
-            "DMX_OUT_TS_TAP DMX_OUT_TSDEMUX_TAP KEEP Flag Input Output PesType",
+           "DMX_OUT_TS_TAP DMX_OUT_TSDEMUX_TAP KEEP Flag Input Output PesType",
     "errors": "AdapterError Error ProgramError ScriptError",
     "program": "Verdict check run steps",
     "report": "Again Busy Call Data Done Entry Node Outcome Overflow Passed PidCount Ready Refused Reply Report ReportError "

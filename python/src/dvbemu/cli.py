@@ -77,12 +77,12 @@ def command(word: str) -> tool.Command:
     """The command line of a word of the proved program."""
     usage, what = PROVED[word]
     sections = {"reads": "nothing", "writes": "the session" if word == "make" else "one line", "status": "0; 2 for a usage error; 6 if writing failed; 7 if out of memory",
-            "example": f"dvbemu {word} 7"}  # fmt: skip
+                "example": f"dvbemu {word} 7"}  # fmt: skip
     if word in ("steps", "run"):
         sections = {"reads": READS.format("") + ALONE, "writes": "the report", "status": STATUSES.format(""), "example": f"dvbemu {word} my.script my.ts > my.report"}
     elif word == "check":
         sections = {"reads": READS.format("a report; and ") + ASKED, "writes": "yes or no; on standard error what is wrong and what was expected",
-                "status": STATUSES.format("the answer is no or "), "example": "dvbemu check my.report my.script my.ts"}  # fmt: skip
+                    "status": STATUSES.format("the answer is no or "), "example": "dvbemu check my.report my.script my.ts"}  # fmt: skip
     parser = tool.Command(word, usage, f"{what[0].upper()}{what[1:]}.", teller="dvbemu", **sections)
     if word in ("steps", "run", "selftest"):
         parser.add_argument("--batch", action=tool.Once, type=tool.number(1, 64, True), metavar="B", help="the maximum number of packets in a batch, 1 to 64; default 64")

@@ -133,7 +133,7 @@ def filter_word(word: str) -> dict[int, Byte]:
     byte = re.fullmatch(r"([0-9]{1,2})=(?:0[xX])?([0-9a-fA-F]{1,2})/(?:0[xX])?([0-9a-fA-F]{1,2})/(?:0[xX])?([0-9a-fA-F]{1,2})", word)
     if not byte or int(byte[1]) > 15:
         raise WordError("bytes", word, "I=FF/MM/DD with I from 0 to 15, or a field, as table_id=0x42, version_number!=3; the fields are "
-                    + ", ".join(FIELDS))  # fmt: skip
+                        + ", ".join(FIELDS))  # fmt: skip
     return {int(byte[1]): Byte(*(int(part, 16) for part in byte.groups()[1:]))}
 
 

@@ -54,9 +54,9 @@ def command() -> tool.Command:
         example="dvbemu beside my.session; dvbemu beside my.script my.ts; dvbemu beside --hz 250 my.report my.session",
     )
     parser.add_argument("--batch", action=tool.Once, type=tool.number(1, MOST_BATCH, True), metavar="B",
-                       help="the maximum number of packets in a batch, as in `steps`")  # fmt: skip
+                        help="the maximum number of packets in a batch, as in `steps`")  # fmt: skip
     parser.add_argument("--packet", action=tool.Once, type=int, choices=(188, 204), metavar="P",
-                       help="the packet size in the stream: 188 (default) or 204")  # fmt: skip
+                        help="the packet size in the stream: 188 (default) or 204")  # fmt: skip
     parser.add_argument("--hz", type=int, choices=HERTZ, default=HERTZ[0], help="the timer frequency of the kernel; default 1000")
     parser.add_argument("--json", action="store_true", help="write JSON Lines: one object for each line that differs, and a summary")
     parser.add_argument("files", metavar="FILE", nargs="*", help="the files, in the order shown above")

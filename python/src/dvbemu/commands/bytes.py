@@ -39,7 +39,7 @@ def command() -> tool.Command:
         example="dvbemu steps record.script my.ts | dvbemu bytes --node dvr -o recorded.ts",
     )
     parser.add_argument("--node", metavar="NODE", type=tool.reader(reports.node_of, "n0 to n31 or dvr"), help="the node: n0 to n31, or dvr; "
-                       "default: the one that was read")  # fmt: skip
+                        "default: the one that was read")  # fmt: skip
     parser.add_argument("-o", metavar="FILE", dest="to", help="the output file; default: standard output")
     parser.add_argument("report", metavar="REPORT", nargs="?", help="the report")
     return parser

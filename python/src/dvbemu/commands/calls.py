@@ -219,9 +219,9 @@ def command() -> tool.Command:
     )
     parser.add_argument("--to", metavar="FILE", help="the output file; default: standard output")
     parser.add_argument("--demux", metavar="PATH", type=literal, default=r"/dev/dvb/adapter\d+/demux\d+",
-                      help="another file to treat as the demux device")  # fmt: skip
+                        help="another file to treat as the demux device")  # fmt: skip
     parser.add_argument("--dvr", metavar="PATH", type=literal, default=r"/dev/dvb/adapter\d+/dvr\d+",
-                      help="another file to treat as the dvr device")  # fmt: skip
+                        help="another file to treat as the dvr device")  # fmt: skip
     parser.add_argument("--plain", action="store_true", help="plain commands in place of request numbers and bytes")
     parser.add_argument("program", metavar="PROGRAM", nargs=argparse.REMAINDER, help="the program and its arguments")
     return parser

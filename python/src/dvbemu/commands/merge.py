@@ -2,8 +2,8 @@
 
 The folder has a file N.calls for each seat, with a line for each call: its node, and then the line that the report has of it. The file
 `batches` has a line for each batch that passed all nodes: the number of its first packet, how many packets it has, and the moment. `head`
-is a report of the stream alone. A client's commands aren't there, since its calls tell them: a search for a free node is a command, what
-the dvr node gets a tap belongs to the call before it, and each other call is a command of its own.
+is a report of the stream alone. A client's commands aren't there, since its calls tell them: a search for a free node is a command, the
+call by which the dvr node gets a tap belongs to the call before it, and each other call is a command of its own.
 
 The report is written as it comes, and no file is held in memory; each is read once for the commands, and once more for each node that was
 called. Where the server hasn't ended, or a line is missing, incomplete or wrong, that is reported on standard error, and the status is 1; what was

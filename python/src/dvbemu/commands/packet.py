@@ -37,7 +37,7 @@ def command() -> tool.Command:
     parser.add_argument("pid", metavar="PID", type=tool.number(0, LAST_PID), help=f"the PID, 0 to {LAST_PID}, or 0x..")
     parser.add_argument("counter", metavar="COUNTER", type=tool.number(0, 15), help="continuity_counter of the first packet, 0 to 15; each next one has 1 more")
     parser.add_argument("kind", metavar="KIND", choices=["payload", "section"], help="payload: 1 to 184 bytes, one packet; section: from its "
-                       "table_id on and without its CRC_32")  # fmt: skip
+                        "table_id on and without its CRC_32")  # fmt: skip
     parser.add_argument("bytes", metavar="BYTES", nargs="+", help="hexadecimal digits, with or without blanks between bytes")
     return parser
 

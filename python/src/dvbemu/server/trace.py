@@ -19,7 +19,7 @@ from ..reports import filter_words
 if TYPE_CHECKING:
     from typing import TextIO
 
-# The layout of a record; the result of a call that waits, and of one that has ended with what isn't known; how many seconds it waits until that is told; how many records are read
+# The layout of a record; the result of a call that waits, and of one whose end isn't known; how many seconds it waits until that is told; how many records are read
 # at once; the bytes of the pipe.
 LAYOUT, WAITS, ENDS, PATIENCE, MANY, ROOM = struct.Struct("<QIIIiHHIII16s256s"), -(2**31), 1 - 2**31, 0.2, 200, 1 << 20
 OPEN_DEMUX, OPEN_DVR, CLOSE, IOCTL, READ, POLL, WAIT, FRONTEND, OPEN_FRONTEND, CLOSE_FRONTEND = range(1, 11)
